@@ -1,0 +1,50 @@
+-- `columns_run::over_words` ends: what is left of the range falls. Assumes nothing.
+use Prim.Native.Nat.{_-_}
+use borrow.Author.Needs.{needs}
+use Rattle.columns_run.proofs.over_words.Statement.{statement}
+use Rattle.columns_run.proofs.over_words.Tie as tie
+
+abbrev Inv-loop : tie.InvT-loop
+Inv-loop set i₀ i = Unit {0}
+
+abbrev μ-loop : tie.MeasureT-loop
+μ-loop set i₀ i = 7 - i
+
+loop-holds : tie.Need-loop-holds Inv-loop μ-loop
+loop-holds c = search needs
+
+mul-pair : tie.Need-mul-pair Inv-loop μ-loop
+mul-pair c = search needs
+
+array-read-pair : tie.Need-array-read-pair Inv-loop μ-loop
+array-read-pair c = search needs
+
+pair-requires : tie.Need-pair-requires Inv-loop μ-loop
+pair-requires c κs = search needs
+
+add-i : tie.Need-add-i Inv-loop μ-loop
+add-i c = search needs
+
+loop-less : tie.Need-loop-less Inv-loop μ-loop
+loop-less c = search needs
+
+loop-again : tie.Need-loop-again Inv-loop μ-loop
+loop-again c = search needs
+
+returns : tie.Need-returns Inv-loop μ-loop
+returns c = search needs
+
+pub over-words-spec : {M : Type 1} → statement M
+over-words-spec =
+    tie.close
+    (tie.spec
+    Inv-loop
+    μ-loop
+    loop-holds
+    mul-pair
+    array-read-pair
+    pair-requires
+    add-i
+    loop-less
+    loop-again
+    returns)

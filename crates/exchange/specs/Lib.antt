@@ -1,0 +1,4 @@
+pub mod Counting
+pub mod Bytes
+pub mod Columns
+pub mod Words

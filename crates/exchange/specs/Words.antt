@@ -1,0 +1,4 @@
+-- The laws of words as sets of columns.
+pub mod Bits
+pub mod Operations
+pub mod Bytes
