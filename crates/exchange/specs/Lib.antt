@@ -1,4 +1,18 @@
+-- From sets and their sizes to the rank; Code is what the program's arrays mean.
 pub mod Counting
 pub mod Bytes
 pub mod Columns
 pub mod Words
+pub mod Modulus
+pub mod ModulusLaws
+pub mod Linear
+pub mod Graph
+pub mod Layered
+pub mod Independent
+pub mod IndependentLaws
+pub mod ModelModulo
+pub mod ListedModel
+pub mod Solution
+pub mod Solve
+pub mod SolveLaws
+pub mod Code

@@ -1,0 +1,31 @@
+-- `exchange::seating::seat` meets its contract, by what `vacate` and `pivot` ensure. Assumes nothing.
+use borrow.Author.Needs.{needs}
+use native.Mathlib.Omega.{arith}
+use mathlib.Core.Path.{_≡_, sym, _∙_, refl}
+use lib.ListN.{length, length-set}
+use Rattle.exchange.specs.Code.Held.{Sat}
+use Rattle.exchange.proofs.seating.seat.Statement.{statement}
+use Rattle.exchange.proofs.seating.seat.Tie as tie
+
+vacate-requires : tie.Need-vacate-requires
+vacate-requires c κs = search needs
+
+cast-owner : tie.Need-cast-owner
+cast-owner c = search needs
+
+element-write-owner : tie.Need-element-write-owner
+element-write-owner c = search needs
+
+pivot-requires : tie.Need-pivot-requires
+pivot-requires c κs = search needs
+
+returns : tie.Need-returns
+returns c = (c .pivot .ensures .0, search needs, c .pivot .ensures .2, record { middle = _; vacated = c .before .before .before .vacate .ensures .1; owners = refl; pivoted = λ l. c .pivot .ensures .1; kept = λ l. absurd (omega arith) })
+
+returns-2 : tie.Need-returns-2
+returns-2 c = (search needs, search needs, c .before .before .before .pre .7, record { middle = _; vacated = c .before .vacate .ensures .1; owners = refl; pivoted = λ l. absurd (omega arith); kept = λ l. refl })
+
+pub seat-spec : {M : Type 1} → statement M
+seat-spec =
+    tie.close
+    (tie.spec vacate-requires cast-owner element-write-owner pivot-requires returns returns-2)

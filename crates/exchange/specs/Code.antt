@@ -1,0 +1,8 @@
+-- What the code's arrays mean, and what its functions do to them.
+pub mod Cells
+pub mod Reading
+pub mod Searching
+pub mod Held
+pub mod Placing
+pub mod Offering
+pub mod Answer

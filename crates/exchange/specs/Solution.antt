@@ -1,0 +1,39 @@
+-- What an answer to a layered model says, with the assignment that it shows: what the promises of the rank calls cite. Definitions only.
+use Prim.Native.Nat.{ℕ, _≤_, _<_}
+use mathlib.Core.Path.{_≡_}
+use mathlib.Core.Logic.{_≢_, _⊎_}
+use mathlib.Core.Bool.{cond}
+use mathlib.Core.List.{List}
+use native.Mathlib.Decide.{ℕ-discrete}
+use lib.ListN.{getD}
+use lib.Dec.{ltb}
+use Rattle.exchange.specs.Counting.Sets.{Set, Some}
+use Rattle.exchange.specs.Counting.Counts.{some?}
+use Rattle.exchange.specs.Layered.Model.{Model, Seat, out, constant, row, Assignment, placing, constants, Legal}
+use Rattle.exchange.specs.Layered.Rank.{rank, placed, short}
+
+-- the first parameter row below b that shows column x, or out
+unfoldable pub shown-row : (b : ℕ) (rows : List ℕ) (x : ℕ) → Dec (Some b (λ r. getD rows r 0 ≡ x)) → Seat
+shown-row b rows x (yes w) = row (w .0)
+shown-row b rows x (no nw) = out
+
+-- the assignment that an answer shows: a column of the constant side is there, a row's column is on that row
+unfoldable pub shown : (n b : ℕ) (side : Set) (rows : List ℕ) → Assignment
+shown n b side rows x = cond (ltb x n) (cond (side x) constant (shown-row b rows x (some? b (λ r. getD rows r 0 ≡ x) (λ r. ℕ-discrete (getD rows r 0) x)))) out
+
+-- row r shows the column that has its seat there, or 255 where none has
+abbrev pub ShowsRow : (n b : ℕ) (side : Set) (rows : List ℕ) (r : ℕ) → Type 0
+ShowsRow n b side rows r = ((getD rows r 0 < n) × (shown n b side rows (getD rows r 0) ≡ row r)) ⊎ ((getD rows r 0 ≡ 255) × ((x : ℕ) → shown n b side rows x ≢ row r))
+
+-- the answer to M: rank, placed set and short set are those of the definitions. The assignment is legal and places exactly the placed set; which side
+-- and row a placed column takes is left open, and this is all that holds of it.
+pub record Solved (M : Model) (the-rank : ℕ) (the-placed the-side the-short : Set) (rows : List ℕ) : Type 0 where
+  pub is-rank : the-rank ≡ rank M
+  pub is-placed : (x : ℕ) → the-placed x ≡ placed M x
+  pub is-short : (x : ℕ) → the-short x ≡ short M x
+  pub is-legal : Legal M (shown (M .n) (M .b) the-side rows)
+  pub places-it : (x : ℕ) → placing (shown (M .n) (M .b) the-side rows) x ≡ placed M x
+  -- the side and the rows show nothing else
+  pub side-shown : (x : ℕ) → the-side x ≡ constants (shown (M .n) (M .b) the-side rows) x
+  pub rows-shown : (r : ℕ) → r < M .b → ShowsRow (M .n) (M .b) the-side rows r
+  pub past-rows : (r : ℕ) → M .b ≤ r → r < 64 → getD rows r 0 ≡ 255
