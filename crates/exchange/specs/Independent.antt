@@ -1,4 +1,4 @@
--- Independence of constant columns modulo a prime, as a test that tries every combination of coefficients. Definitions only.
+-- Independence of constant columns modulo a prime, as a test that tries every combination of coefficients. Definitions only; assumes nothing.
 use Prim.Native.Nat.{ℕ, _-_}
 use mathlib.Core.Bool.{Bool, not, _||_, cond, decide}
 use Rattle.residue.specs.Arithmetic.{Prime}

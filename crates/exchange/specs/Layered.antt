@@ -15,4 +15,3 @@ pub mod RankRows
 pub mod ColumnOrder
 pub mod Offers
 pub mod Minimax
-pub mod Computed

@@ -11,6 +11,7 @@ pub mod Layered
 pub mod Independent
 pub mod IndependentLaws
 pub mod ModelModulo
+pub mod Computed
 pub mod ListedModel
 pub mod Solution
 pub mod Solve

@@ -1,4 +1,4 @@
--- A layered model over the residues modulo a prime, from its constants, its parameters and the columns that are offered. Definitions only.
+-- A layered model over the residues modulo a prime, from its constants, its parameters and the columns that are offered. Definitions only; assumes nothing.
 use Prim.Native.Nat.{ℕ}
 use mathlib.Core.Bool.{Bool}
 use Rattle.residue.specs.Arithmetic.{Prime}
@@ -8,6 +8,7 @@ use Rattle.exchange.specs.Layered.Model.{Model}
 use Rattle.exchange.specs.Independent.{independent}
 use Rattle.exchange.specs.IndependentLaws.{independent-iff}
 
+-- the model with the constants Q modulo the prime q, the parameters T and the offered columns E
 abbrev pub model-modulo : (q : ℕ) (P : Prime q) (n a b : ℕ) → (ℕ → ℕ → residues q P .F) → (ℕ → ℕ → Bool) → Set → Model
 model-modulo q P n a b Q T E = record {
   K = residues q P;

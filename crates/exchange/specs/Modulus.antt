@@ -9,6 +9,7 @@ use Rattle.residue.specs.Fields.{Field}
 use Rattle.residue.specs.Residues.{residues, res}
 use Rattle.exchange.specs.Counting.Bools.{true?}
 
+-- 2 is prime
 pub two-prime : Prime 2
 unfolding undivided
 two-prime = prime-by 2 0 tt tt tt
@@ -18,6 +19,7 @@ unfoldable pub modulus-at : (p : ℕ) → Dec (isPrime p ≡ true) → (q : ℕ)
 modulus-at p (yes e) = (p, isPrime-reads p .0 e)
 modulus-at p (no ne) = (2, two-prime)
 
+-- the prime that p stands for
 unfoldable pub modulus : ℕ → (q : ℕ) × Prime q
 modulus p = modulus-at p (true? (isPrime p))
 

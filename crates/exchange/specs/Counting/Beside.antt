@@ -1,4 +1,4 @@
--- Two blocks side by side: m columns or rows, and behind them others. Definitions only.
+-- Two blocks side by side: m columns or rows, and behind them others. Definitions only; assumes nothing.
 use Prim.Native.Nat.{ℕ, _-_}
 use native.Mathlib.Decide.{decLt}
 use Rattle.exchange.specs.Counting.Sets.{choose}

@@ -24,6 +24,7 @@ unfolding greatest
 greatest-le g zero i l = let e : i ≡ 0 = omega arith in rw e (omega arith)
 greatest-le g (suc m) i l = elim (ℕ-discrete i (suc m)) [ yes e ↦ rw e (omega arith) | no ne ↦ omega (arith, greatest-le g m i (omega arith)) ]
 
+-- where the greatest is reached
 abbrev GreatestAt : (ℕ → ℕ) → ℕ → Type 0
 GreatestAt g m = (i : ℕ) × (i ≤ m) × (g i ≡ greatest g m)
 
@@ -74,6 +75,7 @@ module _ {A : Type 0} (at : ℕ → A) (last : ℕ → ℕ) where
         greatest-le (λ i. largest at last n (λ g. F (set g n (at i)))) (last n) (w .0) (w .1),
       )
 
+  -- where the largest value is reached
   abbrev LargestAt : ℕ → ((ℕ → A) → ℕ) → Type 0
   LargestAt n F = (f : ℕ → A) × Chosen n f × (F f ≡ largest at last n F)
 

@@ -33,6 +33,7 @@ membership (suc i) = true
 
 -- the sets of columns below n that are in U
 module _ (n : ℕ) (U : Set) where
+  -- S is one of them
   abbrev pub Part : Set → Type 0
   Part S = (x : ℕ) → x ∈ S → (x < n) × (x ∈ U)
 

@@ -18,6 +18,7 @@ pub record Closed {n N : ℕ} (s : State n N) (K : Set) : Type 0 where
   pub no-terminal : (x : ℕ) → x < n → x ∈ K → Terminal s x → ⊥
   pub closed : (x y : ℕ) → x < n → x ∈ K → Arc s x y → y ∈ K
 
+-- column x owns row q
 abbrev Owns : {n N : ℕ} → State n N → ℕ → ℕ → Type 0
 Owns s x q = s .owner q ≡ x
 
@@ -51,6 +52,7 @@ absorb : (a b : Bool) → (a ≡ false → b ≡ true) → (not a && b) ≡ not 
 absorb true b h = refl
 absorb false b h = h refl
 
+-- all unplaced columns are in K
 abbrev pub UnplacedIn : {n N : ℕ} → State n N → Set → Type 0
 UnplacedIn {n} {N} s K = (x : ℕ) → x < n → (Placed s x → ⊥) → x ∈ K
 

@@ -12,15 +12,18 @@ use Rattle.exchange.specs.Counting.Injections.{#-strict}
 use Rattle.exchange.specs.Graph.States.{Arc, Placed, State, arc?, placed-iff, placed-of}
 use Rattle.exchange.specs.Graph.Closed.{Reached, UnplacedIn, along, start}
 
+-- no arc leaves D
 abbrev pub ArcClosed : {n N : ℕ} → State n N → Set → Type 0
 ArcClosed {n} s D = (x y : ℕ) → x < n → x ∈ D → Arc s x y → y ∈ D
 
+-- an arc from a column of D leads to y
 abbrev FromSome : {n N : ℕ} → State n N → Set → ℕ → Type 0
 FromSome {n} s D y = Some n (λ x. (x ∈ D) × Arc s x y)
 
 from-some? : {n N : ℕ} (s : State n N) (D : Set) (y : ℕ) → Dec (FromSome s D y)
 from-some? {n} s D y = some? n (λ x. (x ∈ D) × Arc s x y) (λ x. both? (true? (D x)) (arc? s x y))
 
+-- D and what an arc from it reaches
 pub grow : {n N : ℕ} → State n N → Set → Set
 grow s D y = D y || decide (from-some? s D y)
 
@@ -56,6 +59,7 @@ module _ {n N : ℕ} (s : State n N) (D : Set) where
     | no no′ ↦ absurd (omega (arith, #-strict n D (λ i. true) (λ i li m. refl) y l refl no′, #-∁ n (λ i. true)))
   ]
 
+-- what is reached from S along at most i arcs
 unfoldable pub layer : {n N : ℕ} → State n N → Set → ℕ → Set
 layer s S zero = S
 layer s S (suc i) = grow s (layer s S i)

@@ -17,11 +17,12 @@ pub data Route {n N : ℕ} (s : State n N) : ℕ → ℕ → Type 0 where
   end : {x : ℕ} → Terminal s x → Route s x 0
   step : {x y k : ℕ} → (Terminal s x → ⊥) → Arc s x y → Route s y k → Route s x (suc k)
 
--- its last column, and the free row that this touches
+-- its last column
 unfoldable pub last-column : {n N : ℕ} {s : State n N} {x k : ℕ} → Route s x k → ℕ
 last-column (end {x} h) = x
 last-column (step nt a p) = last-column p
 
+-- and the free row that this touches
 unfoldable pub free-row : {n N : ℕ} {s : State n N} {x k : ℕ} → Route s x k → ℕ
 free-row (end h) = h .0
 free-row (step nt a p) = free-row p
@@ -46,6 +47,7 @@ pub last-placed : {n N : ℕ} {s : State n N} {x k : ℕ} (p : Route s x (suc k)
 unfolding last-column
 last-placed (step nt a p) = last-from p (a .0) (a .1 .0, a .1 .1, a .1 .2 .1)
 
+-- a route from x with fewer than k arcs
 abbrev Shorter : {n N : ℕ} → State n N → ℕ → ℕ → Type 0
 Shorter s x k = (k′ : ℕ) × (k′ < k) × Route s x k′
 

@@ -1,9 +1,8 @@
--- The search by layers finds a shortest route to a terminal column, or its last layer is closed; and when the column found moves to its free row,
+-- The search by layers finds a route to a terminal column, or its last layer is closed; and when the column found moves to its free row,
 -- the next search finds one nearer. Assumes nothing.
-use Prim.Native.Nat.{ℕ, zero, suc, _+_, _≤_, _<_}
+use Prim.Native.Nat.{ℕ, zero, suc, _≤_, _<_}
 use mathlib.Core.Logic.{_⊎_, inl, inr}
-use mathlib.Core.Path.{_≡_}
-use native.Mathlib.Decide.{ℕ-discrete, decLe}
+use native.Mathlib.Decide.{ℕ-discrete}
 use native.Mathlib.Omega.{arith}
 use Rattle.exchange.specs.Counting.Bools.{true?}
 use Rattle.exchange.specs.Counting.Sets.{Set, Some, _∈_}
@@ -14,7 +13,7 @@ use Rattle.exchange.specs.Graph.Closed.{Closed}
 use Rattle.exchange.specs.Graph.Layers.{grow-arc, grow-old, grow-split, layer, stable}
 
 -- the least index at which a decidable statement holds, or none
-pub least : (m : ℕ) (P : ℕ → Type 0) → ((i : ℕ) → Dec (P i))
+least : (m : ℕ) (P : ℕ → Type 0) → ((i : ℕ) → Dec (P i))
     → Some m (λ i. P i × ((j : ℕ) → j < i → P j → ⊥)) ⊎ ((i : ℕ) → i < m → P i → ⊥)
 least zero P d = inr (λ i l p. omega arith)
 least (suc m) P d = elim (least m P d) [
@@ -29,68 +28,33 @@ least (suc m) P d = elim (least m P d) [
 abbrev pub Hit : {n N : ℕ} → State n N → Set → ℕ → Type 0
 Hit {n} s S i = Some n (λ x. (x ∈ layer s S i) × Terminal s x)
 
-module _ {n N : ℕ} (s : State n N) (S : Set) where
-  hit? : (i : ℕ) → Dec (Hit s S i)
-  hit? i = some? n (λ x. (x ∈ layer s S i) × Terminal s x) (λ x. both? (true? (layer s S i x)) (terminal? s x))
-
-  abbrev Back : ℕ → ℕ → Type 0
-  Back i k = Some n (λ x. (x ∈ S) × ((l : ℕ) × (l ≤ i + k) × Route s x l))
-
-  -- a route from a column of layer i is continued back to a source
-  trace : (i y k : ℕ) → y < n → y ∈ layer s S i → ((j : ℕ) → j < i → Hit s S j → ⊥) → Route s y k → Back i k
-  unfolding layer
-  trace zero y k l h none p = (y, l, (h, (k, omega arith, p)))
-  trace (suc i) y k l h none p = elim (grow-split s (layer s S i) y h) [
-    | inl o ↦ let r : Back i k = trace i y k l o (λ j lj. none j (omega arith)) p in (r .0, r .1, (r .2 .0, (r .2 .1 .0, omega arith, r .2 .1 .2)))
-    | inr f ↦
-        let x : ℕ = f .0 in
-        let nt : Terminal s x → ⊥ = λ t. none i (omega arith) (x, f .1, (f .2 .0, t)) in
-        let r : Back i (suc k) = trace i x (suc k) (f .1) (f .2 .0) (λ j lj. none j (omega arith)) (step nt (f .2 .1) p) in
-        (r .0, r .1, (r .2 .0, (r .2 .1 .0, omega arith, r .2 .1 .2)))
-  ]
-
-  route-hits : {x k : ℕ} → Route s x k → (i j : ℕ) → j ≡ i + k → x < n → x ∈ layer s S i → Hit s S j
-  unfolding layer
-  route-hits (end {x} t) i j e l h = let ij : i ≡ j = omega arith in (x, l, (rw ij at h, t))
-  route-hits (step {x} {y} {k} nt a p) i j e l h = route-hits p (suc i) j (omega arith) (a .0) (grow-arc s (layer s S i) x y l h a)
-
--- a shortest route from a source
-pub record Shortest {n N : ℕ} (s : State n N) (S : Set) : Type 0 where
+-- a route from a source to a terminal column
+pub record RouteFrom {n N : ℕ} (s : State n N) (S : Set) : Type 0 where
   pub source : ℕ
   pub length : ℕ
   pub below : source < n
   pub is-source : source ∈ S
   pub route : Route s source length
-  pub short : length ≤ n
-  pub hit : Hit s S length
-  pub no-earlier : (j : ℕ) → j < length → Hit s S j → ⊥
-  pub shortest : (x k : ℕ) → x < n → x ∈ S → Route s x k → length ≤ k
 
--- the search finds a shortest route, or its last layer is closed and has no terminal
-pub found : {n N : ℕ} (s : State n N) (S : Set) → Shortest s S ⊎ Closed s (layer s S n)
-unfolding layer
-found {n} {N} s S = elim (least (suc n) (Hit s S) (hit? s S)) [
-  | inl t ↦ inl (best (t .0) (t .1) (t .2 .0) (t .2 .1))
-  | inr none ↦ inr (record { no-terminal = λ x l h t. none n (omega arith) (x, l, (h, t)); closed = stable s S })
-]
-  where
-    best : (i : ℕ) → i < suc n → Hit s S i → ((j : ℕ) → j < i → Hit s S j → ⊥) → Shortest s S
-    best i li w none =
-        let r : Back s S i 0 = trace s S i (w .0) 0 (w .1) (w .2 .0) none (end (w .2 .1)) in
-        let far : (x k : ℕ) → x < n → x ∈ S → Route s x k → i ≤ k = λ x k l h p. elim (decLe i k)
-        [ yes ik ↦ ik | no nik ↦ absurd (none k (omega arith) (route-hits s S p 0 k (omega arith) l h)) ] in
-        let e : r .2 .1 .0 ≡ i = omega (arith, far (r .0) (r .2 .1 .0) (r .1) (r .2 .0) (r .2 .1 .2)) in
-        record {
-          source = r .0;
-          length = i;
-          below = r .1;
-          is-source = r .2 .0;
-          route = rw e at (r .2 .1 .2);
-          short = omega arith;
-          hit = w;
-          no-earlier = none;
-          shortest = far;
-        }
+module _ {n N : ℕ} (s : State n N) (S : Set) where
+  hit? : (i : ℕ) → Dec (Hit s S i)
+  hit? i = some? n (λ x. (x ∈ layer s S i) × Terminal s x) (λ x. both? (true? (layer s S i x)) (terminal? s x))
+
+  -- a route from a column of layer i is continued back to a source, where no earlier layer has a terminal column
+  trace : (i y k : ℕ) → y < n → y ∈ layer s S i → ((j : ℕ) → j < i → Hit s S j → ⊥) → Route s y k → RouteFrom s S
+  unfolding layer
+  trace zero y k l h none p = record { source = y; length = k; below = l; is-source = h; route = p }
+  trace (suc i) y k l h none p = elim (grow-split s (layer s S i) y h) [
+    | inl o ↦ trace i y k l o (λ j lj. none j (omega arith)) p
+    | inr f ↦ trace i (f .0) (suc k) (f .1) (f .2 .0) (λ j lj. none j (omega arith)) (step (λ t. none i (omega arith) (f .0, f .1, (f .2 .0, t))) (f .2 .1) p)
+  ]
+
+  -- the search finds a route from a source, or its last layer is closed and has no terminal column
+  pub found : RouteFrom s S ⊎ Closed s (layer s S n)
+  found = elim (least (suc n) (Hit s S) hit?) [
+    | inl t ↦ let w : Hit s S (t .0) = t .2 .0 in inl (trace (t .0) (w .0) 0 (w .1) (w .2 .0) (t .2 .1) (end (w .2 .1)))
+    | inr none ↦ inr (record { no-terminal = λ x l h t. none n (omega arith) (x, l, (h, t)); closed = stable s S })
+  ]
 
 -- a search that met its first terminal, x with the free row q, in layer i + 1 meets one in layer i after x has moved there: so a search that is
 -- repeated after each move ends

@@ -16,12 +16,15 @@ pub record State (n N : ℕ) : Type 0 where
   pub touches-owner : (q : ℕ) → q < N → owner q < n → touch q (owner q) ≡ true
   pub owns-one : (q r : ℕ) → q < N → r < N → owner q < n → owner q ≡ owner r → q ≡ r
 
+-- column x is placed: it owns a row
 abbrev pub Placed : {n N : ℕ} → State n N → ℕ → Type 0
 Placed {n} {N} s x = Some N (λ q. s .owner q ≡ x)
 
+-- column x is terminal: it touches a free row
 abbrev pub Terminal : {n N : ℕ} → State n N → ℕ → Type 0
 Terminal {n} {N} s x = Some N (λ q. (n ≤ s .owner q) × (s .touch q x ≡ true))
 
+-- an arc from x to y: x touches a row that y owns
 abbrev pub Arc : {n N : ℕ} → State n N → ℕ → ℕ → Type 0
 Arc {n} {N} s x y = (y < n) × Some N (λ q. (s .touch q x ≡ true) × (s .owner q ≡ y))
 
@@ -54,10 +57,11 @@ pub record Moved {n N : ℕ} (s s′ : State n N) (t q q′ : ℕ) : Type 0 wher
   pub others : (r : ℕ) → r < N → r ≢ q → r ≢ q′ → s′ .owner r ≡ s .owner r
   pub untouched : (z : ℕ) → s .touch q z ≡ false → (r : ℕ) → r < N → s′ .touch r z ≡ s .touch r z
 
--- a relocation keeps the set of placed columns
+-- the two states place the same columns
 abbrev pub SamePlaced : {n N : ℕ} → State n N → State n N → Type 0
 SamePlaced {n} s s′ = (z : ℕ) → z < n → Placed s z ↔ Placed s′ z
 
+-- a move keeps the placed columns
 pub moved-placed : {n N : ℕ} (s s′ : State n N) (t q q′ : ℕ) → Moved s s′ t q q′ → SamePlaced s s′
 moved-placed {n} {N} s s′ t q q′ m z l = (there, back)
   where

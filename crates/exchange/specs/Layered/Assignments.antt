@@ -21,7 +21,7 @@ use Rattle.exchange.specs.Layered.Seating.{Good}
 module _ (M : Model) where
   open Model M using (K, a, b, n, Q, T, E)
 
-  -- the assignment of a state
+  -- the seat that a row gives its owner
   row-seat-at : (q : ℕ) → Dec (q < a) → Seat
   row-seat-at q (yes l) = constant
   row-seat-at q (no nl) = row (q - a)
@@ -53,6 +53,7 @@ module _ (M : Model) where
   ]
 
   module _ (s : State n (a + b)) where
+    -- the assignment of a state
     assign-at : (x : ℕ) → Dec ((x < n) × Placed s x) → Seat
     assign-at x (yes w) = row-seat (w .1 .0)
     assign-at x (no nw) = out

@@ -49,6 +49,7 @@ entered-more {n} {N} s s₁ s₂ x q same m z l = elim (ℕ-discrete z x) [
 module _ (M : Model) where
   open Model M using (K, a, b, n, Q, T, E)
 
+  -- the states of the model: a + b rows
   abbrev pub StateOf : Type 0
   StateOf = State n (a + b)
 

@@ -12,7 +12,7 @@ use Rattle.exchange.specs.Counting.Choices.{Part}
 use Rattle.exchange.specs.Graph.States.{Placed, placed-iff, placed-of}
 use Rattle.exchange.specs.Graph.Closed.{Closed}
 use Rattle.exchange.specs.Graph.Layers.{layer, unplaced, unplaced-iff}
-use Rattle.exchange.specs.Graph.Search.{Shortest, found}
+use Rattle.exchange.specs.Graph.Search.{RouteFrom, found}
 use Rattle.exchange.specs.Layered.Model.{Assignment, Legal, Model, OneMoreThan, placing, size}
 use Rattle.exchange.specs.Layered.Rank.{placed, rank, short, sum}
 use Rattle.exchange.specs.Layered.Duality.{rank-reached, size-le-sum}
@@ -56,7 +56,7 @@ module _ (M : Model) where
         | inl f ↦ more r f
       ]
     where
-      more : (r : (s : StateOf M) × Good M s × ((x : ℕ) → x < n → placed-of s x ≡ placing A x)) → Shortest (r .0) (unplaced (r .0)) → OneMoreThan M A
+      more : (r : (s : StateOf M) × Good M s × ((x : ℕ) → x < n → placed-of s x ≡ placing A x)) → RouteFrom (r .0) (unplaced (r .0)) → OneMoreThan M A
       more r f =
           let x : ℕ = f .source in
           let new : Placed (r .0) x → ⊥ = unplaced-iff (r .0) x .0 (f .is-source) in

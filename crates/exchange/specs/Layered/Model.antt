@@ -1,4 +1,4 @@
--- Document 01, "The model": layered models over any field, assignments, and which of them are legal. Definitions only.
+-- Document 01, "The model": layered models over any field, assignments, and which of them are legal. Definitions only; assumes nothing.
 use Prim.Native.Nat.{ℕ, _<_}
 use mathlib.Core.Path.{_≡_}
 use mathlib.Core.Bool.{Bool, true, false, not, _&&_, decide}
@@ -31,11 +31,13 @@ pub data Seat : Type 0 where
 abbrev pub Assignment : Type 0
 Assignment = ℕ → Seat
 
+-- a seat other than out
 abbrev pub is-placed : Seat → Bool
 is-placed out = false
 is-placed constant = true
 is-placed (row r) = true
 
+-- the constant side
 abbrev pub is-constant : Seat → Bool
 is-constant out = false
 is-constant constant = true

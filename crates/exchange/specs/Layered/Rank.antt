@@ -1,4 +1,4 @@
--- Document 01, the answer to a layered model: rank, placed set, short set and verdict, over any field. Definitions only.
+-- Document 01, the answer to a layered model: rank, placed set, short set and verdict, over any field. Definitions only; assumes nothing.
 use Prim.Native.Nat.{ℕ, zero, suc, _+_}
 use mathlib.Core.Bool.{Bool, true, false, not, _&&_, _||_, cond, decide, Bool-discrete}
 use native.Mathlib.Decide.{ℕ-discrete}
@@ -11,6 +11,12 @@ unfoldable pub seat : ℕ → Seat
 seat zero = out
 seat (suc zero) = constant
 seat (suc (suc r)) = row r
+
+-- column x is out, or it is outside J and on a row
+unfoldable pub row-outside : Set → ℕ → Seat → Bool
+row-outside J x out = true
+row-outside J x constant = false
+row-outside J x (row r) = not (J x)
 
 module _ (M : Model) where
   open Model M using (b, n, T, E, indep)
@@ -28,17 +34,13 @@ module _ (M : Model) where
   unfoldable pub last-seat : ℕ → ℕ
   last-seat x = cond (E x) (suc b) 0
 
+  -- the largest F A over all assignments A
   unfoldable pub largest-assignment : (Assignment → ℕ) → ℕ
   largest-assignment F = largest seat last-seat n F
 
+  -- some assignment passes the test P
   unfoldable pub some-assignment : (Assignment → Bool) → Bool
   some-assignment P = some seat last-seat n P
-
-  -- column x is out, or it is outside J and on a row
-  unfoldable pub row-outside : Set → ℕ → Seat → Bool
-  row-outside J x out = true
-  row-outside J x constant = false
-  row-outside J x (row r) = not (J x)
 
   -- the largest matching of parameter rows and columns outside J
   unfoldable pub matching : Set → ℕ

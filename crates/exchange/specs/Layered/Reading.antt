@@ -15,11 +15,13 @@ use Rattle.exchange.specs.Linear.Independence.{Indep}
 use Rattle.exchange.specs.Layered.Model.{Assignment, Legal, Model, Seat, constant, constants, has-parameter, is-constant, is-placed, legal, out, placing, row, same-row, size}
 use Rattle.exchange.specs.Layered.Rank.{verdict, constant-rank, largest-assignment, last-seat, matching, placeable, rank, row-outside, seat, short, some-assignment, sum}
 
+-- a seat is out, the constant side, or a row
 pub seat-cases : {A : Type 0} (s : Seat) → (s ≡ out → A) → (s ≡ constant → A) → ((r : ℕ) → s ≡ row r → A) → A
 seat-cases out f g h = f refl
 seat-cases constant f g h = g refl
 seat-cases (row r) f g h = h r refl
 
+-- both seats are one row
 pub same-row-iff : (s t : Seat) → (same-row s t ≡ true) ↔ ((r : ℕ) × (s ≡ row r) × (t ≡ row r))
 unfolding same-row
 same-row-iff out t = (λ e. absurd (false≢true e), λ w. absurd (true≢false (cc)))
@@ -34,7 +36,7 @@ same-row-iff (row r) (row q) = (
 module _ (M : Model) where
   open Model M using (K, a, b, n, Q, T, E, indep, indep-iff)
 
-  -- the seats that an assignment of the model gives
+  -- A gives only offered columns a seat, and only rows below b: the definitions run over these assignments
   pub record Seats (A : Assignment) : Type 0 where
     pub offered : (x : ℕ) → x ∈ placing A → (x < n) × (x ∈ E)
     pub below : (x r : ℕ) → A x ≡ row r → r < b
@@ -72,7 +74,8 @@ module _ (M : Model) where
       choose : (x : ℕ) → x ∈ placing A → (x ∈ E) × ((r : ℕ) → A x ≡ row r → r < b)
       choose x p = let w : (i : ℕ) × (i ≤ last-seat M x) × (A x ≡ seat i) = c .inside x (near x p) in low x (w .0) (w .1) (w .2) p
 
-  parameter-iff : (x : ℕ) (s : Seat) → (has-parameter M x s ≡ true) ↔ ((r : ℕ) → s ≡ row r → T r x ≡ true)
+  -- a column on a row has a parameter there
+  pub parameter-iff : (x : ℕ) (s : Seat) → (has-parameter M x s ≡ true) ↔ ((r : ℕ) → s ≡ row r → T r x ≡ true)
   unfolding has-parameter
   parameter-iff x out = (λ e r d. absurd (false≢true (ap is-placed d)), λ h. refl)
   parameter-iff x constant = (λ e r d. absurd (true≢false (ap is-constant d)), λ h. refl)
@@ -81,7 +84,7 @@ module _ (M : Model) where
   pub legal-seats : (A : Assignment) → Legal M A → Seats A
   legal-seats A h = record { offered = h .offered; below = λ x r e. h .parameter x r e .0 }
 
-  -- the test is the statement
+  -- a legal assignment passes the test
   pub legal-true : (A : Assignment) → Legal M A → legal M A ≡ true
   unfolding legal
   legal-true A h = and-in (and-in (indep-iff (constants A) .1 (h .independent))
@@ -91,12 +94,13 @@ module _ (M : Model) where
       let w : (r : ℕ) × (A y ≡ row r) × (A x ≡ row r) = same-row-iff (A y) (A x) .0 e in
       omega (arith, h .one-each y x (w .0) (w .1) (w .2))))))
 
-  -- from its parts
+  -- the test passes where its parts do
   pub legal-from : (A : Assignment) → Indep K a n Q (constants A) → ((x : ℕ) → x < n → (r : ℕ) → A x ≡ row r → T r x ≡ true)
       → all n (λ x. all x (λ y. not (same-row (A y) (A x)))) ≡ true → legal M A ≡ true
   unfolding legal
   legal-from A i p e = and-in (and-in (indep-iff (constants A) .1 i) (all-iff n (λ x. has-parameter M x (A x)) .1 (λ x l. parameter-iff x (A x) .1 (p x l)))) e
 
+  -- and what passes the test is legal
   pub true-legal : (A : Assignment) → Seats A → legal M A ≡ true → Legal M A
   unfolding legal
   true-legal A s e = record {
@@ -153,46 +157,49 @@ module _ (M : Model) where
         | no nt ↦ (λ x. false, λ x e. absurd (false≢true e), empty-indep, #-none n ∙ sym (cond-false (indep (r .0)) (# n (r .0)) 0 nt) ∙ r .2)
       ]
 
-  -- the same of matchings
+  -- A places columns outside J alone, and none of them on the constant side
   abbrev pub Outside : Set → Assignment → Type 0
   Outside J A = (x : ℕ) → x ∈ placing A → (J x ≡ false) × (is-constant (A x) ≡ false)
 
-  row-outside-iff : (J : Set) (x : ℕ) (s : Seat) → (row-outside M J x s ≡ true) ↔ (is-placed s ≡ true → (J x ≡ false) × (is-constant s ≡ false))
+  -- the test for it
+  pub row-outside-iff : (J : Set) (x : ℕ) (s : Seat) → (row-outside J x s ≡ true) ↔ (is-placed s ≡ true → (J x ≡ false) × (is-constant s ≡ false))
   unfolding row-outside
   row-outside-iff J x out = (λ e p. absurd (false≢true p), λ h. refl)
   row-outside-iff J x constant = (λ e. absurd (false≢true e), λ h. absurd (true≢false (h refl .1)))
   row-outside-iff J x (row r) = (λ e p. (not-true (J x) (not-both (J x) e), refl), λ h. not-of (J x) (λ j. true≢false (sym j ∙ h refl .0)))
 
+  -- the largest matching is reached, and no such legal assignment is larger
   pub matching-le : (J : Set) (A : Assignment) → Legal M A → Outside J A → size M A ≤ matching M J
   unfolding matching largest-assignment
   matching-le J A h o = omega (
     arith,
-    largest-le seat (last-seat M) n (λ A. cond (legal M A && all n (λ x. row-outside M J x (A x))) (size M A) 0) A (seats-chosen A (legal-seats A h)),
-    cond-true (legal M A && all n (λ x. row-outside M J x (A x))) (size M A) 0
-        (and-in (legal-true A h) (all-iff n (λ x. row-outside M J x (A x)) .1 (λ x l. row-outside-iff J x (A x) .1 (o x)))),
+    largest-le seat (last-seat M) n (λ A. cond (legal M A && all n (λ x. row-outside J x (A x))) (size M A) 0) A (seats-chosen A (legal-seats A h)),
+    cond-true (legal M A && all n (λ x. row-outside J x (A x))) (size M A) 0
+        (and-in (legal-true A h) (all-iff n (λ x. row-outside J x (A x)) .1 (λ x l. row-outside-iff J x (A x) .1 (o x)))),
   )
 
   pub matching-at : (J : Set) → (A : Assignment) × Legal M A × Outside J A × (size M A ≡ matching M J)
   unfolding matching largest-assignment
   matching-at J =
-      let G : Assignment → ℕ = λ A. cond (legal M A && all n (λ x. row-outside M J x (A x))) (size M A) 0 in
+      let G : Assignment → ℕ = λ A. cond (legal M A && all n (λ x. row-outside J x (A x))) (size M A) 0 in
       let r : (A : Assignment) × Chosen seat (last-seat M) n A × (G A ≡ matching M J) = largest-at seat (last-seat M) n G in
       let A : Assignment = r .0 in
-      elim (true? (legal M A && all n (λ x. row-outside M J x (A x)))) [
+      elim (true? (legal M A && all n (λ x. row-outside J x (A x)))) [
         | yes t ↦ (
           A,
           true-legal A (chosen-seats A (r .1)) (and-left _ _ t),
-          λ x p. row-outside-iff J x (A x) .0 (all-iff n (λ x. row-outside M J x (A x)) .0 (and-right (legal M A) _ t) x (chosen-seats A (r .1) .offered x p .0)) p,
-          sym (cond-true (legal M A && all n (λ x. row-outside M J x (A x))) (size M A) 0 t) ∙ r .2,
+          λ x p. row-outside-iff J x (A x) .0 (all-iff n (λ x. row-outside J x (A x)) .0 (and-right (legal M A) _ t) x (chosen-seats A (r .1) .offered x p .0)) p,
+          sym (cond-true (legal M A && all n (λ x. row-outside J x (A x))) (size M A) 0 t) ∙ r .2,
         )
         | no nt ↦ (
           λ x. out,
           empty-legal,
           λ x p. absurd (false≢true p),
-          #-none n ∙ sym (cond-false (legal M A && all n (λ x. row-outside M J x (A x))) (size M A) 0 nt) ∙ r .2,
+          #-none n ∙ sym (cond-false (legal M A && all n (λ x. row-outside J x (A x))) (size M A) 0 nt) ∙ r .2,
         )
       ]
 
+  -- the rank is reached, and no such sum of a constant rank and a matching is larger
   pub rank-le : (J : Set) → Part n E J → constant-rank M J + matching M J ≤ rank M
   unfolding rank
   rank-le J p = part-le n E (λ J. constant-rank M J + matching M J) J p
@@ -201,6 +208,7 @@ module _ (M : Model) where
   unfolding rank
   rank-at = part-at n E (λ J. constant-rank M J + matching M J)
 
+  -- S is what some legal assignment places
   pub placeable-iff : (S : Set) → (placeable M S ≡ true) ↔ ((A : Assignment) × Legal M A × ((x : ℕ) → x < n → placing A x ≡ S x))
   unfolding placeable some-assignment
   placeable-iff S = (
@@ -220,6 +228,7 @@ module _ (M : Model) where
       P : Assignment → Bool
       P A = legal M A && all n (λ x. decide (Bool-discrete (placing A x) (S x)))
 
+  -- x lies in every column set whose sum is the rank
   pub short-iff : (x : ℕ) → (x ∈ short M) ↔ ((J : Set) → Part n E J → sum M J ≡ rank M → x ∈ J)
   unfolding short
   short-iff x = (
@@ -227,6 +236,7 @@ module _ (M : Model) where
     λ h. every-part-iff n E (λ J. not (decide (ℕ-discrete (sum M J) (rank M))) || J x) .1 (λ J p. implies (decide (ℕ-discrete (sum M J) (rank M))) (J x) (λ t. h J p (decide-iff (ℕ-discrete (sum M J) (rank M)) .0 t))),
   )
 
+  -- the rank is the number of columns
   pub verdict-iff : (verdict M ≡ 1) ↔ (rank M ≡ # n E)
   unfolding verdict
   verdict-iff = (

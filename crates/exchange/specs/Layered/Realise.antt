@@ -37,6 +37,7 @@ module _ (M : Model) where
       there : (x : ℕ) → x < m → x ∈ placing A → Some (a + b) (λ q. (o q ≡ x) × (A x ≡ row-seat M q))
       back : (q : ℕ) → q < a + b → o q < n → (o q < m) × (A (o q) ≡ row-seat M q)
 
+    -- a valid state in which they have
     abbrev Upto : ℕ → Type 0
     Upto m = (P : ℕ → ℕ → F) × ((o : ℕ → ℕ) × Valid M P o × SeatedTo m o)
 

@@ -26,6 +26,7 @@ module _ (M : Model) where
     pub kernel : Same K a n Q P
     pub tableau : Tableau K a n P (s .owner)
 
+  -- the two notions are one
   pub good-valid : (s : State n (a + b)) (g : Good s) → Valid M (g .P) (s .owner)
   good-valid s g = record {
     kernel = g .kernel;
@@ -49,6 +50,7 @@ module _ (M : Model) where
 
   -- the two seatings
   module _ (s : State n (a + b)) (g : Good s) (t q q′ : ℕ) (lt : t < n) (lq : q < a + b) (f : n ≤ s .owner q) (h : s .touch q t ≡ true) (lq′ : q′ < a + b) (o : s .owner q′ ≡ t) where
+    -- the owners once t has left its row
     unfoldable pub freed : ℕ → ℕ
     freed = set (s .owner) q′ n
 

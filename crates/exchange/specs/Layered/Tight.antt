@@ -38,6 +38,7 @@ module _ (M : Model) (s : StateOf M) (g : Good M s) where
     unfolding A
     h = assignment-legal M s g
 
+    -- each of the three counts that make up the sum is met
     record Tight : Type 0 where
       constants-tight : constant-rank M J ≤ # n (constant-part A J)
       rows-tight : # b (touching n T (J ∩ E)) ≤ # n (row-part A J)
@@ -46,14 +47,14 @@ module _ (M : Model) (s : StateOf M) (g : Good M s) where
     counts : Tight
     unfolding sum A
     counts =
-        let c₀ : # n (placing A) ≡ # n (J ∩ placing A) + # n (∁ J ∩ placing A) = #-split n J (placing A) in
-        let c₁ : # n (J ∩ placing A) ≡ # n (constant-part A J) + # n (row-part A J) = parts M A h J in
-        let c₂ : # n (placing A) ≡ # n (placed-of s) = assignment-size M s in
-        let c₃ : # n (constant-part A J) ≤ constant-rank M J = constant-rank-le M J (constant-part A J)
+        let divided : # n (placing A) ≡ # n (J ∩ placing A) + # n (∁ J ∩ placing A) = #-split n J (placing A) in
+        let parted : # n (J ∩ placing A) ≡ # n (constant-part A J) + # n (row-part A J) = parts M A h J in
+        let sized : # n (placing A) ≡ # n (placed-of s) = assignment-size M s in
+        let few-constants : # n (constant-part A J) ≤ constant-rank M J = constant-rank-le M J (constant-part A J)
         (λ x e. (constant-part-part M A h J x e .0, and-left (J x) (E x) (constant-part-part M A h J x e .1))) (constant-part-indep M A h J) in
-        let c₄ : # n (row-part A J) ≤ # b (touching n T (J ∩ E)) = row-part-count M A h J in
-        let c₅ : # b (touching n T (J ∩ E)) ≤ # b (touching n T J) = touching-mono n b T (J ∩ E) J (λ x e. and-left (J x) (E x) e) in
-        let c₆ : # n (∁ J ∩ placing A) ≤ # n (∁ J ∩ E) = #-mono n (∁ J ∩ placing A) (∁ J ∩ E) (rest-offered M A h J) in
+        let few-rows : # n (row-part A J) ≤ # b (touching n T (J ∩ E)) = row-part-count M A h J in
+        let rows-inside : # b (touching n T (J ∩ E)) ≤ # b (touching n T J) = touching-mono n b T (J ∩ E) J (λ x e. and-left (J x) (E x) e) in
+        let few-left : # n (∁ J ∩ placing A) ≤ # n (∁ J ∩ E) = #-mono n (∁ J ∩ placing A) (∁ J ∩ E) (rest-offered M A h J) in
         record { constants-tight = omega arith; rows-tight = omega arith; rest-tight = omega arith }
 
     pub unplaced-in : (y : ℕ) → y < n → y ∈ E → (Placed s y → ⊥) → y ∈ J

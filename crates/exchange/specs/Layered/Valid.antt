@@ -18,7 +18,7 @@ module _ (M : Model) where
   open Model M using (K, a, b, n, Q, T, E)
   open Field K using (F, 𝟘, 𝟙)
 
-  -- rows 0 .. a are the constant rows, as P has them now, and a + r is parameter row r; a column that is not offered touches none
+  -- the rows below a are the constant rows, as P has them now, and a + r is parameter row r; a column that is not offered touches none
   touch-at : (P : ℕ → ℕ → F) (q x : ℕ) → Dec (q < a) → Bool
   touch-at P q x (yes l) = hits K P q x
   touch-at P q x (no nl) = T (q - a) x
@@ -48,6 +48,7 @@ module _ (M : Model) where
     pub touches : (q : ℕ) → q < a + b → o q < n → touch P q (o q) ≡ true
     pub one-row : (q r : ℕ) → q < a + b → r < a + b → o q < n → o q ≡ o r → q ≡ r
 
+  -- a valid state as a state of the graph
   unfoldable pub state : (P : ℕ → ℕ → F) (o : ℕ → ℕ) → Valid P o → State n (a + b)
   state P o v = record { touch = touch P; owner = o; touches-owner = v .touches; owns-one = v .one-row }
 

@@ -1,4 +1,4 @@
--- Independent columns of a matrix over a field: no combination of them is zero in every row unless all its coefficients are zero. Definitions only.
+-- Independent columns of a matrix over a field: no combination of them is zero in every row unless all its coefficients are zero. Definitions only; assumes nothing.
 use Prim.Native.Nat.{ℕ, zero, suc, _<_}
 use mathlib.Core.Path.{_≡_}
 use mathlib.Core.Logic.{_≢_}
