@@ -1,0 +1,15 @@
+-- The file: Piece and Format are what a reader must believe; the others hold their laws.
+pub mod Piece
+pub mod Format
+pub mod Steps
+pub mod PieceLaws
+pub mod BodyLaws
+pub mod FormatLaws
+pub mod EntryLaws
+pub mod JudgeLaws
+pub mod FieldLaws
+pub mod WriteLaws
+pub mod RowLaws
+pub mod HandedLaws
+pub mod ReadLaws
+pub mod LookupLaws

@@ -1,0 +1,19 @@
+-- Document 01: the model, lists of steps, mixed models, refusals, answers and the file; with the theorems about them.
+pub mod Model
+pub mod ModelLaws
+pub mod Steps
+pub mod StepsLaws
+pub mod Demand
+pub mod StepsReach
+pub mod Theorems
+pub mod Mixed
+pub mod MixedTheorem
+pub mod Starred
+pub mod Computed
+pub mod Lists
+pub mod ListLaws
+pub mod OverLaws
+pub mod Refusals
+pub mod RefusalLaws
+pub mod TestLaws
+pub mod File

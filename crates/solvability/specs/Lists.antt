@@ -1,0 +1,24 @@
+-- Lists: tests and statements about every element, rows cut from a list, one list written over the front of another. Definitions only.
+use Prim.Native.Nat.{ℕ, zero, suc}
+use mathlib.Core.Bool.{Bool, true, _&&_}
+use mathlib.Core.List.{List, [], _∷_, _++_}
+use lib.ListN.{length, take, drop}
+
+-- every element passes the test
+unfoldable pub every : {A : Type 0} → (A → Bool) → List A → Bool
+every f [] = true
+every f (x ∷ xs) = f x && every f xs
+
+-- every element is as stated
+abbrev pub All : {A : Type 0} → (A → Type 0) → List A → Type 0
+All Is [] = Unit {0}
+All Is (x ∷ xs) = Is x × All Is xs
+
+-- the first k rows of n elements each
+unfoldable pub rowsOf : ℕ → ℕ → List ℕ → List (List ℕ)
+rowsOf n zero xs = []
+rowsOf n (suc k) xs = take n xs ∷ rowsOf n k (drop n xs)
+
+-- the elements xs over the front of the area; what stands behind them is unchanged
+unfoldable pub over : List ℕ → List ℕ → List ℕ
+over xs area = xs ++ drop (length xs) area

@@ -1,0 +1,21 @@
+// The refusal numbers, by their causes; 0 is none.
+
+// Whoever wrote the file or filled the model.
+pub const TRUNCATED: u32 = 1;
+
+pub const UNEXPECTED: u32 = 2;
+
+pub const NOT_PRIME: u32 = 3;
+
+pub const SIZES_BEYOND: u32 = 4;
+
+pub const CONSTANT_BEYOND: u32 = 5;
+
+pub const PARAMETER_BEYOND: u32 = 6;
+
+pub const TRAILING: u32 = 7;
+
+// The calling program.
+pub const AREA_SHORT: u32 = 8;
+
+pub const ROW_BEYOND: u32 = 9;
