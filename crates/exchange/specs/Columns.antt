@@ -1,8 +1,8 @@
 -- What a word means as a set of columns, and the set operations that the contracts cite. Definitions only.
-use Prim.Native.Nat.{ℕ, zero, suc, _/_, _%_, _^_}
+use Prim.Native.Nat.{ℕ, zero, suc, _+_, _*_, _/_, _%_, _^_}
 use mathlib.Core.Bool.{Bool, false, not, _&&_, _||_, cond}
 use lib.Dec.{eqb, ltb}
-use Rattle.exchange.specs.Counting.Sets.{Set, all}
+use Rattle.exchange.specs.Counting.Sets.{Set, indicator, all}
 
 -- how many columns a word has room for
 abbrev pub width : ℕ
@@ -35,6 +35,11 @@ removed S j x = S x && not (eqb x j)
 unfoldable pub least : ℕ → Set → ℕ
 least zero S = 0
 least (suc n) S = cond (S 0) 0 (suc (least n (λ x. S (suc x))))
+
+-- the word of the columns of S below k
+unfoldable pub word-of : ℕ → Set → ℕ
+word-of zero S = 0
+word-of (suc k) S = indicator (S 0) + 2 * word-of k (λ x. S (suc x))
 
 -- no column of the word w is n or more
 unfoldable pub within : ℕ → ℕ → Bool

@@ -16,4 +16,6 @@ pub mod OverLaws
 pub mod Refusals
 pub mod RefusalLaws
 pub mod TestLaws
+pub mod Answers
+pub mod AnswerLaws
 pub mod File

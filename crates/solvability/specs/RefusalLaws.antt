@@ -15,7 +15,7 @@ use Rattle.exchange.specs.Columns.{within}
 use Rattle.exchange.specs.Counting.Bools.{and-in, and-left, and-right}
 use Rattle.solvability.specs.Lists.{every, All}
 use Rattle.solvability.specs.ListLaws.{every-all, all-at}
-use Rattle.solvability.specs.Refusals.{Cause, truncated, unexpected, notPrime, sizesBeyond, constantBeyond, parameterBeyond, trailing, areaShort, rowBeyond, numberOf, Tests, unless, _then_, firstRefusal, whereAccepted, largestPrime, mostColumns, mostRows, headTest, bodyTest, dueTest, primeTest, sizeTest, constantTest, parameterTest, endTest, areaTest, rowTest, modelTests, refusal}
+use Rattle.solvability.specs.Refusals.{Cause, truncated, unexpected, notPrime, sizesBeyond, constantBeyond, parameterBeyond, trailing, areaShort, rowBeyond, notMixed, numberOf, Tests, unless, _then_, firstRefusal, whereAccepted, largestPrime, mostColumns, mostRows, headTest, bodyTest, dueTest, primeTest, sizeTest, constantTest, parameterTest, endTest, areaTest, rowTest, modelTests, refusal}
 
 -- ---- the reading of a number
 
@@ -38,6 +38,7 @@ number-pos parameterBeyond = omega arith
 number-pos trailing = omega arith
 number-pos areaShort = omega arith
 number-pos rowBeyond = omega arith
+number-pos notMixed = omega arith
 
 caused-by-first : (ts : Tests) (k : ℕ) → k ≢ 0 → firstRefusal ts ≡ k → Caused ts k
 unfolding firstRefusal

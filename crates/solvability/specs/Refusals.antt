@@ -24,6 +24,8 @@ pub data Cause : Type 0 where
   -- the calling program
   areaShort : Cause
   rowBeyond : Cause
+  -- the modeller with a mixed question
+  notMixed : Cause
 
 abbrev pub numberOf : Cause → ℕ
 numberOf truncated = 1
@@ -35,6 +37,7 @@ numberOf parameterBeyond = 6
 numberOf trailing = 7
 numberOf areaShort = 8
 numberOf rowBeyond = 9
+numberOf notMixed = 10
 
 -- ---- tests in their order
 
@@ -128,3 +131,17 @@ modelTests p n a b cs ws =
 unfoldable pub refusal : (p n a b : ℕ) (cs ws : List ℕ) → ℕ
 unfolding modelTests
 refusal p n a b cs ws = firstRefusal (modelTests p n a b cs ws)
+
+-- ---- the mixed question about it
+
+-- 10: a equals b, and the layered form has no more columns than a model may
+unfoldable pub mixedTest : (n a b : ℕ) → Bool
+mixedTest n a b = eqb a b && leb (a + n) mostColumns
+
+unfoldable pub mixedTests : (p n a b : ℕ) (cs ws : List ℕ) → Tests
+unfolding modelTests
+mixedTests p n a b cs ws = modelTests p n a b cs ws then unless (mixedTest n a b) notMixed
+
+unfoldable pub mixedRefusal : (p n a b : ℕ) (cs ws : List ℕ) → ℕ
+unfolding mixedTests
+mixedRefusal p n a b cs ws = firstRefusal (mixedTests p n a b cs ws)

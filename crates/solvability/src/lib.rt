@@ -1,7 +1,8 @@
-// Models in files and handed over: judged, read, written, looked up. Every public function is total, and refuses by a number.
+// The rank of layered models, and models in files and handed over: judged, read, written, looked up. Every public function is total, and refuses by a number.
 mod content;
 mod header;
 mod judge;
+mod layered;
 mod lookup;
 mod model;
 mod read;
@@ -10,6 +11,8 @@ pub mod refusals;
 mod write;
 
 pub use header::Sizes;
+pub use layered::Answer;
+pub use layered::layered_rank;
 pub use lookup::judge_row;
 pub use lookup::row;
 pub use model::judge_model;

@@ -3,7 +3,7 @@ use mathlib.Core.Path.{_≡_, refl, sym, ap, ap₂, _∙_, subst, fun-ext}
 use mathlib.Core.Bool.{Bool, true, false, not, _&&_, _||_, cond, true≢false}
 use mathlib.Core.Logic.{_≢_, _↔_, ⊎-elim}
 use Prim.Native.Nat.{ℕ, zero, suc, _+_, _-_, _/_, _%_, _^_, _≤_, _<_, min, max}
-use native.Mathlib.Nat.{mod-lt, mod-le, mod-eq-of-lt, div-eq-of-lt, div-lt-iff-lt-mul, zero-min, not-suc-le-zero, le-of-suc-le-suc}
+use native.Mathlib.Nat.{mod-lt, mod-le, mod-eq-of-lt, div-eq-of-lt, div-lt-iff-lt-mul, zero-min, pow-suc, not-suc-le-zero, le-of-suc-le-suc}
 use native.Mathlib.Numerals.{add-one, one-add}
 use native.Mathlib.Decide.{ℕ-discrete, decLt}
 use native.Mathlib.Omega.{arith}
@@ -16,7 +16,7 @@ use borrow.Author.Tests.{eq-eqb, ne-eqb, eqb-true, lt-ltb, le-ltb, ltb-true}
 use Rattle.exchange.specs.Counting.Bools.{true?, not-true, iff-eq, implies, implied}
 use Rattle.exchange.specs.Counting.Sets.{Set, _∈_, _∩_, _∪_, ∁, indicator, #, all}
 use Rattle.exchange.specs.Counting.Counts.{all-iff, #-⊖}
-use Rattle.exchange.specs.Columns.{width, bit, members, none, upto, inserted, removed, least, within}
+use Rattle.exchange.specs.Columns.{width, bit, members, none, upto, inserted, removed, least, word-of, within}
 use Rattle.exchange.specs.Words.Bits.{bit-lt, two-cases, bit-suc, bit-zero, bit-and, bit-or, bit-not, bit-pow-same, bit-pow-other, bit-of-zero, bit-mod, bits-ext}
 
 -- ---- members by their bits
@@ -251,6 +251,16 @@ members-ext k v w hv hw e = bits-ext k v w hv hw (λ x l. same (bit v x) (bit w 
 pub no-members : (w : ℕ) → w < 2 ^ width → # width (members w) ≡ 0 → w ≡ 0
 no-members w h e = members-ext width w 0 h (omega arith) (λ x l. not-true (members w x) (λ m.
     omega (arith, e, #-⊖ width (members w) x l m)) ∙ sym (ap (λ (S : Set). S x) members-zero))
+
+pub word-members : (k w : ℕ) → w < 2 ^ k → w ≡ word-of k (members w)
+unfolding word-of members
+word-members zero w h = lt-one h
+word-members (suc k) w h =
+    let p = pow-suc 2 k in
+    let half : w / 2 ≡ word-of k (members (w / 2)) = word-members k (w / 2) (omega arith) in
+    let low : w % 2 ≡ indicator (eqb (bit w 0) 1) = sym (bit-zero w) ∙ bit-indicator (bit w 0) (bit-lt w 0) in
+    let high : word-of k (members (w / 2)) ≡ word-of k (λ x. members w (suc x)) = ap (word-of k) (fun-ext (λ x. sym (members-half w x))) in
+    omega arith
 
 -- ---- no column from n on
 
