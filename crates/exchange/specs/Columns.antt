@@ -1,7 +1,7 @@
 -- What a word means as a set of columns, and the set operations that the contracts cite. Definitions only.
-use Prim.Native.Nat.{ℕ, zero, suc, _+_, _*_, _/_, _%_, _^_}
+use Prim.Native.Nat.{ℕ, zero, suc, _+_, _-_, _*_, _/_, _%_, _^_}
 use mathlib.Core.Bool.{Bool, false, not, _&&_, _||_, cond}
-use lib.Dec.{eqb, ltb}
+use lib.Dec.{eqb, leb, ltb}
 use Rattle.exchange.specs.Counting.Sets.{Set, indicator, all}
 
 -- how many columns a word has room for
@@ -30,6 +30,14 @@ inserted S j x = S x || (eqb x j && ltb j width)
 -- S without column j
 unfoldable pub removed : Set → ℕ → Set
 removed S j x = S x && not (eqb x j)
+
+-- S moved m columns up, as far as a word has room
+unfoldable pub moved-up : Set → ℕ → Set
+moved-up S m x = leb m x && S (x - m) && ltb x width
+
+-- S moved m columns down
+unfoldable pub moved-down : Set → ℕ → Set
+moved-down S m x = S (m + x)
 
 -- the least member of S below n, or n
 unfoldable pub least : ℕ → Set → ℕ

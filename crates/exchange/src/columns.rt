@@ -6,7 +6,7 @@ ghost use lib.Dec.{eqb};
 ghost use lib.ListN.{getD, take};
 ghost use Rattle.exchange.specs.Counting.Sets.{_∪_, _∩_, ∁, #};
 ghost use Rattle.exchange.specs.Bytes.{number, bytesOf};
-ghost use Rattle.exchange.specs.Columns.{width, members, none, upto, inserted, removed, least, within};
+ghost use Rattle.exchange.specs.Columns.{width, members, none, upto, inserted, removed, moved-up, moved-down, least, within};
 
 // The word with no column, and that with all.
 const EMPTY: u64 = 0;
@@ -93,6 +93,26 @@ pub fn size(set: u64) -> usize
     ensures { λ r. ⌜ r ≡ # width (members set) ⌝ }
 {
     u64::count_ones(set) as usize
+}
+
+// The columns of the set moved m up; those that a word has no room for are gone.
+pub fn raised(set: u64, m: usize) -> u64
+    ensures { λ r. ⌜ members r ≡ moved-up (members set) m ⌝ }
+{
+    if m < 64 {
+        return set << m;
+    }
+    EMPTY
+}
+
+// The columns of the set from m on, moved m down.
+pub fn lowered(set: u64, m: usize) -> u64
+    ensures { λ r. ⌜ members r ≡ moved-down (members set) m ⌝ }
+{
+    if m < 64 {
+        return set >> m;
+    }
+    EMPTY
 }
 
 // Whether every column of the set is below n.

@@ -12,7 +12,7 @@ ghost use Rattle.exchange.specs.Columns.{members, within};
 ghost use Rattle.exchange.specs.Solution.{Solved};
 ghost use Rattle.exchange.specs.Solve.{Solves};
 ghost use Rattle.exchange.specs.Code.Cells.{Below};
-ghost use Rattle.exchange.specs.Code.Held.{Given, model-of, Shown};
+ghost use Rattle.exchange.specs.Code.Held.{Given, model-of, ShowsConstants};
 
 mod admission;
 pub mod columns;
@@ -56,7 +56,7 @@ fn answer(
     offered: u64,
 ) -> Solution
     requires { ⌜ (length (now t) ≡ 4096) × (n ≤ 64) × (a ≤ 64) × (b ≤ 64) × (b ≤ length (now parameters)) × (within n offered ≡ true) × (isPrime p ≡ true) × Below p (now t) ⌝ }
-    ensures { λ r. ⌜ (r .valid ≡ true) × ((G : Given p n b (now (parameters .entry))) → Shown p n a b (now (parameters .entry)) G (now (t .entry)) → ((x : ℕ) → (x ∈ members offered) ↔ ((x < n) × (x ∈ G .E))) → Solved (model-of p n a b (now (parameters .entry)) G) (r .rank) (members (r .placed)) (members (r .constants)) (members (r .short)) (r .rows)) ⌝ }
+    ensures { λ r. ⌜ (r .valid ≡ true) × ((G : Given p n b (now (parameters .entry))) → ShowsConstants p n a b (now (parameters .entry)) G (now (t .entry)) → ((x : ℕ) → (x ∈ members offered) ↔ ((x < n) × (x ∈ G .E))) → Solved (model-of p n a b (now (parameters .entry)) G) (r .rank) (members (r .placed)) (members (r .constants)) (members (r .short)) (r .rows)) ⌝ }
 {
     let mut owner = [n as u8; 128];
     let placed = offering::offer_all(t, &mut owner, parameters, p, n, a, b, offered);

@@ -22,7 +22,7 @@ use Rattle.exchange.specs.Layered.Model.{Model}
 use Rattle.exchange.specs.Layered.Rank.{rank, placed, short, verdict}
 use Rattle.exchange.specs.Layered.ColumnOrder.{placed-size}
 use Rattle.exchange.specs.Solution.{Solved}
-use Rattle.exchange.specs.Solve.{all-below, fitting, admissible}
+use Rattle.exchange.specs.Solve.{all-below, fitting, admissible, Shown}
 use Rattle.exchange.specs.SolveLaws.{all-below-iff, fitting-reads, admissible-reads}
 use Rattle.solvability.specs.Model.{model}
 use Rattle.solvability.specs.Demand.{demand3-reported}
@@ -53,8 +53,12 @@ module _ (p n a b : ℕ) (cs ws : List ℕ) (offered : ℕ) (m : members offered
   offered-inside : n ≤ width → within n offered ≡ true
   offered-inside h = within-iff n offered .1 (λ x l e. upto-iff n x h .0 (sym (ap (λ (S : Set). S x) m) ∙ e))
 
-  pub offered-all : n ≤ width → (x : ℕ) → x < n → true ≡ members offered x
+  offered-all : n ≤ width → (x : ℕ) → x < n → true ≡ members offered x
   offered-all h x l = sym (ap (λ (S : Set). S x) m ∙ upto-iff n x h .1 l)
+
+  -- the model is the one that the numbers show
+  pub shows-model : n ≤ width → Shown p n a b offered cs ws (model p n a b cs ws .Q) (model p n a b cs ws .T) (λ x. true)
+  shows-model h = record { constants = λ i x li lx. refl; parameters = λ r x lr lx. refl; columns = offered-all h }
 
   pub accepted-taken : refusal p n a b cs ws ≡ 0 → admissible p n a b offered cs ws ≡ true
   unfolding admissible fitting

@@ -18,4 +18,8 @@ pub mod RefusalLaws
 pub mod TestLaws
 pub mod Answers
 pub mod AnswerLaws
+pub mod MixedForm
+pub mod MixedEntries
+pub mod MixedAnswers
+pub mod MixedAnswerLaws
 pub mod File

@@ -19,3 +19,6 @@ pub const TRAILING: u32 = 7;
 pub const AREA_SHORT: u32 = 8;
 
 pub const ROW_BEYOND: u32 = 9;
+
+// The modeller with a mixed question.
+pub const NOT_MIXED: u32 = 10;

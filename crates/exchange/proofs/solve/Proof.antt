@@ -9,8 +9,7 @@ use Rattle.residue.specs.Primes.{isPrime-reads}
 use Rattle.exchange.specs.Counting.Sets.{Set, _∈_}
 use Rattle.exchange.specs.Columns.{members}
 use Rattle.exchange.specs.Words.Operations.{members-below, within-iff}
-use Rattle.exchange.specs.Modulus.{modulus, residue-of}
-use Rattle.exchange.specs.ListedModel.{entries, parameters}
+use Rattle.exchange.specs.Modulus.{residue-of}
 use Rattle.exchange.specs.Solve.{admissible}
 use Rattle.exchange.specs.SolveLaws.{all-below-iff, fitting-reads, admissible-reads}
 use Rattle.exchange.specs.Code.Cells.{zeros-below, filled-below}
@@ -67,12 +66,12 @@ returns-2 c =
     record {
       is-valid = c .answer .ensures .0 ∙ sym ok;
       if-not = λ z. absurd (true≢false (sym ok ∙ z));
-      if-valid = λ z E m.
-          let G : Given (a .p) (a .n) (a .b) (a .parameters .now) = record { Q = entries (modulus (a .p) .0) (modulus (a .p) .1) (a .n) (a .constants .now); T = parameters (a .parameters .now); E = E; parameters = λ r x lr lx. refl } in
-          c .answer .ensures .1 G (λ i x li lx. ap (residue-of (a .p)) (fl .1 .done i x li lx))
+      if-valid = λ z Q T E m.
+          let G : Given (a .p) (a .n) (a .b) (a .parameters .now) = record { Q = Q; T = T; E = E; parameters = m .parameters } in
+          c .answer .ensures .1 G (λ i x li lx. ap (residue-of (a .p)) (fl .1 .done i x li lx) ∙ sym (m .constants i x li lx))
           (λ x. (
-            (λ e. let l : x < a .n = within-iff (a .n) (a .offered) .0 (g .inside) x (members-below (a .offered) x (search needs) e) e in (l, m x l ∙ e)),
-            λ w. sym (m x (w .0)) ∙ w .1,
+            (λ e. let l : x < a .n = within-iff (a .n) (a .offered) .0 (g .inside) x (members-below (a .offered) x (search needs) e) e in (l, m .columns x l ∙ e)),
+            λ w. sym (m .columns x (w .0)) ∙ w .1,
           ));
     }
 

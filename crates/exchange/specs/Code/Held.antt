@@ -54,8 +54,8 @@ abbrev pub model-of : (p n a b : ℕ) (ws : List ℕ) → Given p n b ws → Mod
 model-of p n a b ws G = model-modulo (modulus p .0) (modulus p .1) n a b (G .Q) (G .T) (G .E)
 
 -- the tableau shows the constants
-abbrev pub Shown : (p n a b : ℕ) (ws : List ℕ) → Given p n b ws → List ℕ → Type 0
-Shown p n a b ws G t = (i x : ℕ) → i < a → x < n → residue-of p (cell t i x) ≡ G .Q i x
+abbrev pub ShowsConstants : (p n a b : ℕ) (ws : List ℕ) → Given p n b ws → List ℕ → Type 0
+ShowsConstants p n a b ws G t = (i x : ℕ) → i < a → x < n → residue-of p (cell t i x) ≡ G .Q i x
 
 module _ (p n a b : ℕ) (ws : List ℕ) (G : Given p n b ws) where
   abbrev pub M : Model

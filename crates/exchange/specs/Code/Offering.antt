@@ -24,7 +24,7 @@ use Rattle.exchange.specs.Layered.Valid.{state}
 use Rattle.exchange.specs.Layered.Seating.{empty-valid}
 use Rattle.exchange.specs.Code.Cells.{cell}
 use Rattle.exchange.specs.Code.Reading.{owned}
-use Rattle.exchange.specs.Code.Held.{Given, model-of, Shown, Held}
+use Rattle.exchange.specs.Code.Held.{Given, model-of, ShowsConstants, Held}
 use Rattle.exchange.specs.Code.Placing.{Placing}
 
 -- ---- columns that are not offered are passed over
@@ -156,7 +156,7 @@ pub record Offered-all (p n a b : ℕ) (ws : List ℕ) (G : Given p n b ws) (t o
 -- ---- nothing is placed at first
 
 module _ (p n a b : ℕ) (ws : List ℕ) (t o : List ℕ) (free : (q : ℕ) → q < a + b → owned o q ≡ n) where
-  pub offers-start : (offered : Set) (G : Given p n b ws) → Shown p n a b ws G t → ((x : ℕ) → (x ∈ offered) ↔ ((x < n) × (x ∈ G .E))) → Offers p n a b ws offered t o G
+  pub offers-start : (offered : Set) (G : Given p n b ws) → ShowsConstants p n a b ws G t → ((x : ℕ) → (x ∈ offered) ↔ ((x < n) × (x ∈ G .E))) → Offers p n a b ws offered t o G
   unfolding state
   offers-start offered G h m =
       let M = model-of p n a b ws G in

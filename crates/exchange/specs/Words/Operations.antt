@@ -2,21 +2,21 @@
 use mathlib.Core.Path.{_≡_, refl, sym, ap, ap₂, _∙_, subst, fun-ext}
 use mathlib.Core.Bool.{Bool, true, false, not, _&&_, _||_, cond, true≢false}
 use mathlib.Core.Logic.{_≢_, _↔_, ⊎-elim}
-use Prim.Native.Nat.{ℕ, zero, suc, _+_, _-_, _/_, _%_, _^_, _≤_, _<_, min, max}
-use native.Mathlib.Nat.{mod-lt, mod-le, mod-eq-of-lt, div-eq-of-lt, div-lt-iff-lt-mul, zero-min, pow-suc, not-suc-le-zero, le-of-suc-le-suc}
+use Prim.Native.Nat.{ℕ, zero, suc, _+_, _-_, _*_, _/_, _%_, _^_, _≤_, _<_, min, max}
+use native.Mathlib.Nat.{mod-lt, mod-le, mod-eq-of-lt, div-eq-of-lt, div-lt-iff-lt-mul, zero-min, pow-suc, mul-div-cancel, mul-mod-left, mul-assoc, not-suc-le-zero, le-of-suc-le-suc}
 use native.Mathlib.Numerals.{add-one, one-add}
 use native.Mathlib.Decide.{ℕ-discrete, decLt}
 use native.Mathlib.Omega.{arith}
 use lib.Arith.{lt-one}
-use lib.Dec.{lit<, eqb, ltb}
+use lib.Dec.{lit<, eqb, leb, ltb}
 use lib.Pow.{pow-pos, pow-mono, pow-add, pow-lt, mod-pow-add, shr-shr}
 use lib.Bits.{bitAnd, bitOr}
 use lib.Count.{ones, ones-cat, trailingZeros, under}
-use borrow.Author.Tests.{eq-eqb, ne-eqb, eqb-true, lt-ltb, le-ltb, ltb-true}
+use borrow.Author.Tests.{le-leb, lt-leb, eq-eqb, ne-eqb, eqb-true, lt-ltb, le-ltb, ltb-true}
 use Rattle.exchange.specs.Counting.Bools.{true?, not-true, iff-eq, implies, implied}
 use Rattle.exchange.specs.Counting.Sets.{Set, _∈_, _∩_, _∪_, ∁, indicator, #, all}
 use Rattle.exchange.specs.Counting.Counts.{all-iff, #-⊖}
-use Rattle.exchange.specs.Columns.{width, bit, members, none, upto, inserted, removed, least, word-of, within}
+use Rattle.exchange.specs.Columns.{width, bit, members, none, upto, inserted, removed, moved-up, moved-down, least, word-of, within}
 use Rattle.exchange.specs.Words.Bits.{bit-lt, two-cases, bit-suc, bit-zero, bit-and, bit-or, bit-not, bit-pow-same, bit-pow-other, bit-of-zero, bit-mod, bits-ext}
 
 -- ---- members by their bits
@@ -49,6 +49,26 @@ members-pow j x = elim (ℕ-discrete x j) [
 members-mod : (k w x : ℕ) → x < k → members (w % 2 ^ k) x ≡ members w x
 unfolding members
 members-mod k w x l = ap (λ (b : ℕ). eqb b 1) (bit-mod k w x l)
+
+pub members-half : (w x : ℕ) → members w (suc x) ≡ members (w / 2) x
+unfolding members
+members-half w x = ap (λ (b : ℕ). eqb b 1) (bit-suc w x)
+
+-- a multiple of 2 ^ m has no member below m
+low-none : (m w x : ℕ) → x < m → members (w * 2 ^ m) x ≡ false
+unfolding members
+low-none zero w x l = absurd (omega arith)
+low-none (suc m) w zero l = at-zero
+  where
+    twice : w * 2 ^ suc m ≡ w * 2 ^ m * 2
+    twice = ap (λ (k : ℕ). w * k) (pow-suc 2 m) ∙ sym (mul-assoc w (2 ^ m) 2)
+
+    at-zero : members (w * 2 ^ suc m) 0 ≡ false
+    at-zero = ap (λ (b : ℕ). eqb b 1) (bit-zero (w * 2 ^ suc m) ∙ ap (λ (k : ℕ). k % 2) twice ∙ mul-mod-left (w * 2 ^ m) 2)
+low-none (suc m) w (suc x) l =
+    members-half (w * 2 ^ suc m) x
+    ∙ ap (λ (v : ℕ). members v x) (ap (λ (k : ℕ). k / 2) (ap (λ (k : ℕ). w * k) (pow-suc 2 m) ∙ sym (mul-assoc w (2 ^ m) 2)) ∙ mul-div-cancel (w * 2 ^ m) (lit< tt))
+    ∙ low-none m w x (omega arith)
 
 -- ---- the set operations
 
@@ -96,6 +116,10 @@ members-less v w hv hw = fun-ext (λ x. elim (decLt x width) [ yes l ↦ low x l
         ap (λ (b : ℕ). eqb b 1) (both-bits x)
         ∙ none-high (bit v x) _ (bit-lt v x) (members-beyond width v x hv h)
         ∙ sym (ap (λ b. b && not (members w x)) (members-beyond width v x hv h))
+
+and-none : (b : Bool) → false ≡ (b && false)
+and-none true = refl
+and-none false = refl
 
 and-true : (b : Bool) → b ≡ (b && true)
 and-true true = refl
@@ -154,16 +178,41 @@ upto-wide n h = fun-ext (λ x. elim (decLt x width) [
   | yes l ↦ ap₂ _&&_ (lt-ltb x width l ∙ sym (lt-ltb x n (omega arith))) refl
   | no nl ↦ rw (le-ltb x width (omega arith)) (and-none (ltb x n))
 ])
+
+-- ---- columns moved up and down
+
+pub members-down : (w m : ℕ) → members (w / 2 ^ m) ≡ moved-down (members w) m
+unfolding members moved-down
+members-down w m = fun-ext (λ x. ap (λ (q : ℕ). eqb (q % 2) 1) (shr-shr w m x))
+
+pub none-down : (w m : ℕ) → w < 2 ^ width → width ≤ m → none ≡ moved-down (members w) m
+unfolding moved-down
+none-down w m h l = fun-ext (λ x. sym (members-beyond width w (m + x) h (omega arith)))
+
+pub members-up : (w m : ℕ) → members (w * 2 ^ m % 2 ^ width) ≡ moved-up (members w) m
+unfolding moved-up moved-down
+members-up w m = fun-ext (λ x. elim (decLt x width) [
+  | no nl ↦ members-beyond width (w * 2 ^ m % 2 ^ width) x (mod-lt (w * 2 ^ m) (pow-pos width)) (omega arith) ∙ rw (le-ltb x width (omega arith)) (and-none (leb m x && members w (x - m)))
+  | yes l ↦ members-mod width (w * 2 ^ m) x l ∙ rw (lt-ltb x width l) (shifted x ∙ and-true (leb m x && members w (x - m)))
+])
   where
-    and-none : (b : Bool) → (false && false) ≡ (b && false)
-    and-none true = refl
-    and-none false = refl
+    shifted : (x : ℕ) → members (w * 2 ^ m) x ≡ (leb m x && members w (x - m))
+    shifted x = elim (decLt x m) [
+      | yes l ↦ low-none m w x l ∙ sym (ap (λ b. b && members w (x - m)) (lt-leb m x l))
+      | no nl ↦
+          let at : m + (x - m) ≡ x = omega arith in
+          ap (members (w * 2 ^ m)) (sym at) ∙ sym (ap (λ (S : Set). S (x - m)) (members-down (w * 2 ^ m) m)) ∙ ap (λ (v : ℕ). members v (x - m)) (mul-div-cancel w (pow-pos m))
+          ∙ sym (ap (λ b. b && members w (x - m)) (le-leb m x (omega arith)))
+    ]
+
+pub none-up : (S : Set) (m : ℕ) → width ≤ m → none ≡ moved-up S m
+unfolding moved-up
+none-up S m h = fun-ext (λ x. elim (decLt x m) [
+  | yes l ↦ ap (λ b. b && S (x - m) && ltb x width) (sym (lt-leb m x l))
+  | no nl ↦ rw (le-ltb x width (omega arith)) (and-none (leb m x && S (x - m)))
+])
 
 -- ---- the least column
-
-pub members-half : (w x : ℕ) → members w (suc x) ≡ members (w / 2) x
-unfolding members
-members-half w x = ap (λ (b : ℕ). eqb b 1) (bit-suc w x)
 
 pub least-zeros : (k w : ℕ) → trailingZeros k w ≡ least k (members w)
 unfolding trailingZeros least members

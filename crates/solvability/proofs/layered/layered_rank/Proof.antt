@@ -10,7 +10,7 @@ use Rattle.exchange.specs.SolveLaws.{admissible-reads, fitting-reads}
 use Rattle.exchange.specs.Solution.{Solved}
 use Rattle.solvability.specs.Model.{model}
 use Rattle.solvability.specs.Refusals.{refusal}
-use Rattle.solvability.specs.AnswerLaws.{accepted-beforehand, offered-all, accepted-taken, taken-accepted, rank-small, answered}
+use Rattle.solvability.specs.AnswerLaws.{accepted-beforehand, shows-model, accepted-taken, taken-accepted, rank-small, answered}
 use borrow.Author.Needs.{needs}
 use native.Mathlib.Omega.{arith}
 use Rattle.solvability.proofs.layered.layered_rank.Statement.{statement}
@@ -63,7 +63,7 @@ cast-rank c =
     let a = c .before .before .before .before .before .before .before .before .before .before .args in
     let g : admissible (a .p) (a .n) (a .a) (a .b) _ (a .constants .now) (a .parameters .now) ≡ true = sym (c .before .before .before .before .solve .ensures .is-valid) ∙ not-false _ (c .before .before .if2 .left) in
     let small = fitting-reads _ _ _ _ _ (admissible-reads _ _ _ _ _ _ _ g .fits) .columns in
-    let s = c .before .before .before .before .solve .ensures .if-valid g (λ x. true) (offered-all (a .p) (a .n) (a .a) (a .b) (a .constants .now) (a .parameters .now) _ (c .before .before .before .before .before .below .ensures) small) in
+    let s = c .before .before .before .before .solve .ensures .if-valid g _ _ _ (shows-model (a .p) (a .n) (a .a) (a .b) (a .constants .now) (a .parameters .now) _ (c .before .before .before .before .before .below .ensures) small) in
     omega (arith, s .is-rank, rank-small (model (a .p) (a .n) (a .a) (a .b) (a .constants .now) (a .parameters .now)))
 
 returns-3 : tie.Need-returns-3
@@ -71,7 +71,7 @@ returns-3 c =
     let a = c .before .before .before .before .before .before .before .before .before .before .before .args in
     let g : admissible (a .p) (a .n) (a .a) (a .b) _ (a .constants .now) (a .parameters .now) ≡ true = sym (c .before .before .before .before .before .solve .ensures .is-valid) ∙ not-false _ (c .before .before .before .if2 .left) in
     let small = fitting-reads _ _ _ _ _ (admissible-reads _ _ _ _ _ _ _ g .fits) .columns in
-    let s = c .before .before .before .before .before .solve .ensures .if-valid g (λ x. true) (offered-all (a .p) (a .n) (a .a) (a .b) (a .constants .now) (a .parameters .now) _ (c .before .before .before .before .before .before .below .ensures) small) in
+    let s = c .before .before .before .before .before .solve .ensures .if-valid g _ _ _ (shows-model (a .p) (a .n) (a .a) (a .b) (a .constants .now) (a .parameters .now) _ (c .before .before .before .before .before .before .below .ensures) small) in
     let known = c .before .before .before .before .struct-known .given in
     let zero : refusal (a .p) (a .n) (a .a) (a .b) (a .constants .now) (a .parameters .now) ≡ 0 = taken-accepted (a .p) (a .n) (a .a) (a .b) (a .constants .now) (a .parameters .now) _ (c .before .before .before .before .before .before .below .ensures) (sym (c .before .before .before .before .before .before .before .before .passes-beforehand .ensures) ∙ not-false _ (c .before .before .before .before .before .before .before .if1 .left)) g in
     record {
