@@ -13,3 +13,4 @@ pub mod RowLaws
 pub mod HandedLaws
 pub mod ReadLaws
 pub mod LookupLaws
+mod Example

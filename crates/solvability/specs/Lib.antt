@@ -23,3 +23,4 @@ pub mod MixedEntries
 pub mod MixedAnswers
 pub mod MixedAnswerLaws
 pub mod File
+pub mod Readings

@@ -1,21 +1,13 @@
 -- How refusals read: number k is given exactly where cause k holds and none that is judged before it; 0, where none holds.
 -- Stated once over a list of tests; then what each test says, and what holds of a model that is accepted. Assumes nothing.
-use Prim.Native.Nat.{ℕ, zero, suc, _+_, _-_, _*_, _≤_, _<_}
-use mathlib.Core.Path.{_≡_, refl, sym, ap, _∙_, subst}
+use Prim.Native.Nat.{ℕ, zero, suc, _-_, _<_}
+use mathlib.Core.Path.{_≡_, refl, sym, ap, _∙_}
 use mathlib.Core.Logic.{_≢_, _↔_}
-use mathlib.Core.Bool.{Bool, true, false, _&&_, true≢false, false≢true}
-use mathlib.Core.List.{List, [], _∷_, _++_}
+use mathlib.Core.Bool.{Bool, true, false, false≢true}
+use mathlib.Core.List.{[], _∷_}
 use native.Mathlib.Omega.{arith}
-use lib.ListN.{length, getD, take}
-use lib.Dec.{leb, ltb, eqb}
-use borrow.Author.Tests.{leb-true, ltb-true, eqb-true, le-leb, lt-ltb, eq-eqb}
-use Rattle.residue.specs.Arithmetic.{isPrime, Prime}
-use Rattle.residue.specs.Primes.{isPrime-reads}
-use Rattle.exchange.specs.Columns.{within}
-use Rattle.exchange.specs.Counting.Bools.{and-in, and-left, and-right}
-use Rattle.solvability.specs.Lists.{every, All}
-use Rattle.solvability.specs.ListLaws.{every-all, all-at}
-use Rattle.solvability.specs.Refusals.{Cause, truncated, unexpected, notPrime, sizesBeyond, constantBeyond, parameterBeyond, trailing, areaShort, rowBeyond, notMixed, numberOf, Tests, unless, _then_, firstRefusal, whereAccepted, largestPrime, mostColumns, mostRows, headTest, bodyTest, dueTest, primeTest, sizeTest, constantTest, parameterTest, endTest, areaTest, rowTest, modelTests, refusal}
+use Rattle.solvability.specs.Lists.{All}
+use Rattle.solvability.specs.Refusals.{Cause, truncated, unexpected, notPrime, sizesBeyond, constantBeyond, parameterBeyond, trailing, areaShort, rowBeyond, notMixed, numberOf, Tests, unless, _then_, firstRefusal, whereAccepted, refusal}
 
 -- ---- the reading of a number
 

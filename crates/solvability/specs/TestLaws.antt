@@ -1,8 +1,8 @@
 -- What each test says, and what holds of a model handed over that is accepted. Assumes nothing.
-use Prim.Native.Nat.{ℕ, zero, suc, _+_, _-_, _*_, _≤_, _<_}
-use mathlib.Core.Path.{_≡_, refl, sym, ap, _∙_}
+use Prim.Native.Nat.{ℕ, _+_, _-_, _*_, _≤_, _<_}
+use mathlib.Core.Path.{_≡_, sym, ap, _∙_}
 use mathlib.Core.Logic.{_↔_}
-use mathlib.Core.Bool.{Bool, true, false, _&&_}
+use mathlib.Core.Bool.{Bool, true, _&&_}
 use mathlib.Core.List.{List}
 use native.Mathlib.Omega.{arith}
 use lib.ListN.{length, getD, take}
@@ -13,7 +13,7 @@ use Rattle.residue.specs.Arithmetic.{isPrime, Prime}
 use Rattle.residue.specs.Primes.{isPrime-reads}
 use Rattle.exchange.specs.Columns.{within}
 use Rattle.exchange.specs.Counting.Bools.{and-in, and-left, and-right}
-use Rattle.solvability.specs.Lists.{every, All}
+use Rattle.solvability.specs.Lists.{All}
 use Rattle.solvability.specs.ListLaws.{every-all, all-at}
 use Rattle.solvability.specs.Refusals.{largestPrime, mostColumns, mostRows, headTest, bodyTest, dueTest, primeTest, sizeTest, constantTest, parameterTest, endTest, areaTest, rowTest, modelTests, refusal}
 use Rattle.solvability.specs.RefusalLaws.{acceptance-reads}

@@ -2,37 +2,28 @@
 ghost use mathlib.Core.Path.{_≡_};
 ghost use Prim.Native.Nat.{_≤_};
 ghost use lib.ListN.{length};
-ghost use Rattle.solvability.specs.Refusals.{firstRefusal, dueTest, bodyTest};
+ghost use Rattle.solvability.specs.Refusals.{firstRefusal, mostColumns, mostRows, dueTest, bodyTest};
 ghost use Rattle.solvability.specs.File.Piece.{headTests, many, closed};
 ghost use Rattle.solvability.specs.File.Format.{constantRow, parameterRow, endField, rowFields, sizeFields, judge};
 use crate::content::entries_below;
 use crate::content::prime_within;
 use crate::content::sizes_within;
 use crate::content::two;
-use crate::refusals::CONSTANT_BEYOND;
-use crate::refusals::NOT_PRIME;
-use crate::refusals::PARAMETER_BEYOND;
-use crate::refusals::SIZES_BEYOND;
-use crate::refusals::TRAILING;
-use crate::refusals::TRUNCATED;
-use crate::refusals::UNEXPECTED;
+use crate::refusals;
 
 // The refusal of a field up to its content, or 0.
 pub fn judge_head(rest: &[u8], tag: u8, size: usize) -> u32
     ensures { λ r. ⌜ r ≡ firstRefusal (headTests tag size (now (rest .entry))) ⌝ }
 {
     if rest.len() < 3 {
-        return TRUNCATED;
+        return refusals::TRUNCATED;
     }
     let due = is_due(rest, tag, size);
     let whole = has_body(rest, size);
     if !due {
-        return UNEXPECTED;
+        return refusals::UNEXPECTED;
     }
-    if !whole {
-        return TRUNCATED;
-    }
-    0
+    if whole { 0 } else { refusals::TRUNCATED }
 }
 
 fn is_due(rest: &[u8], tag: u8, size: usize) -> bool
@@ -53,7 +44,7 @@ fn has_body(rest: &[u8], size: usize) -> bool
 }
 
 fn judge_constant_row(rest: &[u8], p: u32, n: usize) -> u32
-    requires { ⌜ n ≤ 64 ⌝ }
+    requires { ⌜ n ≤ mostColumns ⌝ }
     ensures { λ r. ⌜ r ≡ firstRefusal (constantRow p n .tests (now (rest .entry))) ⌝ }
 {
     let size = 2 * n;
@@ -63,13 +54,13 @@ fn judge_constant_row(rest: &[u8], p: u32, n: usize) -> u32
     }
     let end = 3 + size;
     if !entries_below(&rest[3..end], p) {
-        return CONSTANT_BEYOND;
+        return refusals::CONSTANT_BEYOND;
     }
     0
 }
 
 fn judge_constant_rows(file: &[u8], p: u32, n: usize, a: usize) -> u32
-    requires { ⌜ n ≤ 64 ⌝ }
+    requires { ⌜ n ≤ mostColumns ⌝ }
     ensures { λ r. ⌜ r ≡ firstRefusal (many a (constantRow p n) .tests (now (file .entry))) ⌝ }
 {
     let size = 3 + 2 * n;
@@ -95,7 +86,7 @@ fn judge_parameter_row(rest: &[u8], n: usize) -> u32
     }
     let set = exchange::columns::of_bytes(&rest[3..11]);
     if !exchange::columns::within(set, n) {
-        return PARAMETER_BEYOND;
+        return refusals::PARAMETER_BEYOND;
     }
     0
 }
@@ -124,14 +115,14 @@ fn judge_end(rest: &[u8]) -> u32
         return r;
     }
     if rest.len() != 3 {
-        return TRAILING;
+        return refusals::TRAILING;
     }
     0
 }
 
 // The fields from tag 3 on.
 fn judge_row_fields(rest: &[u8], p: u32, n: usize, a: usize, b: usize) -> u32
-    requires { ⌜ (n ≤ 64) × (a ≤ 64) × (b ≤ 64) ⌝ }
+    requires { ⌜ (n ≤ mostColumns) × (a ≤ mostRows) × (b ≤ mostRows) ⌝ }
     ensures { λ r. ⌜ r ≡ firstRefusal (closed (rowFields p (n, a, b)) (now (rest .entry))) ⌝ }
 {
     let r = judge_constant_rows(rest, p, n, a);
@@ -160,7 +151,7 @@ fn judge_size_fields(rest: &[u8], p: u32) -> u32
     let a = rest[4] as usize;
     let b = rest[5] as usize;
     if !sizes_within(n, a, b) {
-        return SIZES_BEYOND;
+        return refusals::SIZES_BEYOND;
     }
     judge_row_fields(&rest[6..], p, n, a, b)
 }
@@ -175,7 +166,7 @@ pub fn judge_bytes(file: &[u8]) -> u32
     }
     let p = two(file[3], file[4]);
     if !prime_within(p) {
-        return NOT_PRIME;
+        return refusals::NOT_PRIME;
     }
     judge_size_fields(&file[5..], p)
 }

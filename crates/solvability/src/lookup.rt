@@ -1,10 +1,11 @@
 // A constant row, looked up in a file.
 ghost use mathlib.Core.Path.{_≡_};
 ghost use Prim.Native.Nat.{_+_};
-ghost use Rattle.solvability.specs.File.Format.{lookupRefusal, lookup, lookupStart};
+ghost use lib.ListN.{length};
+ghost use Rattle.solvability.specs.File.Format.{lookupRefusal, lookup, lookupStart, lookupLength};
 use crate::header::sizes_of;
 use crate::reader::judge_file;
-use crate::refusals::ROW_BEYOND;
+use crate::refusals;
 
 // The refusal of a lookup of constant row i, or 0.
 pub fn judge_row(file: &[u8], i: usize) -> u32
@@ -16,14 +17,14 @@ pub fn judge_row(file: &[u8], i: usize) -> u32
     }
     let sizes = sizes_of(file);
     if i >= sizes.a {
-        return ROW_BEYOND;
+        return refusals::ROW_BEYOND;
     }
     0
 }
 
 // The bytes of constant row i, as that part of the file itself, or an empty part where judge_row gives a refusal.
 pub fn row(file: &[u8], i: usize) -> &[u8]
-    ensures { λ r. ⌜ (now r ≡ lookup (now (file .entry)) i) × (r .ptr .0 ≡ file .entry .ptr .0) × (r .ptr .1 ≡ lookupStart (now (file .entry)) i + file .entry .ptr .1) ⌝ }
+    ensures { λ r. ⌜ (now r ≡ lookup (now (file .entry)) i) × (r .ptr .0 ≡ file .entry .ptr .0) × (r .ptr .1 ≡ lookupStart (now (file .entry)) i + file .entry .ptr .1) × (length (now r) ≡ lookupLength (now (file .entry)) i) ⌝ }
 {
     let r = judge_row(file, i);
     if r != 0 {

@@ -5,11 +5,7 @@ use crate::content::constants_below;
 use crate::content::parameters_within;
 use crate::content::prime_within;
 use crate::content::sizes_within;
-use crate::refusals::AREA_SHORT;
-use crate::refusals::CONSTANT_BEYOND;
-use crate::refusals::NOT_PRIME;
-use crate::refusals::PARAMETER_BEYOND;
-use crate::refusals::SIZES_BEYOND;
+use crate::refusals;
 
 // The refusal of a model handed over, or 0. Its constants are a rows of n each, one after the other.
 pub fn judge_model(
@@ -23,23 +19,23 @@ pub fn judge_model(
     ensures { λ r. ⌜ r ≡ refusal p n a b (now (constants .entry)) (now (parameters .entry)) ⌝ }
 {
     if !prime_within(p) {
-        return NOT_PRIME;
+        return refusals::NOT_PRIME;
     }
     if !sizes_within(n, a, b) {
-        return SIZES_BEYOND;
+        return refusals::SIZES_BEYOND;
     }
     let k = a * n;
     if constants.len() < k {
-        return AREA_SHORT;
+        return refusals::AREA_SHORT;
     }
     if parameters.len() < b {
-        return AREA_SHORT;
+        return refusals::AREA_SHORT;
     }
     if !constants_below(&constants[..k], p) {
-        return CONSTANT_BEYOND;
+        return refusals::CONSTANT_BEYOND;
     }
     if !parameters_within(&parameters[..b], n) {
-        return PARAMETER_BEYOND;
+        return refusals::PARAMETER_BEYOND;
     }
     0
 }

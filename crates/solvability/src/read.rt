@@ -3,6 +3,7 @@ ghost use mathlib.Core.Path.{_≡_};
 ghost use Prim.Native.Nat.{_+_, _*_, _≤_};
 ghost use lib.ListN.{length};
 ghost use Rattle.solvability.specs.Lists.{over};
+ghost use Rattle.solvability.specs.Refusals.{mostColumns};
 ghost use Rattle.solvability.specs.File.Format.{entries, Reading};
 ghost use Rattle.solvability.specs.File.Steps.{constantsOf, parametersOf};
 use crate::content::two;
@@ -10,7 +11,7 @@ use crate::header::Sizes;
 use crate::header::no_sizes;
 use crate::header::sizes_of;
 use crate::reader::judge_file;
-use crate::refusals::AREA_SHORT;
+use crate::refusals;
 
 // The model of a file: its constants row after row over the front of their area, its parameter rows over the front of theirs.
 pub fn read_file(file: &[u8], constants: &mut [u16], parameters: &mut [u64]) -> Sizes
@@ -25,10 +26,10 @@ pub fn read_file(file: &[u8], constants: &mut [u16], parameters: &mut [u64]) -> 
     let a = sizes.a;
     let b = sizes.b;
     if constants.len() < a * n {
-        return no_sizes(AREA_SHORT);
+        return no_sizes(refusals::AREA_SHORT);
     }
     if parameters.len() < b {
-        return no_sizes(AREA_SHORT);
+        return no_sizes(refusals::AREA_SHORT);
     }
     read_constants(constants, &file[11..], n, a);
     let at = 11 + a * (3 + 2 * n);
@@ -52,7 +53,7 @@ fn read_entries(out: &mut [u16], body: &[u8])
 
 // The constants of the rows that stand first in the file's rest.
 fn read_constants(out: &mut [u16], file: &[u8], n: usize, a: usize)
-    requires { ⌜ (n ≤ 64) × (a * (3 + 2 * n) ≤ length (now file)) × (a * n ≤ length (now out)) ⌝ }
+    requires { ⌜ (n ≤ mostColumns) × (a * (3 + 2 * n) ≤ length (now file)) × (a * n ≤ length (now out)) ⌝ }
     ensures { λ _. ⌜ now (out .exit) ≡ over (constantsOf n a (now (file .entry))) (now (out .entry)) ⌝ }
 {
     let size = 3 + 2 * n;

@@ -5,11 +5,12 @@ ghost use Prim.Native.Nat.{_+_, _*_, _/_, _%_, _≤_};
 ghost use lib.ListN.{length};
 ghost use Rattle.exchange.specs.Bytes.{bytesOf};
 ghost use Rattle.solvability.specs.Lists.{over, rowsOf};
+ghost use Rattle.solvability.specs.Refusals.{mostColumns, mostRows};
 ghost use Rattle.solvability.specs.File.Piece.{fieldBytes};
 ghost use Rattle.solvability.specs.File.Format.{entryBytes, encode, handedOver, fileLength, Writing};
 ghost use Rattle.solvability.specs.File.Steps.{constantBytes, parameterBytes};
 use crate::model::judge_model;
-use crate::refusals::AREA_SHORT;
+use crate::refusals;
 
 // How many bytes were written; 0 where the writing is refused.
 pub struct Written {
@@ -39,7 +40,7 @@ pub fn write_file(
     let length = 14 + a * (3 + 2 * n) + 11 * b;
     if out.len() < length {
         return Written {
-            refusal: AREA_SHORT,
+            refusal: refusals::AREA_SHORT,
             length: 0,
         };
     }
@@ -57,7 +58,7 @@ fn put_file(
     constants: &[u16],
     parameters: &[u64],
 )
-    requires { ⌜ (n ≤ 64) × (a ≤ 64) × (b ≤ 64) × (a * n ≤ length (now constants)) × (b ≤ length (now parameters)) × (fileLength n a b ≤ length (now out)) ⌝ }
+    requires { ⌜ (n ≤ mostColumns) × (a ≤ mostRows) × (b ≤ mostRows) × (a * n ≤ length (now constants)) × (b ≤ length (now parameters)) × (fileLength n a b ≤ length (now out)) ⌝ }
     ensures { λ _. ⌜ now (out .exit) ≡ over (encode (handedOver p n a b (now (constants .entry)) (now (parameters .entry)))) (now (out .entry)) ⌝ }
 {
     put_prime(out, p);
@@ -119,7 +120,7 @@ fn put_entries(out: &mut [u8], row: &[u16])
 }
 
 fn put_constant_row(out: &mut [u8], row: &[u16])
-    requires { ⌜ (length (now row) ≤ 64) × (3 + 2 * length (now row) ≤ length (now out)) ⌝ }
+    requires { ⌜ (length (now row) ≤ mostColumns) × (3 + 2 * length (now row) ≤ length (now out)) ⌝ }
     ensures { λ _. ⌜ now (out .exit) ≡ over (constantBytes (length (now (row .entry))) (now (row .entry))) (now (out .entry)) ⌝ }
 {
     let size = (2 * row.len()) as u16;
@@ -129,7 +130,7 @@ fn put_constant_row(out: &mut [u8], row: &[u16])
 
 // The rows one after the other: what is left of the constants, and the part after the last row.
 fn put_constant_rows(out: &mut [u8], constants: &[u16], n: usize, a: usize)
-    requires { ⌜ (n ≤ 64) × (a * n ≤ length (now constants)) × (a * (3 + 2 * n) ≤ length (now out)) ⌝ }
+    requires { ⌜ (n ≤ mostColumns) × (a * n ≤ length (now constants)) × (a * (3 + 2 * n) ≤ length (now out)) ⌝ }
     ensures { λ _. ⌜ now (out .exit) ≡ over (flatMap (constantBytes n) (rowsOf n a (now (constants .entry)))) (now (out .entry)) ⌝ }
 {
     let size = 3 + 2 * n;

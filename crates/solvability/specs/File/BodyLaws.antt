@@ -5,7 +5,7 @@ use mathlib.Core.Bool.{true}
 use mathlib.Core.List.{List, [], _∷_}
 use native.Mathlib.Omega.{arith}
 use native.Mathlib.Nat.{pow-suc}
-use lib.ListN.{length, getD, take}
+use lib.ListN.{length, getD}
 use lib.Seq.{take-all}
 use Rattle.residue.specs.Arithmetic.{Prime}
 use Rattle.exchange.specs.Bytes.{number, bytesOf}
@@ -13,7 +13,7 @@ use Rattle.exchange.specs.Columns.{width, within}
 use Rattle.exchange.specs.Words.Bytes.{AreBytes, number-below}
 use Rattle.solvability.specs.Lists.{All}
 use Rattle.solvability.specs.Refusals.{largestPrime, mostColumns, mostRows, firstRefusal}
-use Rattle.solvability.specs.RefusalLaws.{unless-zero, zero-unless, first-none}
+use Rattle.solvability.specs.RefusalLaws.{unless-zero, zero-unless}
 use Rattle.solvability.specs.TestLaws.{prime-reads, size-reads, constant-reads}
 use Rattle.solvability.specs.File.Format.{entries, entryBytes, primeBody, sizesBody, constantBody, parameterBody, endBody}
 use Rattle.solvability.specs.File.PieceLaws.{BodyLaw}

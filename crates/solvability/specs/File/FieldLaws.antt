@@ -1,5 +1,5 @@
 -- The judgement of this format's fields, one after another, as the code goes through them. Assumes nothing.
-use Prim.Native.Nat.{ℕ, zero, suc, _+_, _*_, _-_, _≤_, _<_}
+use Prim.Native.Nat.{ℕ, _+_, _*_, _-_, _≤_, _<_}
 use mathlib.Core.Path.{_≡_, refl, sym, ap, _∙_}
 use mathlib.Core.Logic.{_≢_}
 use mathlib.Core.Bool.{true, false}
@@ -8,7 +8,6 @@ use native.Mathlib.Omega.{arith}
 use lib.ListN.{length, getD, take, drop, length-drop}
 use lib.Seq.{drop-drop, getD-take, getD-drop}
 use borrow.Author.Tests.{eq-eqb, ne-eqb}
-use Rattle.exchange.specs.Bytes.{number}
 use Rattle.solvability.specs.ListLaws.{tail-part}
 use Rattle.solvability.specs.Refusals.{firstRefusal, primeTest, sizeTest, endTest}
 use Rattle.solvability.specs.RefusalLaws.{first-fails, first-passes, first-none, then-passed, then-refused}

@@ -9,7 +9,7 @@ use Rattle.residue.specs.Arithmetic.{Prime}
 use Rattle.exchange.specs.Bytes.{number, bytesOf}
 use Rattle.exchange.specs.Columns.{width, within}
 use Rattle.solvability.specs.Lists.{All, rowsOf, over}
-use Rattle.solvability.specs.Refusals.{Tests, unless, _then_, firstRefusal, whereAccepted, notPrime, sizesBeyond, constantBeyond, parameterBeyond, areaShort, rowBeyond, largestPrime, mostColumns, mostRows, primeTest, sizeTest, constantTest, areaTest, rowTest, modelTests}
+use Rattle.solvability.specs.Refusals.{unless, _then_, firstRefusal, whereAccepted, notPrime, sizesBeyond, constantBeyond, parameterBeyond, areaShort, rowBeyond, largestPrime, mostColumns, mostRows, primeTest, sizeTest, constantTest, areaTest, rowTest, modelTests}
 use Rattle.solvability.specs.File.Piece.{Body, Piece, field, many, seq, closed}
 
 -- a model as a file holds it: a parameter row is the number that its eight bytes show
@@ -184,9 +184,12 @@ lookupRefusal s i = firstRefusal (closed fields s then unless (rowTest i (decode
 abbrev pub rowStart : ℕ → ℕ → ℕ
 rowStart n i = 14 + i * (3 + 2 * n)
 
--- where the part starts that is handed back, and the part
+-- where in the file the part starts that is handed back, and how long it is: nothing where it is refused
 unfoldable pub lookupStart : List ℕ → ℕ → ℕ
 lookupStart s i = whereAccepted (lookupRefusal s i) (rowStart (decode s .n) i) 0
 
+unfoldable pub lookupLength : List ℕ → ℕ → ℕ
+lookupLength s i = whereAccepted (lookupRefusal s i) (2 * decode s .n) 0
+
 unfoldable pub lookup : List ℕ → ℕ → List ℕ
-lookup s i = whereAccepted (lookupRefusal s i) (take (2 * decode s .n) (drop (rowStart (decode s .n) i) s)) []
+lookup s i = take (lookupLength s i) (drop (lookupStart s i) s)

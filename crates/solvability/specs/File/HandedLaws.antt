@@ -13,10 +13,10 @@ use borrow.Author.Tests.{le-leb, lt-leb}
 use Rattle.exchange.specs.Columns.{width, within}
 use Rattle.solvability.specs.Lists.{All, rowsOf, over}
 use Rattle.solvability.specs.OverLaws.{over-none}
-use Rattle.solvability.specs.Refusals.{firstRefusal, areaTest, modelTests, refusal}
+use Rattle.solvability.specs.Refusals.{areaTest, modelTests, refusal}
 use Rattle.solvability.specs.RefusalLaws.{first-fails, first-passes, first-none, then-refused, then-passed, where-refused, where-accepted}
-use Rattle.solvability.specs.TestLaws.{Accepted, model-accepted}
-use Rattle.solvability.specs.File.Format.{FileModel, Valid, judge, decode, encode, fileLength, handedOver, writeRefusal, bytesWritten, Writing}
+use Rattle.solvability.specs.TestLaws.{model-accepted}
+use Rattle.solvability.specs.File.Format.{Valid, judge, decode, encode, fileLength, handedOver, writeRefusal, bytesWritten, Writing}
 use Rattle.solvability.specs.File.FormatLaws.{decode-encode, encoded-accepted}
 use Rattle.solvability.specs.File.RowLaws.{handed-over-length}
 

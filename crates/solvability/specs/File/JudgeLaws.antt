@@ -3,16 +3,16 @@ use Prim.Native.Nat.{ℕ, zero, suc, _+_, _*_, _-_, _≤_, _<_}
 use mathlib.Core.Path.{_≡_, refl, sym, ap, _∙_}
 use mathlib.Core.Logic.{_≢_}
 use mathlib.Core.Bool.{true, false}
-use mathlib.Core.List.{List, [], _∷_, append-assoc}
+use mathlib.Core.List.{List, append-assoc}
 use native.Mathlib.Omega.{arith}
 use native.Mathlib.Nat.{zero-mul, suc-mul, mul-le-mul}
-use lib.ListN.{length, getD, take, drop, length-drop}
+use lib.ListN.{length, take, drop, length-drop}
 use lib.Seq.{drop-drop}
 use borrow.Author.Tests.{le-leb, lt-leb}
 use Rattle.solvability.specs.ListLaws.{tail-part}
-use Rattle.solvability.specs.Refusals.{Tests, _then_, unless, firstRefusal, headTest, dueTest, bodyTest, endTest, trailing}
+use Rattle.solvability.specs.Refusals.{mostColumns, mostRows, firstRefusal, headTest, dueTest, bodyTest}
 use Rattle.solvability.specs.RefusalLaws.{first-fails, first-passes, first-none, then-refused, then-passed, then-zero}
-use Rattle.solvability.specs.File.Piece.{Body, Piece, headTests, field, many, manyTests, manyRest, seq, closed}
+use Rattle.solvability.specs.File.Piece.{Body, Piece, headTests, field, manyTests, manyRest, seq, closed}
 use Rattle.solvability.specs.File.PieceLaws.{head-good}
 
 -- ---- a field's head, from the tests that a reader makes
@@ -91,5 +91,5 @@ module _ {A : Type 0} (tag : ℕ) (B : Body A) where
       rw suc-mul (omega arith)
 
 -- the constant rows of a file take no more
-pub rows-most : (a n : ℕ) → a ≤ 64 → n ≤ 64 → a * (3 + 2 * n) ≤ 8384
-rows-most a n h k = mul-le-mul h (let m : 3 + 2 * n ≤ 131 = omega arith in m)
+pub rows-most : (a n : ℕ) → a ≤ mostRows → n ≤ mostColumns → a * (3 + 2 * n) ≤ mostRows * (3 + 2 * mostColumns)
+rows-most a n h k = mul-le-mul h (let m : 3 + 2 * n ≤ 3 + 2 * mostColumns = omega arith in m)

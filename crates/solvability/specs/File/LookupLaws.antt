@@ -3,19 +3,18 @@
 use Prim.Native.Nat.{ℕ, zero, suc, _+_, _*_, _-_, _≤_, _<_}
 use mathlib.Core.Path.{_≡_, refl, sym, ap, _∙_}
 use mathlib.Core.Logic.{_≢_}
-use mathlib.Core.Bool.{true, false}
-use mathlib.Core.List.{List, [], _∷_}
+use mathlib.Core.List.{List, []}
 use native.Mathlib.Omega.{arith}
 use native.Mathlib.Nat.{mul-le-mul-right, suc-mul, zero-mul}
 use lib.ListN.{length, getD, take, drop}
 use lib.Seq.{drop-drop, getD-drop}
 use borrow.Author.Tests.{lt-ltb, le-ltb}
 use Rattle.exchange.specs.Words.Bytes.{AreBytes}
-use Rattle.solvability.specs.Refusals.{rowTest}
-use Rattle.solvability.specs.RefusalLaws.{first-fails, first-passes, first-none, then-refused, then-passed, then-zero, unless-zero, where-refused}
+use Rattle.solvability.specs.Refusals.{mostColumns, mostRows, rowTest}
+use Rattle.solvability.specs.RefusalLaws.{first-fails, first-passes, first-none, then-refused, then-passed, then-zero, unless-zero, where-refused, where-accepted}
 use Rattle.solvability.specs.TestLaws.{row-reads}
 use Rattle.solvability.specs.File.Piece.{Body, field, manyDec, closed}
-use Rattle.solvability.specs.File.Format.{sizesBody, constantBody, constantRow, rowFields, sizeFields, fields, entries, judge, decode, fileLength, lookupRefusal, rowStart, lookup, lookupStart}
+use Rattle.solvability.specs.File.Format.{sizesBody, constantBody, constantRow, rowFields, sizeFields, fields, entries, judge, decode, fileLength, lookupRefusal, rowStart, lookupStart, lookupLength, lookup}
 use Rattle.solvability.specs.File.Steps.{Header}
 use Rattle.solvability.specs.File.FormatLaws.{decoded-valid, encode-decode}
 use Rattle.solvability.specs.File.WriteLaws.{encode-length}
@@ -87,24 +86,24 @@ lookup-accepted s i e = let z = then-zero (closed fields s) _ e in (z .0, row-re
 -- ---- what is handed back
 
 module _ (s : List ℕ) (i r : ℕ) (e : r ≡ lookupRefusal s i) where
-  pub lookup-none : r ≢ 0 → ([] ≡ lookup s i) × (lookupStart s i ≡ 0)
-  unfolding lookup lookupStart
-  lookup-none h = (sym (where-refused r e h _ []), where-refused r e h _ 0)
+  pub lookup-none : r ≢ 0 → (lookupStart s i ≡ 0) × (lookupLength s i ≡ 0)
+  unfolding lookupStart lookupLength
+  lookup-none h = (where-refused r e h _ 0, where-refused r e h _ 0)
 
-  module _ (n : ℕ) (n-is : n ≡ decode s .n) (z : r ≡ 0) where
-    pub lookup-row : (k : ℕ) → k ≡ 2 * n → take k (drop (rowStart n i) s) ≡ lookup s i
-    unfolding lookup
-    lookup-row k h = rw (← e, z, h, n-is) refl
+  pub lookup-place : (n : ℕ) → n ≡ decode s .n → r ≡ 0 → (lookupStart s i ≡ rowStart n i) × (lookupLength s i ≡ 2 * n)
+  unfolding lookupStart lookupLength
+  lookup-place n q z = rw q (where-accepted r e z (rowStart (decode s .n) i) 0, where-accepted r e z (2 * decode s .n) 0)
 
-    pub lookup-start : lookupStart s i ≡ rowStart n i
-    unfolding lookupStart
-    lookup-start = rw (← e, z, n-is) refl
+-- the part at that place is what is looked up
+pub lookup-part : (s : List ℕ) (i at len : ℕ) → lookupStart s i ≡ at → lookupLength s i ≡ len → take len (drop at s) ≡ lookup s i
+unfolding lookup
+lookup-part s i at len p q = rw (p, q) refl
 
 -- the longest file, and a row within it
-pub header-most : (s : List ℕ) (p n a b : ℕ) → Header s p n a b → length s ≤ 9102
+pub header-most : (s : List ℕ) (p n a b : ℕ) → Header s p n a b → length s ≤ fileLength mostColumns mostRows mostRows
 header-most s p n a b h = omega (arith, h .whole, rows-most a n (h .a-most) (h .n-most), h .b-most)
 
-pub row-within : (s : List ℕ) (p n a b i : ℕ) → Header s p n a b → lookupRefusal s i ≡ 0 → (rowStart n i + 2 * n ≤ length s) × (length s ≤ 9102)
+pub row-within : (s : List ℕ) (p n a b i : ℕ) → Header s p n a b → lookupRefusal s i ≡ 0 → (rowStart n i + 2 * n ≤ length s) × (length s ≤ fileLength mostColumns mostRows mostRows)
 row-within s p n a b i h e =
     let l : i < a = rw (h .a-is) (lookup-accepted s i e .1) in
     let m : suc i * (3 + 2 * n) ≤ a * (3 + 2 * n) = mul-le-mul-right (3 + 2 * n) l in
@@ -129,6 +128,7 @@ lookup-is-row s i e =
     let k = i * (3 + 2 * n) in
     let q : 3 + (2 + (3 + (3 + (k + 3)))) ≡ rowStart n i = omega arith in
     let at : drop 3 (drop k rows) ≡ drop (rowStart n i) s = rw (drop-drop, drop-drop, drop-drop, drop-drop, drop-drop) (ap (λ (j : ℕ). drop j s) q) in
-    sym (ap entries (lookup-row s i (lookupRefusal s i) refl n refl e (2 * n) refl))
+    let place = lookup-place s i (lookupRefusal s i) refl n refl e in
+    sym (ap entries (lookup-part s i (rowStart n i) (2 * n) (place .0) (place .1)))
     ∙ sym (ap (λ (u : List ℕ). entries (take (2 * n) u)) at)
     ∙ sym (row-at 3 (constantBody (decode s .p) n) (decode s .a) i rows [] (lookup-accepted s i e .1))

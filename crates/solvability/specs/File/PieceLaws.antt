@@ -2,12 +2,10 @@
 -- what is of the stated form passes and is read as it was written. Assumes nothing.
 use Prim.Native.Nat.{ℕ, zero, suc, _+_, _*_, _-_, _/_, _%_, _≤_, _<_}
 use mathlib.Core.Path.{_≡_, refl, sym, ap, _∙_, subst}
-use mathlib.Core.Bool.{true}
 use mathlib.Core.List.{List, [], _∷_, _++_, append-assoc, flatMap}
 use native.Mathlib.Omega.{arith}
-use native.Mathlib.Nat.{zero-mul, suc-mul}
 use lib.ListN.{length, getD, take, drop, length-append, length-drop, take-append-drop}
-use lib.Seq.{drop-drop, take-at, drop-at, getD-drop, getD-append-add, length-take-le}
+use lib.Seq.{take-at, drop-at, getD-drop, getD-append-add, length-take-le}
 use Rattle.exchange.specs.Words.Bytes.{AreBytes}
 use Rattle.solvability.specs.Lists.{All}
 use Rattle.solvability.specs.Refusals.{firstRefusal}

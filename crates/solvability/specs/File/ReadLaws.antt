@@ -5,13 +5,13 @@ use mathlib.Core.Logic.{_≢_}
 use mathlib.Core.List.{List, [], _∷_, _++_, flatten}
 use native.Mathlib.Omega.{arith}
 use native.Mathlib.Nat.{suc-mul, zero-mul}
-use lib.ListN.{length, getD, take, drop, length-append, length-drop}
+use lib.ListN.{length, take, drop, length-append, length-drop}
 use lib.Seq.{length-take-le, drop-drop}
 use borrow.Author.Tests.{le-leb, lt-leb}
 use Rattle.exchange.specs.Bytes.{number}
 use Rattle.solvability.specs.Lists.{over}
 use Rattle.solvability.specs.OverLaws.{Wrote, over-none}
-use Rattle.solvability.specs.Refusals.{firstRefusal, areaTest}
+use Rattle.solvability.specs.Refusals.{areaTest}
 use Rattle.solvability.specs.RefusalLaws.{first-fails, first-passes, first-none, then-refused, then-passed, where-refused, where-accepted}
 use Rattle.solvability.specs.File.Piece.{manyDec, manyRest, closed}
 use Rattle.solvability.specs.File.Format.{FileModel, entries, constantBody, constantRow, parameterRow, rowFields, sizeFields, fields, judge, decode, readRefusal, noModel, modelRead, Reading}

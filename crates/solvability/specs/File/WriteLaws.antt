@@ -1,17 +1,15 @@
 -- What is written: bytes, how many, and field after field. Assumes nothing.
-use Prim.Native.Nat.{ℕ, zero, suc, _+_, _*_, _-_, _/_, _%_, _^_, _≤_, _<_}
-use mathlib.Core.Path.{_≡_, refl, sym, ap, _∙_}
+use Prim.Native.Nat.{ℕ, zero, suc, _+_, _*_, _-_, _/_, _≤_, _<_}
+use mathlib.Core.Path.{_≡_, refl, sym, ap}
 use mathlib.Core.List.{List, [], _∷_, _++_, flatMap}
 use native.Mathlib.Omega.{arith}
 use native.Mathlib.Nat.{suc-mul, zero-mul}
-use lib.ListN.{length, getD, take, drop, length-append, length-drop}
-use lib.Seq.{length-take-le}
+use lib.ListN.{length, length-append}
 use Rattle.exchange.specs.Bytes.{bytesOf}
 use Rattle.exchange.specs.Words.Bytes.{AreBytes}
-use Rattle.solvability.specs.Lists.{All, rowsOf}
-use Rattle.solvability.specs.File.Piece.{Body, Piece, fieldBytes, field}
-use Rattle.solvability.specs.File.Format.{FileModel, Valid, entryBytes, primeBody, sizesBody, constantBody, parameterBody, endBody, constantRow, parameterRow, endField, rowFields, sizeFields, fields, encode, fileLength, handedOver}
-use Rattle.solvability.specs.File.Steps.{constantBytes, parameterBytes}
+use Rattle.solvability.specs.Lists.{All}
+use Rattle.solvability.specs.File.Piece.{Body, field}
+use Rattle.solvability.specs.File.Format.{FileModel, Valid, entryBytes, primeBody, sizesBody, constantBody, parameterBody, endBody, constantRow, parameterRow, endField, rowFields, sizeFields, fields, encode, fileLength}
 use Rattle.solvability.specs.File.BodyLaws.{entries-back}
 
 -- ---- a file is made of bytes

@@ -5,7 +5,6 @@ use native.Mathlib.Omega.{arith}
 use lib.ListN.{length, length-take, length-drop}
 use borrow.Author.Needs.{needs}
 use borrow.Author.Tests.{not-true, not-false}
-use Rattle.exchange.specs.Columns.{within}
 use Rattle.solvability.specs.ListLaws.{every-done, every-fails, every-next, tail-part, first-rest, nothing}
 use Rattle.solvability.specs.Refusals.{parameterTest}
 use Rattle.solvability.proofs.content.parameters_within.Statement.{statement}

@@ -1,7 +1,10 @@
 -- `judge::judge_constant_rows` meets its contract. The invariant: the refusal of all rows is that of the rows left, in the unread rest.
 -- The measure is the number of rows left. Assumes nothing.
+use Prim.Native.Nat.{_+_, _*_, _≤_}
 use mathlib.Core.Path.{_≡_, refl, sym, _∙_}
 use native.Mathlib.Omega.{arith}
+use lib.ListN.{length}
+use borrow.Author.Needs.{needs}
 use Rattle.solvability.specs.File.Format.{constantBody, constantRow}
 use Rattle.solvability.specs.File.JudgeLaws.{many-refused, many-next, many-done, field-whole}
 use Rattle.solvability.specs.File.Piece.{manyTests}
@@ -15,6 +18,11 @@ Inv-loop file p n a size rest₀ left₀ rest left = firstRefusal (manyTests (co
 abbrev μ-loop : tie.MeasureT-loop
 μ-loop file p n a size rest₀ left₀ rest left = left
 
+-- a row that passed is whole
+whole : (c : tie.Else1 Inv-loop μ-loop) → 3 + 2 * c .before .before .before .before .before .args .n ≤ length (c .before .before .before .loop .rest .now)
+unfolding constantRow
+whole c = field-whole 3 (constantBody (c .before .before .before .before .before .args .p) (c .before .before .before .before .before .args .n)) (c .before .before .before .loop .rest .now) (sym (c .before .judge-constant-row .ensures) ∙ c .if1 .left)
+
 mul-size : tie.Need-mul-size Inv-loop μ-loop
 mul-size c = omega arith
 
@@ -25,22 +33,19 @@ loop-holds : tie.Need-loop-holds Inv-loop μ-loop
 loop-holds c = refl
 
 judge-constant-row-requires : tie.Need-judge-constant-row-requires Inv-loop μ-loop
-judge-constant-row-requires c κs = omega arith
+judge-constant-row-requires c κs = search needs
 
 returns : tie.Need-returns Inv-loop μ-loop
 returns c = many-refused (constantRow _ _) _ _ _ (c .before .before .loop-test .taken) (c .before .judge-constant-row .ensures) (c .if1 .taken) ∙ sym (c .before .before .before .loop .inv)
 
 sub-rest : tie.Need-sub-rest Inv-loop μ-loop
-unfolding constantRow
-sub-rest c = omega (arith, field-whole 3 (constantBody _ _) _ (sym (c .before .judge-constant-row .ensures) ∙ c .if1 .left))
+sub-rest c = whole c
 
 part-rest-start : tie.Need-part-rest-start Inv-loop μ-loop
-unfolding constantRow
-part-rest-start c = omega (arith, field-whole 3 (constantBody _ _) _ (sym (c .before .judge-constant-row .ensures) ∙ c .if1 .left))
+part-rest-start c = omega (arith, whole c)
 
 part-rest-end : tie.Need-part-rest-end Inv-loop μ-loop
-unfolding constantRow
-part-rest-end c = omega (arith, field-whole 3 (constantBody _ _) _ (sym (c .before .judge-constant-row .ensures) ∙ c .if1 .left))
+part-rest-end c = omega (arith, whole c)
 
 sub-left : tie.Need-sub-left Inv-loop μ-loop
 sub-left c = omega arith

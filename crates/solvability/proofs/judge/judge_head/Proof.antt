@@ -20,13 +20,13 @@ returns-2 c = head-undue _ _ _ (c .before .before .before .if1 .left) (sym (c .b
 
 returns-3 : tie.Need-returns-3
 returns-3 c =
-    head-cut _ _ _ (c .before .before .before .before .if1 .left) (sym (c .before .before .before .is-due .ensures) ∙ not-false _ (c .before .if2 .left))
-    (sym (c .before .before .has-body .ensures) ∙ not-true _ (c .if3 .taken))
+    head-whole _ _ _ (c .before .before .before .before .if1 .left) (sym (c .before .before .before .is-due .ensures) ∙ not-false _ (c .before .if2 .left))
+    (sym (c .before .before .has-body .ensures) ∙ c .if3 .taken)
 
 returns-4 : tie.Need-returns-4
 returns-4 c =
-    head-whole _ _ _ (c .before .before .before .before .if1 .left) (sym (c .before .before .before .is-due .ensures) ∙ not-false _ (c .before .if2 .left))
-    (sym (c .before .before .has-body .ensures) ∙ not-false _ (c .if3 .left))
+    head-cut _ _ _ (c .before .before .before .before .if1 .left) (sym (c .before .before .before .is-due .ensures) ∙ not-false _ (c .before .if2 .left))
+    (sym (c .before .before .has-body .ensures) ∙ c .if3 .left)
 
 pub judge-head-spec : {M : Type 1} → statement M
 judge-head-spec =

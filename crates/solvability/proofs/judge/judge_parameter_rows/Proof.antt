@@ -1,7 +1,9 @@
 -- `judge::judge_parameter_rows` meets its contract. The invariant: the refusal of all rows is that of the rows left, in the unread rest.
 -- The measure is the number of rows left. Assumes nothing.
+use Prim.Native.Nat.{_≤_}
 use mathlib.Core.Path.{_≡_, refl, sym, _∙_}
 use native.Mathlib.Omega.{arith}
+use lib.ListN.{length}
 use borrow.Author.Needs.{needs}
 use Rattle.solvability.specs.File.Format.{parameterBody, parameterRow}
 use Rattle.solvability.specs.File.JudgeLaws.{many-refused, many-next, many-done, field-whole}
@@ -16,6 +18,11 @@ Inv-loop file n b rest₀ left₀ rest left = firstRefusal (manyTests (parameter
 abbrev μ-loop : tie.MeasureT-loop
 μ-loop file n b rest₀ left₀ rest left = left
 
+-- a row that passed is whole
+whole : (c : tie.Else1 Inv-loop μ-loop) → 11 ≤ length (c .before .before .before .loop .rest .now)
+unfolding parameterRow
+whole c = field-whole 4 (parameterBody (c .before .before .before .before .before .args .n)) (c .before .before .before .loop .rest .now) (sym (c .before .judge-parameter-row .ensures) ∙ c .if1 .left)
+
 loop-holds : tie.Need-loop-holds Inv-loop μ-loop
 loop-holds c = refl
 
@@ -26,16 +33,13 @@ returns : tie.Need-returns Inv-loop μ-loop
 returns c = many-refused (parameterRow _) _ _ _ (c .before .before .loop-test .taken) (c .before .judge-parameter-row .ensures) (c .if1 .taken) ∙ sym (c .before .before .before .loop .inv)
 
 sub-rest : tie.Need-sub-rest Inv-loop μ-loop
-unfolding parameterRow
-sub-rest c = omega (arith, field-whole 4 (parameterBody _) _ (sym (c .before .judge-parameter-row .ensures) ∙ c .if1 .left))
+sub-rest c = whole c
 
 part-rest-start : tie.Need-part-rest-start Inv-loop μ-loop
-unfolding parameterRow
-part-rest-start c = omega (arith, field-whole 4 (parameterBody _) _ (sym (c .before .judge-parameter-row .ensures) ∙ c .if1 .left))
+part-rest-start c = omega (arith, whole c)
 
 part-rest-end : tie.Need-part-rest-end Inv-loop μ-loop
-unfolding parameterRow
-part-rest-end c = omega (arith, field-whole 4 (parameterBody _) _ (sym (c .before .judge-parameter-row .ensures) ∙ c .if1 .left))
+part-rest-end c = omega (arith, whole c)
 
 sub-left : tie.Need-sub-left Inv-loop μ-loop
 sub-left c = omega arith

@@ -1,11 +1,18 @@
 -- `judge::judge_row_fields` meets its contract. Assumes nothing.
-use mathlib.Core.Path.{sym, _∙_}
+use mathlib.Core.Path.{_≡_, sym, _∙_}
 use native.Mathlib.Omega.{arith}
 use borrow.Author.Needs.{needs}
 use Rattle.solvability.specs.File.FieldLaws.{constant-rows-rest, constant-rows-whole, parameter-rows-rest, parameter-rows-whole, constant-rows-refused, parameter-rows-refused, rows-passed}
+use Rattle.solvability.specs.File.Format.{constantRow}
 use Rattle.solvability.specs.File.JudgeLaws.{rows-most}
+use Rattle.solvability.specs.File.Piece.{manyTests}
+use Rattle.solvability.specs.Refusals.{firstRefusal}
 use Rattle.solvability.proofs.judge.judge_row_fields.Statement.{statement}
 use Rattle.solvability.proofs.judge.judge_row_fields.Tie as tie
+
+-- rows that passed
+constant-rows : (c : tie.Else1) → firstRefusal (manyTests (constantRow (c .before .before .before .args .p) (c .before .before .before .args .n)) (c .before .before .before .args .a) (c .before .before .before .args .rest .now)) ≡ 0
+constant-rows c = sym (c .before .judge-constant-rows .ensures) ∙ c .if1 .left
 
 judge-constant-rows-requires : tie.Need-judge-constant-rows-requires
 judge-constant-rows-requires c κs = search needs
@@ -23,10 +30,10 @@ mul-at-2 : tie.Need-mul-at-2
 mul-at-2 c = omega (arith, rows-most (c .before .before .before .args .a) (c .before .before .before .args .n) (omega arith) (omega arith))
 
 sub-rows : tie.Need-sub-rows
-sub-rows c = constant-rows-whole _ _ _ _ (sym (c .before .judge-constant-rows .ensures) ∙ c .if1 .left)
+sub-rows c = let a = c .before .before .before .args in constant-rows-whole (a .p) (a .n) (a .a) (a .rest .now) (constant-rows c)
 
 part-rows-start : tie.Need-part-rows-start
-part-rows-start c = let a = c .before .before .before .args in omega (arith, constant-rows-whole (a .p) (a .n) (a .a) (a .rest .now) (sym (c .before .judge-constant-rows .ensures) ∙ c .if1 .left))
+part-rows-start c = let a = c .before .before .before .args in omega (arith, constant-rows-whole (a .p) (a .n) (a .a) (a .rest .now) (constant-rows c))
 
 part-rows-end : tie.Need-part-rows-end
 part-rows-end c = search needs
@@ -37,8 +44,8 @@ judge-parameter-rows-requires c κs = search needs
 returns-2 : tie.Need-returns-2
 returns-2 c =
     let a = c .before .before .before .before .before .before .args in
-    parameter-rows-refused _ _ _ _ _ _ (sym (c .before .before .before .before .judge-constant-rows .ensures) ∙ c .before .before .before .if1 .left) _ (constant-rows-rest (a .p) (a .n) (a .a) (a .rest .now))
-    (c .before .judge-parameter-rows .ensures) (c .if2 .taken)
+    let rest = constant-rows-rest (a .p) (a .n) (a .a) (a .rest .now) in
+    parameter-rows-refused _ _ _ _ _ _ (constant-rows (c .before .before .before)) _ rest (c .before .judge-parameter-rows .ensures) (c .if2 .taken)
 
 mul-end : tie.Need-mul-end
 mul-end c = search needs
@@ -58,8 +65,8 @@ judge-end-requires c κs = search needs
 returns-3 : tie.Need-returns-3
 returns-3 c =
     let a = c .before .before .before .before .before .before .before .before .args in
-    rows-passed _ _ _ _ _ _ (sym (c .before .before .before .before .before .before .judge-constant-rows .ensures) ∙ c .before .before .before .before .before .if1 .left) _ (constant-rows-rest (a .p) (a .n) (a .a) (a .rest .now))
-    (sym (c .before .before .before .judge-parameter-rows .ensures) ∙ c .before .before .if2 .left) _ (parameter-rows-rest (a .n) (a .b) _) (c .judge-end .ensures)
+    let rest = constant-rows-rest (a .p) (a .n) (a .a) (a .rest .now) in
+    rows-passed _ _ _ _ _ _ (constant-rows (c .before .before .before .before .before)) _ rest (sym (c .before .before .before .judge-parameter-rows .ensures) ∙ c .before .before .if2 .left) _ (parameter-rows-rest (a .n) (a .b) _) (c .judge-end .ensures)
 
 pub judge-row-fields-spec : {M : Type 1} → statement M
 judge-row-fields-spec =

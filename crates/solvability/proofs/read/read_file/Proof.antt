@@ -1,14 +1,18 @@
 -- `read::read_file` meets its contract. Assumes nothing.
 use Prim.Native.Nat.{ℕ, _+_, _*_}
 use mathlib.Core.List.{List}
-use mathlib.Core.Path.{sym, ap, _∙_}
+use mathlib.Core.Path.{_≡_, sym, ap, _∙_}
 use borrow.Author.Needs.{needs}
+use Rattle.solvability.specs.File.Format.{judge}
 use Rattle.solvability.specs.File.ReadLaws.{reading-refused, constants-short, parameters-short, reading-done}
 use Rattle.solvability.specs.File.Steps.{constantsOf, parametersOf}
 use Rattle.solvability.specs.ListLaws.{tail-part}
 use Rattle.solvability.specs.Lists.{over}
 use Rattle.solvability.proofs.read.read_file.Statement.{statement}
 use Rattle.solvability.proofs.read.read_file.Tie as tie
+
+accepted : (c : tie.Else1) → judge (c .before .before .before .before .before .args .file .now) ≡ 0
+accepted c = sym (c .before .judge-file .ensures) ∙ c .if1 .left
 
 judge-file-requires : tie.Need-judge-file-requires
 judge-file-requires c κs = search needs
@@ -33,7 +37,7 @@ no-sizes-requires-2 c κs = search needs
 returns-2 : tie.Need-returns-2
 returns-2 c =
     let z = c .no-sizes2 .ensures in
-    rw (z .0, z .1, z .2, z .3, z .4) (constants-short _ _ _ (sym (c .before .before .before .before .judge-file .ensures) ∙ c .before .before .before .if1 .left) _ _ _ _ (c .before .before .sizes-of .ensures .1) (c .before .if2 .taken))
+    rw (z .0, z .1, z .2, z .3, z .4) (constants-short _ _ _ (accepted (c .before .before .before)) _ _ _ _ (c .before .before .sizes-of .ensures .1) (c .before .if2 .taken))
 
 no-sizes-requires-3 : tie.Need-no-sizes-requires-3
 no-sizes-requires-3 c κs = search needs
@@ -41,7 +45,7 @@ no-sizes-requires-3 c κs = search needs
 returns-3 : tie.Need-returns-3
 returns-3 c =
     let z = c .no-sizes3 .ensures in
-    rw (z .0, z .1, z .2, z .3, z .4) (parameters-short _ _ _ (sym (c .before .before .before .before .before .judge-file .ensures) ∙ c .before .before .before .before .if1 .left) _ _ _ _ (c .before .before .before .sizes-of .ensures .1) (c .before .before .if2 .left) (c .before .if3 .taken))
+    rw (z .0, z .1, z .2, z .3, z .4) (parameters-short _ _ _ (accepted (c .before .before .before .before)) _ _ _ _ (c .before .before .before .sizes-of .ensures .1) (c .before .before .if2 .left) (c .before .if3 .taken))
 
 sub-read-constants : tie.Need-sub-read-constants
 sub-read-constants c = search needs
@@ -89,14 +93,14 @@ returns-4 : tie.Need-returns-4
 returns-4 c =
     let args = c .before .before .before .before .before .before .before .before .before .before .before .before .before .before .before .before .before .before .args in
     let s = args .file .now in
-    let z = c .before .before .before .before .before .before .before .before .before .before .before .before .sizes-of in
+    let d = c .before .before .before .before .before .before .before .before .before .before in
+    let z = d .before .before .sizes-of in
     let n = z .result .n in
     let a = z .result .a in
     let b = z .result .b in
-    rw (z .ensures .0)
-    (reading-done _ _ _ (sym (c .before .before .before .before .before .before .before .before .before .before .before .before .before .before .judge-file .ensures) ∙ c .before .before .before .before .before .before .before .before .before .before .before .before .before .if1 .left) _ _ _ _ (z .ensures .1) (c .before .before .before .before .before .before .before .before .before .before .before .if2 .left) (c .before .before .before .before .before .before .before .before .before .before .if3 .left) _ _
-    (c .before .before .before .before .before .before .before .read-constants .ensures ∙ ap (λ (t : List ℕ). over (constantsOf n a t) (args .constants .now)) (tail-part 11 s))
-    (c .before .before .read-parameters .ensures ∙ ap (λ (t : List ℕ). over (parametersOf b t) (args .parameters .now)) (tail-part (11 + a * (3 + 2 * n)) s)))
+    let constants = c .before .before .before .before .before .before .before .read-constants .ensures ∙ ap (λ (t : List ℕ). over (constantsOf n a t) (args .constants .now)) (tail-part 11 s) in
+    let parameters = c .before .before .read-parameters .ensures ∙ ap (λ (t : List ℕ). over (parametersOf b t) (args .parameters .now)) (tail-part (11 + a * (3 + 2 * n)) s) in
+    rw (z .ensures .0) (reading-done _ _ _ (accepted (d .before .before .before)) _ _ _ _ (z .ensures .1) (d .before .if2 .left) (d .if3 .left) _ _ constants parameters)
 
 pub read-file-spec : {M : Type 1} → statement M
 read-file-spec =

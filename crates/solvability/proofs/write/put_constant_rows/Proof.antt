@@ -20,6 +20,13 @@ Inv-loop out₀ constants n a size rest₀ at₀ left₀ out rest at left = Wrot
 abbrev μ-loop : tie.MeasureT-loop
 μ-loop out₀ constants n a size rest₀ at₀ left₀ out rest at left = left
 
+-- while rows are left, the constants hold the next one, and the area has room for it
+room : (c : tie.In-loop Inv-loop μ-loop)
+    → (c .before .before .before .before .args .n ≤ length (c .before .loop .rest .now))
+    × ((c .before .loop .left - 1) * c .before .before .before .before .args .n ≤ length (c .before .loop .rest .now) - c .before .before .before .before .args .n)
+    × (c .before .loop .at + (3 + 2 * c .before .before .before .before .args .n) ≤ length (c .before .loop .out))
+room c = let l = c .before .loop in constant-rows-room (c .before .before .before .before .args .n) (l .left) (l .rest .now) (l .inv .0) (c .loop-test .taken) (l .inv .1)
+
 mul-size : tie.Need-mul-size Inv-loop μ-loop
 mul-size c = omega arith
 
@@ -33,34 +40,34 @@ loop-holds c =
     (wrote-none _ _ (omega (arith, constant-rows-length (a .n) (a .a) (a .constants .now) (h .1))), h .1)
 
 sub-put-constant-row : tie.Need-sub-put-constant-row Inv-loop μ-loop
-sub-put-constant-row c = omega (arith, constant-rows-room (c .before .before .before .before .args .n) (c .before .loop .left) (c .before .loop .rest .now) (c .before .loop .inv .0) (c .loop-test .taken) (c .before .loop .inv .1))
+sub-put-constant-row c = omega (arith, room c)
 
 part-put-constant-row-start : tie.Need-part-put-constant-row-start Inv-loop μ-loop
-part-put-constant-row-start c = omega (arith, constant-rows-room (c .before .before .before .before .args .n) (c .before .loop .left) (c .before .loop .rest .now) (c .before .loop .inv .0) (c .loop-test .taken) (c .before .loop .inv .1))
+part-put-constant-row-start c = omega (arith, room c)
 
 part-put-constant-row-end : tie.Need-part-put-constant-row-end Inv-loop μ-loop
-part-put-constant-row-end c = omega (arith, constant-rows-room (c .before .before .before .before .args .n) (c .before .loop .left) (c .before .loop .rest .now) (c .before .loop .inv .0) (c .loop-test .taken) (c .before .loop .inv .1))
+part-put-constant-row-end c = omega (arith, room c)
 
 slice-aggregate-put-constant-row : tie.Need-slice-aggregate-put-constant-row Inv-loop μ-loop
-slice-aggregate-put-constant-row c = sym (length-take-le _ _ (constant-rows-room (c .before .before .before .before .before .before .args .n) (c .before .before .before .loop .left) (c .before .before .before .loop .rest .now) (c .before .before .before .loop .inv .0) (c .before .before .loop-test .taken) (c .before .before .before .loop .inv .1) .0))
+slice-aggregate-put-constant-row c = sym (length-take-le _ _ (room (c .before .before) .0))
 
 put-constant-row-requires : tie.Need-put-constant-row-requires Inv-loop μ-loop
-put-constant-row-requires c κs = simp (length-take, length-drop) (omega (arith, constant-rows-room (c .before .before .before .before .before .before .args .n) (c .before .before .before .loop .left) (c .before .before .before .loop .rest .now) (c .before .before .before .loop .inv .0) (c .before .before .loop-test .taken) (c .before .before .before .loop .inv .1)))
+put-constant-row-requires c κs = simp (length-take, length-drop) (omega (arith, room (c .before .before)))
 
 mul-rest : tie.Need-mul-rest Inv-loop μ-loop
 mul-rest c = omega arith
 
 sub-rest : tie.Need-sub-rest Inv-loop μ-loop
-sub-rest c = omega (arith, constant-rows-room (c .before .before .before .before .before .before .before .before .before .args .n) (c .before .before .before .before .before .before .loop .left) (c .before .before .before .before .before .before .loop .rest .now) (c .before .before .before .before .before .before .loop .inv .0) (c .before .before .before .before .before .loop-test .taken) (c .before .before .before .before .before .before .loop .inv .1))
+sub-rest c = omega (arith, room (c .before .before .before .before .before))
 
 part-rest-start : tie.Need-part-rest-start Inv-loop μ-loop
-part-rest-start c = omega (arith, constant-rows-room (c .before .before .before .before .before .before .before .before .before .args .n) (c .before .before .before .before .before .before .loop .left) (c .before .before .before .before .before .before .loop .rest .now) (c .before .before .before .before .before .before .loop .inv .0) (c .before .before .before .before .before .loop-test .taken) (c .before .before .before .before .before .before .loop .inv .1))
+part-rest-start c = omega (arith, room (c .before .before .before .before .before))
 
 part-rest-end : tie.Need-part-rest-end Inv-loop μ-loop
-part-rest-end c = omega (arith, constant-rows-room (c .before .before .before .before .before .before .before .before .before .args .n) (c .before .before .before .before .before .before .loop .left) (c .before .before .before .before .before .before .loop .rest .now) (c .before .before .before .before .before .before .loop .inv .0) (c .before .before .before .before .before .loop-test .taken) (c .before .before .before .before .before .before .loop .inv .1))
+part-rest-end c = omega (arith, room (c .before .before .before .before .before))
 
 add-at : tie.Need-add-at Inv-loop μ-loop
-add-at c = omega (arith, constant-rows-room (c .before .before .before .before .before .before .before .before .before .before .args .n) (c .before .before .before .before .before .before .before .loop .left) (c .before .before .before .before .before .before .before .loop .rest .now) (c .before .before .before .before .before .before .before .loop .inv .0) (c .before .before .before .before .before .before .loop-test .taken) (c .before .before .before .before .before .before .before .loop .inv .1))
+add-at c = omega (arith, room (c .before .before .before .before .before .before))
 
 sub-left : tie.Need-sub-left Inv-loop μ-loop
 sub-left c = omega arith
@@ -73,14 +80,13 @@ loop-again c =
     let l = c .before .before .before .before .before .before .before .loop in
     let n = c .before .before .before .before .before .before .before .before .before .before .args .n in
     let r = l .rest .now in
-    let f = constant-rows-room (c .before .before .before .before .before .before .before .before .before .before .args .n) (c .before .before .before .before .before .before .before .loop .left) (c .before .before .before .before .before .before .before .loop .rest .now) (c .before .before .before .before .before .before .before .loop .inv .0) (c .before .before .before .before .before .before .loop-test .taken) (c .before .before .before .before .before .before .before .loop .inv .1) in
-    let t : take (length r - n) (drop n r) ≡ drop n r = tail-part n r in (
-      wrote-run (constantBytes n (take n r)) _ _ (3 + 2 * n) (l .inv .0)
-          (constant-rows-next n (l .left) r (c .before .before .before .before .before .before .loop-test .taken) ∙ ap (λ (s : List ℕ). constantBytes n (take n r) ++ flatMap (constantBytes n) (rowsOf n (l .left - 1) s)) (sym t))
-          (c .before .before .before .put-constant-row .ensures ∙ ap (λ (s : List ℕ). over s (take (length (l .out) - l .at) (drop (l .at) (l .out)))) (constant-bytes-cut n r (f .0)))
-          (constant-bytes-length n r (f .0)),
-      rw (t, length-drop) (f .1),
-    )
+    let f = room (c .before .before .before .before .before .before) in
+    let row = constantBytes n (take n r) in
+    let left = take (length (l .out) - l .at) (drop (l .at) (l .out)) in
+    let t : take (length r - n) (drop n r) ≡ drop n r = tail-part n r in
+    let next = constant-rows-next n (l .left) r (c .before .before .before .before .before .before .loop-test .taken) ∙ ap (λ (s : List ℕ). row ++ flatMap (constantBytes n) (rowsOf n (l .left - 1) s)) (sym t) in
+    let written = c .before .before .before .put-constant-row .ensures ∙ ap (λ (s : List ℕ). over s left) (constant-bytes-cut n r (f .0)) in
+    (wrote-run row _ _ (3 + 2 * n) (l .inv .0) next written (constant-bytes-length n r (f .0)), rw (t, length-drop) (f .1))
 
 same-length : tie.Need-same-length Inv-loop μ-loop
 same-length c = c .before .loop .inv .0 .same

@@ -1,0 +1,72 @@
+// The longest file: written, read, and written again.
+use crate::rows::looked_up;
+use crate::said;
+
+fn fill_constants(constants: &mut [u16]) {
+    let mut i = 0;
+    while i < constants.len() {
+        constants[i] = (i % 4096 * 15) as u16;
+        i = i + 1;
+    }
+}
+
+fn fill_parameters(parameters: &mut [u64]) {
+    let mut i = 0;
+    let mut set: u64 = 1;
+    while i < parameters.len() {
+        parameters[i] = set;
+        set = set % 4294967296 * 3 + 1;
+        i = i + 1;
+    }
+}
+
+pub fn there_and_back() {
+    let mut constants = [0u16; 4096];
+    let mut parameters = [0u64; 64];
+    fill_constants(&mut constants);
+    fill_parameters(&mut parameters);
+    let mut file = [0u8; 9102];
+    said::label(b"longest");
+    written(65521, 64, 64, 64, &constants, &parameters, &mut file);
+    back(&file);
+}
+
+fn back(file: &[u8]) {
+    let mut constants = [0u16; 4096];
+    let mut parameters = [0u64; 64];
+    let r = solvability::read_file(file, &mut constants, &mut parameters);
+    said::label(b"read");
+    said::sizes(r);
+    said::end_line();
+    let mut again = [0u8; 9102];
+    said::label(b"written again");
+    written(r.p, r.n, r.a, r.b, &constants, &parameters, &mut again);
+    said::label(b"same bytes");
+    said::number(check::same(file, &again) as u64);
+    said::end_line();
+    looked_into(file);
+}
+
+fn looked_into(file: &[u8]) {
+    looked_up(file, 63);
+    looked_up(file, 64);
+    said::label(b"last byte missing");
+    said::number(solvability::judge_file(said::front(file, 9101)) as u64);
+    said::end_line();
+}
+
+fn written(
+    p: u32,
+    n: usize,
+    a: usize,
+    b: usize,
+    constants: &[u16],
+    parameters: &[u64],
+    out: &mut [u8],
+) {
+    let w = solvability::write_file(p, n, a, b, constants, parameters, out);
+    said::number(w.refusal as u64);
+    said::number(w.length as u64);
+    said::number(said::checksum(out));
+    said::end_line();
+}

@@ -1,0 +1,11 @@
+// Constant rows, looked up.
+use crate::said;
+
+// The refusal, and the row's bytes.
+pub fn looked_up(file: &[u8], i: usize) {
+    said::label(b"row");
+    said::number(i as u64);
+    said::number(solvability::judge_row(file, i) as u64);
+    said::bytes(solvability::row(file, i));
+    said::end_line();
+}
