@@ -3,5 +3,6 @@ pub mod Arithmetic
 pub mod Remainders
 pub mod Primes
 pub mod Inverses
+pub mod Montgomery
 pub mod Fields
 pub mod Residues

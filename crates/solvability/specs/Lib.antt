@@ -24,3 +24,5 @@ pub mod MixedAnswers
 pub mod MixedAnswerLaws
 pub mod File
 pub mod Readings
+pub mod Host
+pub mod HostLaws

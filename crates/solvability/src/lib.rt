@@ -1,6 +1,7 @@
 // The rank of layered models, and models in files and handed over: judged, read, written, looked up. Every public function is total, and refuses by a number.
 mod content;
 mod header;
+mod host;
 mod judge;
 mod layered;
 mod lookup;
@@ -12,6 +13,7 @@ pub mod refusals;
 mod write;
 
 pub use header::Sizes;
+pub use host::wundreska_check;
 pub use layered::Answer;
 pub use layered::layered_rank;
 pub use lookup::judge_row;

@@ -146,7 +146,7 @@ fn put_constant_rows(out: &mut [u8], constants: &[u16], n: usize, a: usize)
 }
 
 // The eight bytes of a set.
-fn put_set(out: &mut [u8], set: u64)
+pub fn put_set(out: &mut [u8], set: u64)
     requires { ⌜ 8 ≤ length (now out) ⌝ }
     ensures { λ _. ⌜ now (out .exit) ≡ over (bytesOf 8 set) (now (out .entry)) ⌝ }
 {
