@@ -26,3 +26,5 @@ pub mod File
 pub mod Readings
 pub mod Host
 pub mod HostLaws
+pub mod Area
+pub mod AreaLaws

@@ -11,9 +11,9 @@ use crate::refusals;
 use crate::write::put_set;
 
 // How many bytes an answer takes.
-const ANSWER_LENGTH: usize = 90;
+pub const ANSWER_LENGTH: usize = 90;
 
-fn put_numbers(out: &mut [u8], verdict: u8, rank: u8)
+pub fn put_numbers(out: &mut [u8], verdict: u8, rank: u8)
     requires { ⌜ 2 ≤ length (now out) ⌝ }
     ensures { λ _. ⌜ now (out .exit) ≡ over (verdict ∷ rank ∷ []) (now (out .entry)) ⌝ }
 {
@@ -33,7 +33,7 @@ fn put_rows(out: &mut [u8], rows: [u8; 64])
 }
 
 // The bytes of an answer: verdict, rank, placed set, constant side, short set, and the column of each parameter row.
-fn put_answer(out: &mut [u8], verdict: u8, rank: u8, placed: u64, side: u64, short: u64, rows: [u8; 64])
+pub fn put_answer(out: &mut [u8], verdict: u8, rank: u8, placed: u64, side: u64, short: u64, rows: [u8; 64])
     requires { ⌜ (answer-length ≤ length (now out)) × (length rows ≡ 64) ⌝ }
     ensures { λ _. ⌜ now (out .exit) ≡ over (answer-bytes verdict rank placed side short rows) (now (out .entry)) ⌝ }
 {

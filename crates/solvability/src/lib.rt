@@ -1,4 +1,5 @@
 // The rank of layered models, and models in files and handed over: judged, read, written, looked up. Every public function is total, and refuses by a number.
+mod area;
 mod content;
 mod header;
 mod host;
@@ -12,6 +13,8 @@ mod reader;
 pub mod refusals;
 mod write;
 
+pub use area::layered_bytes;
+pub use area::mixed_bytes;
 pub use header::Sizes;
 pub use host::wundreska_check;
 pub use layered::Answer;

@@ -1,0 +1,190 @@
+/* Times the library's layered call, the same in plain Rust, and FLINT's ranks, on the same models in one process.
+ * Prints a Markdown table: microseconds a call, and the library's time as a ratio of each other one. */
+#define _POSIX_C_SOURCE 200809L
+#include "harness.h"
+#include "model.h"
+#include "wundreska.h"
+
+#include <flint/nmod_mat.h>
+#include <stdio.h>
+#include <stdlib.h>
+#include <string.h>
+#include <time.h>
+
+ModelCall plain_layered;
+
+enum { MODELS = 16, ROUNDS = 25, PARAMETERS_A_ROW = 3, CONSTANTS_A_ROW = 3 };
+static const uint64_t large_prime = (UINT64_C(1) << 61) - 1;
+
+/* ---- the models ---- */
+
+static void put_parameters(Model *m)
+{
+    for (size_t r = 0; r < m->b; r++)
+        while (size_of_set(m->parameters[r]) < PARAMETERS_A_ROW)
+            m->parameters[r] |= UINT64_C(1) << draw(m->n);
+}
+
+static Model dense(uint32_t p, size_t b)
+{
+    Model m = {.p = p, .n = LIMIT, .a = LIMIT, .b = b};
+    for (size_t i = 0; i < m.a * m.n; i++)
+        m.constants[i] = draw(p);
+    put_parameters(&m);
+    return m;
+}
+
+/* Balances: each constant row has a few plus and minus ones. */
+static Model plant_like(void)
+{
+    Model m = {.p = 1021, .n = LIMIT, .a = LIMIT, .b = LIMIT};
+    for (size_t i = 0; i < m.a * CONSTANTS_A_ROW; i++)
+        m.constants[i / CONSTANTS_A_ROW * m.n + draw(m.n)] = one_in(2) ? 1 : m.p - 1;
+    put_parameters(&m);
+    return m;
+}
+
+static Model dense_1021(void) { return dense(1021, LIMIT); }
+static Model dense_65521(void) { return dense(65521, LIMIT); }
+static Model constants_1021(void) { return dense(1021, 0); }
+static Model constants_65521(void) { return dense(65521, 0); }
+static Model tiny(void) { return (Model){.p = 1021, .n = 2, .a = 1, .b = 1, .constants = {1, 0}, .parameters = {2}}; }
+
+/* ---- what is timed ---- */
+
+typedef struct {
+    Model model;
+    nmod_mat_t substituted; /* constants above random numbers, modulo the large prime */
+    nmod_mat_t constants;   /* modulo p */
+    uint8_t answer[WUNDRESKA_ANSWER_SIZE];
+    slong rank;
+} Work;
+
+typedef void Method(Work *work);
+
+static void call(ModelCall *layered, Work *w)
+{
+    const Model *m = &w->model;
+    memset(w->answer, 0, sizeof w->answer);
+    if (layered(m->p, m->n, m->a, m->b, m->constants, m->a * m->n, m->parameters, m->b, w->answer, sizeof w->answer))
+        abort();
+}
+
+static void library(Work *w) { call(harness_layered, w); }
+static void plain(Work *w) { call(plain_layered, w); }
+static void substituted_rank(Work *w) { w->rank = nmod_mat_rank(w->substituted); }
+static void constants_rank(Work *w) { w->rank = nmod_mat_rank(w->constants); }
+
+/* Constants above p / 2 are negative numbers to whoever wrote them. */
+static uint64_t signed_residue(uint32_t constant, uint32_t p)
+{
+    return constant > p / 2 ? large_prime - (p - constant) : constant;
+}
+
+static void prepare(Work *w, Model model)
+{
+    Model *m = &w->model;
+    *m = model;
+    nmod_mat_init(w->substituted, m->a + m->b, m->n, large_prime);
+    nmod_mat_init(w->constants, m->a, m->n, m->p);
+    for (size_t c = 0; c < m->n; c++) {
+        for (size_t r = 0; r < m->a; r++) {
+            nmod_mat_entry(w->constants, r, c) = m->constants[r * m->n + c];
+            nmod_mat_entry(w->substituted, r, c) = signed_residue(m->constants[r * m->n + c], m->p);
+        }
+        for (size_t r = 0; r < m->b; r++)
+            nmod_mat_entry(w->substituted, m->a + r, c) = m->parameters[r] >> c & 1 ? 1 + draw(large_prime - 1) : 0;
+    }
+}
+
+/* The library and plain Rust agree on all that the rules do not leave open. */
+static void check_agreement(Work *w)
+{
+    uint8_t answer[WUNDRESKA_ANSWER_SIZE];
+    library(w);
+    memcpy(answer, w->answer, sizeof answer);
+    plain(w);
+    if (memcmp(answer, w->answer, WUNDRESKA_CONSTANTS) || memcmp(answer + WUNDRESKA_SHORT, w->answer + WUNDRESKA_SHORT, 8)) {
+        fprintf(stderr, "the library and plain Rust differ\n");
+        exit(1);
+    }
+}
+
+/* ---- timing ---- */
+
+static double now(void)
+{
+    struct timespec t;
+    clock_gettime(CLOCK_MONOTONIC, &t);
+    return t.tv_sec * 1e6 + t.tv_nsec / 1e3;
+}
+
+/* Microseconds a call, over all models so many times. */
+static double time_once(Method *method, Work *works, int repeats)
+{
+    double start = now();
+    for (int i = 0; i < repeats; i++)
+        for (int k = 0; k < MODELS; k++)
+            method(&works[k]);
+    return (now() - start) / repeats / MODELS;
+}
+
+/* The least of several rounds for each method; the methods take turns, so that a busy machine hits them alike. */
+static void time_all(Method *const *methods, int count, Work *works, double *best)
+{
+    int repeats[4];
+    for (int i = 0; i < count; i++) {
+        best[i] = time_once(methods[i], works, 1);
+        repeats[i] = 1 + (int)(5000 / (best[i] * MODELS));
+    }
+    for (int round = 0; round < ROUNDS; round++)
+        for (int i = 0; i < count; i++) {
+            double t = time_once(methods[i], works, repeats[i]);
+            best[i] = t < best[i] ? t : best[i];
+        }
+}
+
+static void clear_works(Work *works)
+{
+    for (int k = 0; k < MODELS; k++) {
+        nmod_mat_clear(works[k].substituted);
+        nmod_mat_clear(works[k].constants);
+    }
+}
+
+static void measure(const char *name, Model (*make)(void))
+{
+    static Work works[MODELS];
+    static Method *const methods[] = {library, plain, substituted_rank, constants_rank};
+    double t[4];
+    for (int k = 0; k < MODELS; k++) {
+        prepare(&works[k], make());
+        check_agreement(&works[k]);
+    }
+    int only_constants = works[0].model.b == 0;
+    time_all(methods, only_constants ? 4 : 3, works, t);
+    printf("| %s | %.2f | %.2f | %.2f | %.2f | %.3f |", name, t[0], t[1], t[2], t[0] / t[1], t[0] / t[2]);
+    if (only_constants)
+        printf(" %.2f | %.2f |\n", t[3], t[0] / t[3]);
+    else
+        printf(" | |\n");
+    fflush(stdout);
+    clear_works(works);
+}
+
+int main(void)
+{
+    printf("| model (n/a/b) | library | plain Rust | FLINT, substituted | library / plain Rust | library / FLINT, substituted | "
+           "FLINT, constants mod p | library / FLINT, constants |\n|---|---|---|---|---|---|---|---|\n");
+    measure("dense 64/64/64, p 1021", dense_1021);
+    measure("dense 64/64/64, p 65521", dense_65521);
+    measure("plant-like 64/64/64, p 1021", plant_like);
+    measure("dense 64/64/0, p 1021", constants_1021);
+    measure("dense 64/64/0, p 65521", constants_65521);
+    measure("tiny 2/1/1, p 1021", tiny);
+    printf("\nMicroseconds a call: the least of %d rounds over %d models, the methods in turn. The answer area is cleared before "
+           "each call, within the time; caches are not, so all methods run warm. FLINT's matrices are filled beforehand: only "
+           "nmod_mat_rank is timed, which copies its matrix.\n",
+           ROUNDS, MODELS);
+    return 0;
+}

@@ -1,0 +1,54 @@
+// The calls for models handed over without a file, exported to C for the tests that hold the compiled library against a
+// reference, and for measuring. The product's archive has none of them.
+ghost use Prim.Native.Nat.{ℕ};
+ghost use Rattle.solvability.specs.File.Format.{Writing};
+ghost use Rattle.solvability.specs.Area.{LayeredBytes, MixedBytes};
+
+// The 90 bytes of the layered answer.
+#[no_mangle]
+pub extern "C" fn harness_layered(
+    p: u32,
+    n: usize,
+    a: usize,
+    b: usize,
+    constants: &[u16],
+    parameters: &[u64],
+    answer: &mut [u8],
+) -> u32
+    ensures { λ r. ⌜ LayeredBytes p n a b (now (constants .entry)) (now (parameters .entry)) (now (answer .entry)) r (now (answer .exit)) ⌝ }
+{
+    solvability::layered_bytes(p, n, a, b, constants, parameters, answer)
+}
+
+// The 26 bytes of the mixed answer.
+#[no_mangle]
+pub extern "C" fn harness_mixed(
+    p: u32,
+    n: usize,
+    a: usize,
+    b: usize,
+    constants: &[u16],
+    parameters: &[u64],
+    answer: &mut [u8],
+) -> u32
+    ensures { λ r. ⌜ MixedBytes p n a b (now (constants .entry)) (now (parameters .entry)) (now (answer .entry)) r (now (answer .exit)) ⌝ }
+{
+    solvability::mixed_bytes(p, n, a, b, constants, parameters, answer)
+}
+
+// The bytes of the model's file; what a C caller does not see is how many they are.
+#[no_mangle]
+pub extern "C" fn harness_write(
+    p: u32,
+    n: usize,
+    a: usize,
+    b: usize,
+    constants: &[u16],
+    parameters: &[u64],
+    out: &mut [u8],
+) -> u32
+    ensures { λ r. ⌜ ((written : ℕ) × Writing p n a b (now (constants .entry)) (now (parameters .entry)) (now (out .entry)) r written (now (out .exit))) ⌝ }
+{
+    let w = solvability::write_file(p, n, a, b, constants, parameters, out);
+    w.refusal
+}

@@ -1,0 +1,46 @@
+-- The rank calls for a caller that lends an area for the answer's bytes. Definitions only.
+use Prim.Native.Nat.{ℕ}
+use mathlib.Core.Path.{_≡_}
+use mathlib.Core.Logic.{_≢_}
+use mathlib.Core.List.{List, _∷_, _++_}
+use lib.ListN.{length}
+use Rattle.exchange.specs.Bytes.{bytesOf}
+use Rattle.solvability.specs.Lists.{over}
+use Rattle.solvability.specs.Model.{model}
+use Rattle.solvability.specs.Mixed.{Mixed, mixed}
+use Rattle.solvability.specs.Refusals.{Tests, unless, _then_, firstRefusal, areaShort, areaTest, modelTests, mixedTests}
+use Rattle.solvability.specs.MixedAnswers.{MixedAnswered}
+use Rattle.solvability.specs.Host.{answer-length, AnswerWritten}
+
+-- as the model is judged, then 8 for the area of at least so many bytes
+unfoldable pub area-refusal : Tests → ℕ → List ℕ → ℕ
+area-refusal tests least area = firstRefusal (tests then unless (areaTest least (length area)) areaShort)
+
+-- a call that lends an area: the number; where it refuses, the area is as it was; where not, what is written
+pub record AreaCall (tests : Tests) (least : ℕ) (Written : List ℕ → List ℕ → Type 0) (area : List ℕ) (number : ℕ) (area′ : List ℕ) : Type 0 where
+  pub is-number : number ≡ area-refusal tests least area
+  pub if-refused : area-refusal tests least area ≢ 0 → area′ ≡ area
+  pub if-accepted : area-refusal tests least area ≡ 0 → Written area area′
+
+-- the layered call: the 90 bytes of the C call
+unfoldable pub LayeredBytes : (p n a b : ℕ) (cs ws area : List ℕ) (number : ℕ) (area′ : List ℕ) → Type 0
+LayeredBytes p n a b cs ws area number area′ = AreaCall (modelTests p n a b cs ws) answer-length (AnswerWritten (model p n a b cs ws)) area number area′
+
+-- the mixed call: verdict, rank, rows I, columns J, and the short set of the layered form
+abbrev pub mixed-length : ℕ
+mixed-length = 26
+
+unfoldable pub mixed-bytes : (the-verdict the-rank the-rows the-columns the-short : ℕ) → List ℕ
+mixed-bytes the-verdict the-rank the-rows the-columns the-short = the-verdict ∷ the-rank ∷ (bytesOf 8 the-rows ++ (bytesOf 8 the-columns ++ bytesOf 8 the-short))
+
+pub record MixedWritten (X : Mixed) (area area′ : List ℕ) : Type 0 where
+  pub the-verdict : ℕ
+  pub the-rank : ℕ
+  pub the-rows : ℕ
+  pub the-columns : ℕ
+  pub the-short : ℕ
+  pub is-answer : MixedAnswered X the-verdict the-rank the-rows the-columns the-short
+  pub bytes-are : area′ ≡ over (mixed-bytes the-verdict the-rank the-rows the-columns the-short) area
+
+unfoldable pub MixedBytes : (p n a b : ℕ) (cs ws area : List ℕ) (number : ℕ) (area′ : List ℕ) → Type 0
+MixedBytes p n a b cs ws area number area′ = AreaCall (mixedTests p n a b cs ws) mixed-length (MixedWritten (mixed p a n cs ws)) area number area′

@@ -1,0 +1,74 @@
+// The rank calls for a caller that lends an area for the answer's bytes.
+ghost use mathlib.Core.Path.{_≡_};
+ghost use Prim.Native.Nat.{_≤_};
+ghost use lib.ListN.{length};
+ghost use Rattle.solvability.specs.Lists.{over};
+ghost use Rattle.solvability.specs.Area.{mixed-length, mixed-bytes, LayeredBytes, MixedBytes};
+use crate::host::ANSWER_LENGTH;
+use crate::host::put_answer;
+use crate::host::put_numbers;
+use crate::layered::layered_rank;
+use crate::mixed::mixed_rank;
+use crate::refusals;
+use crate::write::put_set;
+
+// How many bytes a mixed answer takes.
+const MIXED_LENGTH: usize = 26;
+
+// Judges the model, then the area; where both are accepted, writes the answer over the front of the area.
+pub fn layered_bytes(
+    p: u32,
+    n: usize,
+    a: usize,
+    b: usize,
+    constants: &[u16],
+    parameters: &[u64],
+    answer: &mut [u8],
+) -> u32
+    ensures { λ r. ⌜ LayeredBytes p n a b (now (constants .entry)) (now (parameters .entry)) (now (answer .entry)) r (now (answer .exit)) ⌝ }
+{
+    let r = layered_rank(p, n, a, b, constants, parameters);
+    if r.refusal != 0 {
+        return r.refusal;
+    }
+    if answer.len() < ANSWER_LENGTH {
+        return refusals::AREA_SHORT;
+    }
+    let rows = r.rows;
+    put_answer(answer, r.verdict, r.rank, r.placed, r.constants, r.short, rows);
+    0
+}
+
+// The bytes of a mixed answer: verdict, rank, the rows and columns shown, and the short set of the layered form.
+fn put_mixed(out: &mut [u8], verdict: u8, rank: u8, rows: u64, columns: u64, short: u64)
+    requires { ⌜ mixed-length ≤ length (now out) ⌝ }
+    ensures { λ _. ⌜ now (out .exit) ≡ over (mixed-bytes verdict rank rows columns short) (now (out .entry)) ⌝ }
+{
+    put_numbers(out, verdict, rank);
+    put_set(&mut out[2..], rows);
+    put_set(&mut out[10..], columns);
+    put_set(&mut out[18..], short);
+}
+
+// The same for the mixed question.
+pub fn mixed_bytes(
+    p: u32,
+    n: usize,
+    a: usize,
+    b: usize,
+    constants: &[u16],
+    parameters: &[u64],
+    answer: &mut [u8],
+) -> u32
+    ensures { λ r. ⌜ MixedBytes p n a b (now (constants .entry)) (now (parameters .entry)) (now (answer .entry)) r (now (answer .exit)) ⌝ }
+{
+    let r = mixed_rank(p, n, a, b, constants, parameters);
+    if r.refusal != 0 {
+        return r.refusal;
+    }
+    if answer.len() < MIXED_LENGTH {
+        return refusals::AREA_SHORT;
+    }
+    put_mixed(answer, r.verdict, r.rank, r.rows, r.columns, r.short);
+    0
+}

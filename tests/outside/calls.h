@@ -1,0 +1,29 @@
+/* Calls of the library on lent areas that end at a page which must not be touched, with a look at every lent byte
+ * afterwards. */
+#ifndef CALLS_H
+#define CALLS_H
+
+#include "harness.h"
+#include "model.h"
+
+typedef struct {
+    uint32_t refusal;
+    int intact;                  /* every lent byte is as before, but for those that an accepted call writes */
+    uint8_t out[FILE_MAX + 100]; /* the front of the area written to */
+} Called;
+
+typedef struct {
+    size_t constants, parameters, out;
+} Lengths;
+
+/* Areas that just hold what the model needs, and so many bytes to write to. */
+Lengths exact_lengths(const Model *model, size_t out);
+
+/* The call on a file, with an answer area of this length. */
+Called call_check(const uint8_t *file, size_t length, size_t answer_length);
+
+/* A call on a model, which writes `written` bytes where it is accepted. What the areas have beyond the model is not a
+ * legal constant or parameter row. */
+Called call_model(ModelCall *call, const Model *model, Lengths lengths, size_t written);
+
+#endif

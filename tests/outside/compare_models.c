@@ -1,0 +1,192 @@
+/* Sound models: the bench models, all that the definitions can be run on, and random ones of all sizes. */
+#include "brute.h"
+#include "compare.h"
+
+#include <stdio.h>
+
+/* ---- the bench models ---- */
+
+enum { LAYERED, MIXED, NOT_STATED = -1 };
+
+static const struct {
+    const char *name;
+    int kind, rank;
+    int64_t placed, short_set;
+} bench_models[] = {
+    {"s1", LAYERED, 0, 0, 1},
+    {"s2", LAYERED, 2, 3, 0},
+    {"s3", LAYERED, 1, 1, 3},
+    {"s4", LAYERED, 4, 23, 12},
+    {"s5", LAYERED, 1, NOT_STATED, NOT_STATED},
+    {"s6", LAYERED, 2, NOT_STATED, NOT_STATED},
+    {"s7", MIXED, 1, NOT_STATED, NOT_STATED},
+    {"s8", MIXED, 1, NOT_STATED, NOT_STATED},
+    {"s9", MIXED, 2, NOT_STATED, NOT_STATED},
+    {"s10", LAYERED, 1, NOT_STATED, 2},
+    {"s11", LAYERED, 1, NOT_STATED, 0},
+    {"s12", MIXED, 6, NOT_STATED, NOT_STATED},
+    {"chilled_water_loop", LAYERED, 8, NOT_STATED, 192},
+    {"chilled_water_loop_filled", LAYERED, 9, 511, 0},
+    {"milk_preheater", LAYERED, 7, NOT_STATED, 254},
+};
+
+/* The refusal of a model file, or 0 with its model. */
+static uint32_t load(const char *folder, const char *name, Model *m)
+{
+    char path[512];
+    static uint8_t file[FILE_MAX + 1];
+    snprintf(path, sizeof path, "%s/%s.model", folder, name);
+    FILE *in = fopen(path, "rb");
+    size_t length = in ? fread(file, 1, sizeof file, in) : 0;
+    if (in)
+        fclose(in);
+    return judge_file(file, length, m);
+}
+
+static int stated_and_other(int64_t stated, uint64_t found)
+{
+    return stated != NOT_STATED && (uint64_t)stated != found;
+}
+
+static const char *bench_complaint(const char *folder, size_t i, Model *m)
+{
+    if (load(folder, bench_models[i].name, m) != 0)
+        return "the file is not a model";
+    if (bench_models[i].kind == MIXED) {
+        Model form = layered_form(m);
+        return mixed_complaint(m, bench_models[i].rank, layered_truth(&form));
+    }
+    Truth truth = layered_truth(m);
+    if ((size_t)bench_models[i].rank != truth.rank || stated_and_other(bench_models[i].placed, truth.placed) ||
+        stated_and_other(bench_models[i].short_set, truth.short_set))
+        return "the reference differs from the paper";
+    return layered_complaint(m, truth);
+}
+
+/* The same whole numbers, from minus to plus half the prime, at another prime. */
+static void change_prime(Model *m, uint32_t p)
+{
+    for (size_t i = 0; i < m->a * m->n; i++) {
+        int64_t value = m->constants[i] > m->p / 2 ? (int64_t)m->constants[i] - m->p : m->constants[i];
+        m->constants[i] = (value % p + p) % p;
+    }
+    m->p = p;
+}
+
+void compare_bench_models(const char *folder)
+{
+    begin_category("bench models, S12 at every prime");
+    for (size_t i = 0; i < COUNT(bench_models); i++) {
+        Model m = {0};
+        count_case(bench_complaint(folder, i, &m), &m);
+    }
+    for (size_t i = 0; i < COUNT(all_primes); i++) {
+        Model m = {0};
+        load(folder, "s12", &m);
+        change_prime(&m, all_primes[i]);
+        Model form = layered_form(&m);
+        count_case(mixed_complaint(&m, 6, layered_truth(&form)), &m);
+    }
+}
+
+/* ---- against the definitions ---- */
+
+static const uint32_t small_primes[] = {2, 3, 5};
+
+static const char *definition_complaint(const Model *m)
+{
+    Enumerated e = enumerate_layered(m);
+    Truth truth = layered_truth(m);
+    if (truth.rank != e.rank || truth.placed != e.placed || truth.short_set != e.short_set || !e.short_is_least)
+        return "the reference differs from the definitions";
+    for (uint64_t set = 0; set <= all_below(m->n); set++)
+        if (e.sums[set] < e.rank || e.sums[set] != sum_of(m, set))
+            return "the sum of a column set";
+    return layered_complaint(m, truth);
+}
+
+/* The next filling of all places, counting constants to the base p and parameters to the base 2; whether there is one. */
+static int next_filling(Model *m)
+{
+    for (size_t i = 0; i < m->a * m->n; i++) {
+        if (++m->constants[i] < m->p)
+            return 1;
+        m->constants[i] = 0;
+    }
+    for (size_t r = 0; r < m->b; r++) {
+        if (++m->parameters[r] <= all_below(m->n))
+            return 1;
+        m->parameters[r] = 0;
+    }
+    return 0;
+}
+
+static void compare_every_model(uint32_t p, size_t columns, size_t rows)
+{
+    for (size_t n = 1; n <= columns; n++)
+        for (size_t a = 0; a <= rows; a++)
+            for (size_t b = 0; b <= rows; b++) {
+                Model m = {.p = p, .n = n, .a = a, .b = b};
+                do
+                    count_case(definition_complaint(&m), &m);
+                while (next_filling(&m));
+            }
+}
+
+static const char *mixed_definition_complaint(const Model *m)
+{
+    Model form = layered_form(m);
+    Enumerated e = enumerate_layered(&form);
+    Truth truth = layered_truth(&form);
+    size_t rank = enumerate_mixed_rank(m);
+    if (mixed_rank(m) != rank || truth.rank != e.rank || truth.short_set != e.short_set)
+        return "the reference differs from the definitions";
+    return mixed_complaint(m, rank, truth);
+}
+
+void compare_with_definitions(void)
+{
+    begin_category("every model up to 3 columns, 2 + 2 rows at p 2, and 2 columns at p 3, by the definitions");
+    compare_every_model(2, 3, 2);
+    compare_every_model(3, 2, 2);
+    begin_category("layered models up to 6 columns, by the definitions");
+    for (int i = 0; i < 6000; i++) {
+        Model m = draw_model(small_primes, COUNT(small_primes), BRUTE_COLUMNS, 4);
+        count_case(definition_complaint(&m), &m);
+    }
+    begin_category("mixed models up to 6 columns of the layered form, by the definitions");
+    for (int i = 0; i < 4000; i++) {
+        Model m = draw_mixed(small_primes, COUNT(small_primes), BRUTE_COLUMNS);
+        count_case(mixed_definition_complaint(&m), &m);
+    }
+}
+
+/* ---- models of all sizes ---- */
+
+static void compare_layered(int models, size_t columns, size_t rows)
+{
+    for (int i = 0; i < models; i++) {
+        Model m = draw_model(all_primes, COUNT(all_primes), columns, rows);
+        count_case(layered_complaint(&m, layered_truth(&m)), &m);
+    }
+}
+
+static void compare_mixed(int models, size_t limit)
+{
+    for (int i = 0; i < models; i++) {
+        Model m = draw_mixed(all_primes, COUNT(all_primes), limit), form = layered_form(&m);
+        count_case(mixed_complaint(&m, mixed_rank(&m), layered_truth(&form)), &m);
+    }
+}
+
+void compare_random_models(void)
+{
+    begin_category("layered models up to 12 columns and rows");
+    compare_layered(20000, 12, 12);
+    begin_category("layered models up to 64 columns and rows");
+    compare_layered(6000, LIMIT, LIMIT);
+    begin_category("mixed models up to 12 columns of the layered form");
+    compare_mixed(10000, 12);
+    begin_category("mixed models up to 64 columns of the layered form");
+    compare_mixed(4000, LIMIT);
+}
