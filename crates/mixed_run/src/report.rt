@@ -1,0 +1,47 @@
+// One line for a model: its name, and what the mixed rank call answers.
+use solvability::MixedReport;
+
+pub fn number(n: u64) {
+    io::write_all(1, b" ");
+    io::print_decimal(1, n);
+}
+
+// Whether a set has nothing at or past the end.
+fn lies_below(set: u64, end: usize) -> bool {
+    end >= 64 || set >> end == 0
+}
+
+fn tell(report: MixedReport, m: usize, n: usize) {
+    number(report.refusal as u64);
+    number(report.verdict as u64);
+    number(report.rank as u64);
+    number(report.short);
+    if lies_below(report.rows, m) && lies_below(report.columns, n) {
+        io::write_all(1, b" yes\n");
+    } else {
+        io::write_all(1, b" no\n");
+    }
+}
+
+// The rest of a line whose name is written.
+pub fn answer_line(p: u32, n: usize, a: usize, b: usize, constants: &[u16], parameters: &[u64]) {
+    tell(
+        solvability::mixed_rank(p, n, a, b, constants, parameters),
+        a,
+        n,
+    );
+}
+
+// A whole line.
+pub fn line(
+    name: &[u8],
+    p: u32,
+    n: usize,
+    a: usize,
+    b: usize,
+    constants: &[u16],
+    parameters: &[u64],
+) {
+    io::write_all(1, name);
+    answer_line(p, n, a, b, constants, parameters);
+}
