@@ -18,6 +18,10 @@ pub mod RefusalLaws
 pub mod TestLaws
 pub mod Answers
 pub mod AnswerLaws
+pub mod PutLaws
+pub mod Report
+pub mod ReportLaws
+pub mod ReportExamples
 pub mod MixedForm
 pub mod MixedEntries
 pub mod MixedAnswers

@@ -11,6 +11,7 @@ mod model;
 mod read;
 mod reader;
 pub mod refusals;
+mod report;
 mod write;
 
 pub use area::layered_bytes;
@@ -32,5 +33,7 @@ pub use reader::judge_field;
 pub use reader::judge_file;
 pub use reader::judge_rest;
 pub use reader::open_reader;
+pub use report::write_refusal;
+pub use report::write_report;
 pub use write::Written;
 pub use write::write_file;
