@@ -10,7 +10,7 @@ use crate::host::put_numbers;
 use crate::layered::layered_rank;
 use crate::mixed::mixed_rank;
 use crate::refusals;
-use crate::write::put_set;
+use crate::host::put_set;
 
 // How many bytes a mixed answer takes.
 const MIXED_LENGTH: usize = 26;
