@@ -28,9 +28,9 @@ fn flag(b: bool) {
 fn describe(set: u64) {
     io::write_all(1, b"set");
     number(set);
-    number(exchange::columns::size(set) as u64);
-    number(exchange::columns::first(set) as u64);
-    flag(exchange::columns::is_empty(set));
+    number(columns::size(set) as u64);
+    number(columns::first(set) as u64);
+    flag(columns::is_empty(set));
     io::write_all(1, b"\n");
 }
 
@@ -38,20 +38,20 @@ fn describe(set: u64) {
 fn at(set: u64, x: usize) {
     io::write_all(1, b"at");
     number(x as u64);
-    flag(exchange::columns::contains(set, x));
-    flag(exchange::columns::within(set, x));
-    number(exchange::columns::with(set, x));
-    number(exchange::columns::without(set, x));
-    number(exchange::columns::below(x));
-    number(exchange::columns::byte(set, x) as u64);
+    flag(columns::contains(set, x));
+    flag(columns::within(set, x));
+    number(columns::with(set, x));
+    number(columns::without(set, x));
+    number(columns::below(x));
+    number(columns::byte(set, x) as u64);
     io::write_all(1, b"\n");
 }
 
 // One line: two words.
 fn pair(set: u64, other: u64) {
     io::write_all(1, b"pair");
-    number(exchange::columns::union(set, other));
-    number(exchange::columns::difference(set, other));
+    number(columns::union(set, other));
+    number(columns::difference(set, other));
     io::write_all(1, b"\n");
 }
 
@@ -68,11 +68,11 @@ fn over_words(set: u64) {
 }
 
 fn main() {
-    number(exchange::columns::empty());
-    number(exchange::columns::of_bytes(b""));
-    number(exchange::columns::of_bytes(b"\x02"));
-    number(exchange::columns::of_bytes(b"\x01\x02\x03\x04\x05\x06\x07\x80"));
-    number(exchange::columns::of_bytes(b"\xff\xff\xff\xff\xff\xff\xff\xff\xff"));
+    number(columns::empty());
+    number(columns::of_bytes(b""));
+    number(columns::of_bytes(b"\x02"));
+    number(columns::of_bytes(b"\x01\x02\x03\x04\x05\x06\x07\x80"));
+    number(columns::of_bytes(b"\xff\xff\xff\xff\xff\xff\xff\xff\xff"));
     io::write_all(1, b"\n");
     for i in 0..6 {
         let set = WORDS[i];

@@ -8,9 +8,9 @@ use native.Mathlib.Decide.{ℕ-discrete, decLe, decLt}
 use lib.ListN.{getD}
 use Rattle.residue.specs.Arithmetic.{Prime}
 use Rattle.residue.specs.Residues.{residues, res, mk, plus, times}
-use Rattle.exchange.specs.Counting.Sets.{Set, indicator, #, all, any, choose, set, touching}
-use Rattle.exchange.specs.Counting.Choices.{greatest, largest, some, every, membership, largest-part, every-part}
-use Rattle.exchange.specs.Columns.{members}
+use Rattle.columns.specs.Counting.Sets.{Set, indicator, #, all, any, choose, set, touching}
+use Rattle.columns.specs.Counting.Choices.{greatest, largest, some, every, membership, largest-part, every-part}
+use Rattle.columns.specs.Columns.{members}
 use Rattle.exchange.specs.Linear.Independence.{Σ, dot}
 use Rattle.exchange.specs.Layered.Model.{Model, same-row, has-parameter, legal}
 use Rattle.exchange.specs.Layered.Rank.{seat, constant-rank, sum, last-seat, largest-assignment, some-assignment, row-outside, matching, rank, placeable, taken, placed, short, verdict}

@@ -8,10 +8,10 @@ use native.Mathlib.Decide.{decLt}
 use Rattle.residue.specs.Arithmetic.{Prime}
 use Rattle.residue.specs.Fields.{Field}
 use Rattle.residue.specs.Residues.{residues, res, numOf, numOf-below, res-numOf, res-zero}
-use Rattle.exchange.specs.Counting.Bools.{true?, implies, implied}
-use Rattle.exchange.specs.Counting.Sets.{Set, all, choose}
-use Rattle.exchange.specs.Counting.Counts.{all-iff}
-use Rattle.exchange.specs.Counting.ChoiceLaws.{Chosen, every-iff, cond-true, cond-false}
+use Rattle.columns.specs.Counting.Bools.{true?, implies, implied}
+use Rattle.columns.specs.Counting.Sets.{Set, all, choose}
+use Rattle.columns.specs.Counting.Counts.{all-iff}
+use Rattle.columns.specs.Counting.ChoiceLaws.{Chosen, every-iff, cond-true, cond-false}
 use Rattle.exchange.specs.Linear.Independence.{dot, In, Kills, Indep}
 use Rattle.exchange.specs.Linear.Sums.{dot-cong}
 use Rattle.exchange.specs.Independent.{is-zero, kills, independent}

@@ -1,8 +1,4 @@
--- From sets and their sizes to the rank; Code is what the program's arrays mean.
-pub mod Counting
-pub mod Bytes
-pub mod Columns
-pub mod Words
+-- From residues and the exchange graph to the rank; Code is what the program's arrays mean.
 pub mod Modulus
 pub mod ModulusLaws
 pub mod Linear

@@ -6,8 +6,8 @@ use mathlib.Core.List.{List}
 use lib.ListN.{getD}
 use Rattle.residue.specs.Arithmetic.{Prime}
 use Rattle.residue.specs.Residues.{residues, res}
-use Rattle.exchange.specs.Counting.Sets.{Set}
-use Rattle.exchange.specs.Columns.{members}
+use Rattle.columns.specs.Counting.Sets.{Set}
+use Rattle.columns.specs.Columns.{members}
 use Rattle.exchange.specs.Modulus.{modulus}
 use Rattle.exchange.specs.ModelModulo.{model-modulo}
 use Rattle.exchange.specs.Layered.Model.{Model}

@@ -3,7 +3,7 @@ use Prim.Native.Nat.{ℕ}
 use mathlib.Core.Bool.{Bool}
 use Rattle.residue.specs.Arithmetic.{Prime}
 use Rattle.residue.specs.Residues.{residues}
-use Rattle.exchange.specs.Counting.Sets.{Set}
+use Rattle.columns.specs.Counting.Sets.{Set}
 use Rattle.exchange.specs.Layered.Model.{Model}
 use Rattle.exchange.specs.Independent.{independent}
 use Rattle.exchange.specs.IndependentLaws.{independent-iff}

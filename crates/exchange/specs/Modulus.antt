@@ -7,7 +7,7 @@ use Rattle.residue.specs.Arithmetic.{Prime, isPrime, undivided}
 use Rattle.residue.specs.Primes.{isPrime-reads, prime-by}
 use Rattle.residue.specs.Fields.{Field}
 use Rattle.residue.specs.Residues.{residues, res}
-use Rattle.exchange.specs.Counting.Bools.{true?}
+use Rattle.columns.specs.Counting.Bools.{true?}
 
 -- 2 is prime
 pub two-prime : Prime 2

@@ -6,8 +6,8 @@ use mathlib.Core.List.{List}
 use lib.ListN.{length, getD, replicate}
 use lib.Dec.{leb, ltb}
 use Rattle.residue.specs.Arithmetic.{isPrime}
-use Rattle.exchange.specs.Counting.Sets.{Set, all}
-use Rattle.exchange.specs.Columns.{width, members, within}
+use Rattle.columns.specs.Counting.Sets.{Set, all}
+use Rattle.columns.specs.Columns.{width, members, within}
 use Rattle.exchange.specs.Modulus.{modulus, field-of, residue-of}
 use Rattle.exchange.specs.ModelModulo.{model-modulo}
 use Rattle.exchange.specs.Solution.{Solved}

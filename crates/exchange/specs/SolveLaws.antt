@@ -10,10 +10,10 @@ use lib.ListN.{length, getD}
 use lib.Dec.{leb, ltb}
 use borrow.Author.Tests.{leb-true, lt-ltb, ltb-true}
 use Rattle.residue.specs.Arithmetic.{isPrime}
-use Rattle.exchange.specs.Counting.Bools.{iff-eq, and-left, and-right}
-use Rattle.exchange.specs.Counting.Sets.{Some, all}
-use Rattle.exchange.specs.Counting.Counts.{all-iff}
-use Rattle.exchange.specs.Columns.{width, within}
+use Rattle.columns.specs.Counting.Bools.{iff-eq, and-left, and-right}
+use Rattle.columns.specs.Counting.Sets.{Some, all}
+use Rattle.columns.specs.Counting.Counts.{all-iff}
+use Rattle.columns.specs.Columns.{width, within}
 use Rattle.exchange.specs.Solve.{all-below, fitting, admissible}
 
 pub all-below-iff : (p k : ℕ) (cs : List ℕ) → (all-below p k cs ≡ true → (i : ℕ) → i < k → getD cs i 0 < p) × (((i : ℕ) → i < k → getD cs i 0 < p) → all-below p k cs ≡ true)

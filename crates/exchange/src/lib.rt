@@ -1,21 +1,20 @@
 // Elimination and matching: the answer to a layered model, by placing one column after another on a row of its own.
-// Column sets, as words, are the lowest part; then the tableau, the search of the exchange graph, seats, and the offering of
-// columns. Code outside sees the column sets and one call.
+// Over the column sets of `columns`: the tableau, the search of the exchange graph, seats, and the offering of columns. Code
+// outside sees one call.
 ghost use mathlib.Core.Path.{_≡_};
 ghost use mathlib.Core.Logic.{_↔_};
 ghost use mathlib.Core.Bool.{true, false};
 ghost use Prim.Native.Nat.{ℕ, _<_, _≤_};
 ghost use lib.ListN.{length, replicate};
 ghost use Rattle.residue.specs.Arithmetic.{isPrime};
-ghost use Rattle.exchange.specs.Counting.Sets.{_∈_};
-ghost use Rattle.exchange.specs.Columns.{members, within};
+ghost use Rattle.columns.specs.Counting.Sets.{_∈_};
+ghost use Rattle.columns.specs.Columns.{members, within};
 ghost use Rattle.exchange.specs.Solution.{Solved};
 ghost use Rattle.exchange.specs.Solve.{Solves};
 ghost use Rattle.exchange.specs.Code.Cells.{Below};
 ghost use Rattle.exchange.specs.Code.Held.{Given, model-of, ShowsConstants};
 
 mod admission;
-pub mod columns;
 mod offering;
 mod search;
 mod seating;

@@ -6,15 +6,14 @@ ghost use Prim.Native.Nat.{ℕ, _+_, _<_, _≤_};
 ghost use lib.ListN.{length, getD};
 ghost use lib.Dec.{ltb};
 ghost use Rattle.residue.specs.Arithmetic.{isPrime};
-ghost use Rattle.exchange.specs.Counting.Sets.{_∈_, Some};
-ghost use Rattle.exchange.specs.Columns.{members};
+ghost use Rattle.columns.specs.Counting.Sets.{_∈_, Some};
+ghost use Rattle.columns.specs.Columns.{members};
 ghost use Rattle.exchange.specs.Layered.Offers.{Offered};
 ghost use Rattle.exchange.specs.Code.Cells.{Below};
 ghost use Rattle.exchange.specs.Code.Reading.{owned};
 ghost use Rattle.exchange.specs.Code.Held.{Given, model-of, Held};
 ghost use Rattle.exchange.specs.Code.Offering.{Offers, Offered-all};
 ghost use Rattle.exchange.specs.Code.Answer.{Side, shown-column};
-use crate::columns;
 use crate::search;
 use crate::seating;
 

@@ -3,12 +3,11 @@
 ghost use mathlib.Core.Path.{_≡_};
 ghost use Prim.Native.Nat.{ℕ, _+_, _<_, _≤_};
 ghost use lib.ListN.{length};
-ghost use Rattle.exchange.specs.Counting.Sets.{Set, _∈_};
-ghost use Rattle.exchange.specs.Columns.{members};
+ghost use Rattle.columns.specs.Counting.Sets.{Set, _∈_};
+ghost use Rattle.columns.specs.Columns.{members};
 ghost use Rattle.exchange.specs.Graph.States.{State};
 ghost use Rattle.exchange.specs.Code.Reading.{touched, owned, Scanned};
 ghost use Rattle.exchange.specs.Code.Searching.{Shows, Searched};
-use crate::columns;
 
 // Whether row q touches the column x.
 fn touches(t: &[u16; 4096], parameters: &[u64], a: usize, q: usize, x: usize) -> bool

@@ -9,7 +9,6 @@ ghost use Rattle.exchange.specs.Code.Cells.{Below};
 ghost use Rattle.exchange.specs.Code.Reading.{owned};
 ghost use Rattle.exchange.specs.Code.Held.{Given, Held, Vacated, Sat};
 ghost use Rattle.exchange.specs.Code.Placing.{Placing};
-use crate::columns;
 use crate::search;
 use crate::tableau;
 

@@ -12,12 +12,12 @@ use lib.Dec.{eqb, leb, ltb}
 use borrow.Author.Tests.{le-leb, lt-ltb, leb-true, eq-eqb, ne-eqb}
 use Rattle.residue.specs.Arithmetic.{isPrime}
 use Rattle.residue.specs.Primes.{prime→test}
-use Rattle.exchange.specs.Counting.Bools.{and-in, and-left, and-right}
-use Rattle.exchange.specs.Counting.Sets.{Set, _∈_, indicator, #}
-use Rattle.exchange.specs.Counting.Counts.{#-le, #-all}
-use Rattle.exchange.specs.Columns.{width, members, upto, word-of, within}
-use Rattle.exchange.specs.Words.Operations.{within-iff, word-members}
-use Rattle.exchange.specs.Words.SetLaws.{upto-iff}
+use Rattle.columns.specs.Counting.Bools.{and-in, and-left, and-right}
+use Rattle.columns.specs.Counting.Sets.{Set, _∈_, indicator, #}
+use Rattle.columns.specs.Counting.Counts.{#-le, #-all}
+use Rattle.columns.specs.Columns.{width, members, upto, word-of, within}
+use Rattle.columns.specs.Words.Operations.{within-iff, word-members}
+use Rattle.columns.specs.Words.SetLaws.{upto-iff}
 use Rattle.exchange.specs.Layered.Model.{Model}
 use Rattle.exchange.specs.Layered.Rank.{rank, placed, short, verdict}
 use Rattle.exchange.specs.Layered.ColumnOrder.{placed-size}

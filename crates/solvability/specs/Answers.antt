@@ -4,7 +4,7 @@ use mathlib.Core.Path.{_≡_}
 use mathlib.Core.Logic.{_≢_}
 use mathlib.Core.List.{List}
 use lib.ListN.{replicate}
-use Rattle.exchange.specs.Columns.{width, members, word-of}
+use Rattle.columns.specs.Columns.{width, members, word-of}
 use Rattle.exchange.specs.Layered.Model.{Model}
 use Rattle.exchange.specs.Layered.Rank.{placed, short, verdict}
 use Rattle.exchange.specs.Solution.{Solved}

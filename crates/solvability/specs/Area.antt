@@ -4,7 +4,7 @@ use mathlib.Core.Path.{_≡_}
 use mathlib.Core.Logic.{_≢_}
 use mathlib.Core.List.{List, _∷_, _++_}
 use lib.ListN.{length}
-use Rattle.exchange.specs.Bytes.{bytesOf}
+use Rattle.columns.specs.Bytes.{bytesOf}
 use Rattle.solvability.specs.Lists.{over}
 use Rattle.solvability.specs.Model.{model}
 use Rattle.solvability.specs.Mixed.{Mixed, mixed}

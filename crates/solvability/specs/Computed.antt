@@ -7,11 +7,11 @@ use mathlib.Core.List.{List, [], _∷_}
 use native.Mathlib.Decide.{ℕ-discrete, decLe, decLt}
 use Rattle.residue.specs.Arithmetic.{Prime, isPrime, undivided}
 use Rattle.residue.specs.Residues.{residues, res, mk, plus, times}
-use Rattle.exchange.specs.Counting.Bools.{true?}
-use Rattle.exchange.specs.Counting.Sets.{indicator, #, all, any, choose, set, touching}
-use Rattle.exchange.specs.Counting.Beside.{beside}
-use Rattle.exchange.specs.Counting.Choices.{greatest, largest, some, every, membership, largest-part, every-part}
-use Rattle.exchange.specs.Columns.{members}
+use Rattle.columns.specs.Counting.Bools.{true?}
+use Rattle.columns.specs.Counting.Sets.{indicator, #, all, any, choose, set, touching}
+use Rattle.columns.specs.Counting.Beside.{beside}
+use Rattle.columns.specs.Counting.Choices.{greatest, largest, some, every, membership, largest-part, every-part}
+use Rattle.columns.specs.Columns.{members}
 use Rattle.exchange.specs.Modulus.{modulus, modulus-at}
 use Rattle.exchange.specs.Linear.Independence.{Σ, dot}
 use Rattle.exchange.specs.Layered.Model.{Seat, out, constant, row, same-row, has-parameter, legal}

@@ -1,7 +1,7 @@
 -- Demand 3 holds of the rank and the short set, over every list of steps. Assumes nothing.
 use Prim.Native.Nat.{ℕ}
 use mathlib.Core.Path.{_≡_, fun-ext}
-use Rattle.exchange.specs.Counting.Sets.{Set}
+use Rattle.columns.specs.Counting.Sets.{Set}
 use Rattle.exchange.specs.Layered.Model.{Model}
 use Rattle.exchange.specs.Layered.Rank.{rank, short}
 use Rattle.exchange.specs.Layered.Reading.{short-iff}

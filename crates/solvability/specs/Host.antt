@@ -4,7 +4,7 @@ use mathlib.Core.Path.{_≡_}
 use mathlib.Core.Logic.{_≢_}
 use mathlib.Core.List.{List, _∷_, _++_, flatten}
 use lib.ListN.{length}
-use Rattle.exchange.specs.Bytes.{bytesOf}
+use Rattle.columns.specs.Bytes.{bytesOf}
 use Rattle.exchange.specs.Layered.Model.{Model}
 use Rattle.solvability.specs.Lists.{over}
 use Rattle.solvability.specs.Model.{model}

@@ -12,8 +12,8 @@ use lib.ListN.{length, getD, take, drop, replicate, length-append, length-replic
 use lib.Seq.{getD-append-add, getD-drop, take-append-seam}
 use borrow.Author.Tests.{lt-leb}
 use Rattle.residue.specs.Residues.{res}
-use Rattle.exchange.specs.Columns.{members, within}
-use Rattle.exchange.specs.Words.Bytes.{AreBytes}
+use Rattle.columns.specs.Columns.{members, within}
+use Rattle.columns.specs.Words.Bytes.{AreBytes}
 use Rattle.exchange.specs.Modulus.{modulus}
 use Rattle.exchange.specs.ModelModulo.{model-modulo}
 use Rattle.exchange.specs.Layered.Model.{Model}
@@ -106,14 +106,25 @@ module _ (s : List ℕ) (bytes : AreBytes s) (ok : judge s ≡ 0) where
       let rows = decode s .parameters in
       let len = constants-length in
       let count = valid .parameter-rows in
-      acceptance-reads _ .1
-      (prime-reads _ .1 (valid .p-most, valid .prime),
-      (size-reads _ _ _ .1 (valid .n-least, valid .n-most, valid .a-most, valid .b-most),
-      (area-reads _ _ .1 (omega (arith, over-length flat cs (omega arith))),
-      (area-reads _ _ .1 (omega (arith, over-length rows ws (omega arith))),
-      (constant-reads _ _ .1 (subst (All (λ c. c < decode s .p)) (sym (over-front flat cs _ len)) (flat-below _ _ _ (valid .constants-below))),
-      (parameter-reads _ _ .1 (subst (All (λ w. within (decode s .n) w ≡ true)) (sym (over-front rows ws _ count)) (all-left _ _ rows (valid .parameters-within))),
-      tt))))))
+      acceptance-reads _ .1 (
+        prime-reads _ .1 (valid .p-most, valid .prime),
+        (
+          size-reads _ _ _ .1 (valid .n-least, valid .n-most, valid .a-most, valid .b-most),
+          (
+            area-reads _ _ .1 (omega (arith, over-length flat cs (omega arith))),
+            (
+              area-reads _ _ .1 (omega (arith, over-length rows ws (omega arith))),
+              (
+                constant-reads _ _ .1 (subst (All (λ c. c < decode s .p)) (sym (over-front flat cs _ len)) (flat-below _ _ _ (valid .constants-below))),
+                (
+                  parameter-reads _ _ .1 (subst (All (λ w. within (decode s .n) w ≡ true)) (sym (over-front rows ws _ count)) (all-left _ _ rows (valid .parameters-within))),
+                  tt,
+                ),
+              ),
+            ),
+          ),
+        ),
+      )
 
 -- ---- the call
 

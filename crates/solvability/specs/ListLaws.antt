@@ -7,7 +7,7 @@ use mathlib.Core.List.{List, [], _∷_}
 use native.Mathlib.Omega.{arith}
 use lib.ListN.{length, getD, take, drop, length-drop}
 use lib.Seq.{take-all, drop-cons}
-use Rattle.exchange.specs.Counting.Bools.{and-in, and-left, and-right}
+use Rattle.columns.specs.Counting.Bools.{and-in, and-left, and-right}
 use Rattle.solvability.specs.Lists.{every, All}
 
 -- a test of every element, by what the test of one says

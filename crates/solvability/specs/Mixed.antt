@@ -8,9 +8,9 @@ use native.Mathlib.Decide.{ℕ-discrete, decLt}
 use Rattle.residue.specs.Arithmetic.{Prime}
 use Rattle.residue.specs.Fields.{Field}
 use Rattle.residue.specs.Residues.{residues}
-use Rattle.exchange.specs.Counting.Sets.{Set, indicator, any}
-use Rattle.exchange.specs.Counting.Beside.{beside}
-use Rattle.exchange.specs.Counting.Choices.{largest-part}
+use Rattle.columns.specs.Counting.Sets.{Set, indicator, any}
+use Rattle.columns.specs.Counting.Beside.{beside}
+use Rattle.columns.specs.Counting.Choices.{largest-part}
 use Rattle.exchange.specs.Linear.Independence.{Indep}
 use Rattle.exchange.specs.Modulus.{modulus}
 use Rattle.exchange.specs.Layered.Model.{Model, row, Assignment, is-constant, same-row}

@@ -14,14 +14,14 @@ use Rattle.residue.specs.Arithmetic.{Prime, isPrime}
 use Rattle.residue.specs.Fields.{Field}
 use Rattle.residue.specs.Primes.{prime→test}
 use Rattle.residue.specs.Residues.{res-zero, res-one}
-use Rattle.exchange.specs.Counting.Bools.{true?, not-true, iff-eq, and-in, and-left, and-right, not-of, not-both, not-in}
-use Rattle.exchange.specs.Counting.Sets.{Set, _∈_, indicator, #}
-use Rattle.exchange.specs.Counting.Counts.{#-ext}
-use Rattle.exchange.specs.Counting.Beside.{beside}
-use Rattle.exchange.specs.Counting.Blocks.{beside-low, beside-high, low-or-high}
-use Rattle.exchange.specs.Columns.{width, members, upto, inserted, moved-up, word-of, within}
-use Rattle.exchange.specs.Words.Operations.{within-iff, word-members}
-use Rattle.exchange.specs.Words.SetLaws.{upto-iff, inserted-same, inserted-old, inserted-split}
+use Rattle.columns.specs.Counting.Bools.{true?, not-true, iff-eq, and-in, and-left, and-right, not-of, not-both, not-in}
+use Rattle.columns.specs.Counting.Sets.{Set, _∈_, indicator, #}
+use Rattle.columns.specs.Counting.Counts.{#-ext}
+use Rattle.columns.specs.Counting.Beside.{beside}
+use Rattle.columns.specs.Counting.Blocks.{beside-low, beside-high, low-or-high}
+use Rattle.columns.specs.Columns.{width, members, upto, inserted, moved-up, word-of, within}
+use Rattle.columns.specs.Words.Operations.{within-iff, word-members}
+use Rattle.columns.specs.Words.SetLaws.{upto-iff, inserted-same, inserted-old, inserted-split}
 use Rattle.exchange.specs.Modulus.{modulus, field-of, residue-of}
 use Rattle.exchange.specs.Layered.Model.{Model, Seat, out, constant, row, Assignment, is-placed, is-constant, placing, constants, Legal, size}
 use Rattle.exchange.specs.Layered.Rank.{rank, placed, short}

@@ -3,8 +3,8 @@ use Prim.Native.Nat.{ℕ, _<_}
 use mathlib.Core.Path.{_≡_}
 use mathlib.Core.Logic.{_≢_}
 use mathlib.Core.List.{List}
-use Rattle.exchange.specs.Counting.Sets.{_∈_}
-use Rattle.exchange.specs.Columns.{width, members, word-of}
+use Rattle.columns.specs.Counting.Sets.{_∈_}
+use Rattle.columns.specs.Columns.{width, members, word-of}
 use Rattle.exchange.specs.Layered.Rank.{short}
 use Rattle.solvability.specs.Mixed.{Mixed, mixed-sum, mixed-rank, mixed-verdict, layered-form, mixed}
 use Rattle.solvability.specs.Refusals.{mixedRefusal}

@@ -8,9 +8,9 @@ use native.Mathlib.Nat.{mod-lt, div-lt-iff-lt-mul, mul-zero, mul-le-mul}
 use lib.ListN.{getD}
 use lib.Dec.{eqb}
 use borrow.Author.Tests.{eq-eqb, ne-eqb}
-use Rattle.exchange.specs.Counting.Sets.{indicator}
-use Rattle.exchange.specs.Counting.Beside.{beside}
-use Rattle.exchange.specs.Counting.Blocks.{beside-low, beside-high}
+use Rattle.columns.specs.Counting.Sets.{indicator}
+use Rattle.columns.specs.Counting.Beside.{beside}
+use Rattle.columns.specs.Counting.Blocks.{beside-low, beside-high}
 use Rattle.solvability.specs.MixedForm.{form-entry}
 
 pub width-positive : (m n k : ℕ) → k < m * (m + n) → 0 < m + n

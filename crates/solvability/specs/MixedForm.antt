@@ -3,9 +3,9 @@ use Prim.Native.Nat.{ℕ, _+_, _*_, _/_, _%_, _<_, _≤_}
 use mathlib.Core.List.{List}
 use lib.ListN.{getD}
 use lib.Dec.{eqb}
-use Rattle.exchange.specs.Counting.Sets.{Set, indicator}
-use Rattle.exchange.specs.Counting.Beside.{beside}
-use Rattle.exchange.specs.Columns.{inserted, moved-up}
+use Rattle.columns.specs.Counting.Sets.{Set, indicator}
+use Rattle.columns.specs.Counting.Beside.{beside}
+use Rattle.columns.specs.Columns.{inserted, moved-up}
 
 -- entry k of the form's m rows of m + n constants: the unit matrix, and behind it the constants
 unfoldable pub form-entry : (m n : ℕ) → List ℕ → ℕ → ℕ

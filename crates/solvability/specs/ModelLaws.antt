@@ -11,8 +11,8 @@ use Rattle.residue.specs.Arithmetic.{Prime}
 use Rattle.residue.specs.Primes.{prime→test}
 use Rattle.residue.specs.Fields.{Field}
 use Rattle.residue.specs.Residues.{residues, res, numOf, res-numOf, res-zero, res-is-zero, res-add, res-mul}
-use Rattle.exchange.specs.Counting.Sets.{Set}
-use Rattle.exchange.specs.Counting.Counts.{#-all}
+use Rattle.columns.specs.Counting.Sets.{Set}
+use Rattle.columns.specs.Counting.Counts.{#-all}
 use Rattle.exchange.specs.Modulus.{modulus}
 use Rattle.exchange.specs.ModulusLaws.{modulus-is}
 use Rattle.exchange.specs.Linear.Independence.{Σ, dot, In, Indep}

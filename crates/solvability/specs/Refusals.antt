@@ -7,7 +7,7 @@ use mathlib.Core.List.{List, [], _∷_, _++_}
 use lib.ListN.{length, getD, take}
 use lib.Dec.{leb, ltb, eqb}
 use Rattle.residue.specs.Arithmetic.{isPrime}
-use Rattle.exchange.specs.Columns.{width, within}
+use Rattle.columns.specs.Columns.{width, within}
 use Rattle.solvability.specs.Lists.{every}
 
 -- ---- causes and their numbers

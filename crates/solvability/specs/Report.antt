@@ -7,8 +7,8 @@ use mathlib.Core.Bool.{cond}
 use mathlib.Core.List.{List, [], _∷_, _++_, flatMap}
 use lib.Dec.{eqb, leb, ltb}
 use lib.ListN.{length}
-use Rattle.exchange.specs.Counting.Sets.{Set}
-use Rattle.exchange.specs.Columns.{width, members}
+use Rattle.columns.specs.Counting.Sets.{Set}
+use Rattle.columns.specs.Columns.{width, members}
 use Rattle.solvability.specs.Lists.{over}
 
 -- ---- characters and numbers

@@ -2,7 +2,7 @@
 use mathlib.Core.Path.{_≡_, refl}
 use mathlib.Core.List.{[], _∷_, _++_, flatMap}
 use lib.ListN.{replicate}
-use Rattle.exchange.specs.Columns.{members}
+use Rattle.columns.specs.Columns.{members}
 use Rattle.solvability.specs.Report.{ascii, digits, decimal, line, item, columns-from, column-items, row-item, row-items, verdict-line, answer-text, refused-line, report-text}
 
 document-example : report-text 0 1 2 1 0 (1 ∷ replicate 63 255) ≡ ascii "verdict determined\nrank 2\nconstants 0\nparameters 0:1\nshort\n"

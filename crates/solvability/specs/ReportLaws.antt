@@ -11,11 +11,11 @@ use native.Mathlib.Numerals.{add-one}
 use lib.ListN.{length, getD, drop, length-append}
 use lib.Seq.{drop-cons}
 use borrow.Author.Tests.{lt-ltb, le-ltb, le-leb, lt-leb, eq-eqb, ne-eqb}
-use Rattle.exchange.specs.Counting.Bools.{not-true, iff-eq}
-use Rattle.exchange.specs.Counting.Sets.{Set, _∈_, #}
-use Rattle.exchange.specs.Columns.{width, members, removed, least}
-use Rattle.exchange.specs.Words.SetLaws.{removed-old, removed-gone, removed-other, least-there, nothing-in}
-use Rattle.exchange.specs.Words.Operations.{least-first}
+use Rattle.columns.specs.Counting.Bools.{not-true, iff-eq}
+use Rattle.columns.specs.Counting.Sets.{Set, _∈_, #}
+use Rattle.columns.specs.Columns.{width, members, removed, least}
+use Rattle.columns.specs.Words.SetLaws.{removed-old, removed-gone, removed-other, least-there, nothing-in}
+use Rattle.columns.specs.Words.Operations.{least-first}
 use Rattle.solvability.specs.Lists.{over}
 use Rattle.solvability.specs.OverLaws.{over-none}
 use Rattle.solvability.specs.PutLaws.{Puts, puts-over}

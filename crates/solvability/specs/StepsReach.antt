@@ -6,10 +6,10 @@ use mathlib.Core.List.{List, [], _∷_, _++_}
 use mathlib.Core.Logic.{inl, inr}
 use native.Mathlib.Omega.{arith}
 use native.Mathlib.Decide.{ℕ-discrete, decLt}
-use Rattle.exchange.specs.Counting.Bools.{true?}
-use Rattle.exchange.specs.Counting.Sets.{_∈_, set}
-use Rattle.exchange.specs.Counting.Counts.{set-same, set-other}
-use Rattle.exchange.specs.Counting.ChoiceLaws.{cond-true, cond-false}
+use Rattle.columns.specs.Counting.Bools.{true?}
+use Rattle.columns.specs.Counting.Sets.{_∈_, set}
+use Rattle.columns.specs.Counting.Counts.{set-same, set-other}
+use Rattle.columns.specs.Counting.ChoiceLaws.{cond-true, cond-false}
 use Rattle.exchange.specs.Layered.Model.{Model, out, Assignment, is-placed, placing, Legal}
 use Rattle.exchange.specs.Layered.Reading.{seat-cases}
 use Rattle.solvability.specs.StepsLaws.{named-iff, place-iff}

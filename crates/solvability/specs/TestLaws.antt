@@ -11,8 +11,8 @@ use lib.Dec.{leb, ltb, eqb}
 use borrow.Author.Tests.{leb-true, ltb-true, eqb-true, le-leb, lt-ltb, eq-eqb}
 use Rattle.residue.specs.Arithmetic.{isPrime, Prime}
 use Rattle.residue.specs.Primes.{isPrime-reads}
-use Rattle.exchange.specs.Columns.{within}
-use Rattle.exchange.specs.Counting.Bools.{and-in, and-left, and-right}
+use Rattle.columns.specs.Columns.{within}
+use Rattle.columns.specs.Counting.Bools.{and-in, and-left, and-right}
 use Rattle.solvability.specs.Lists.{All}
 use Rattle.solvability.specs.ListLaws.{every-all, all-at}
 use Rattle.solvability.specs.Refusals.{largestPrime, mostColumns, mostRows, headTest, bodyTest, dueTest, primeTest, sizeTest, constantTest, parameterTest, endTest, areaTest, rowTest, modelTests, refusal}

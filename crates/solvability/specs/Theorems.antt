@@ -4,8 +4,8 @@ use mathlib.Core.Path.{_≡_, fun-ext}
 use mathlib.Core.Bool.{cond}
 use mathlib.Core.List.{List}
 use mathlib.Core.Logic.{_↔_}
-use Rattle.exchange.specs.Counting.Sets.{Set, _∈_, _⊆_, #}
-use Rattle.exchange.specs.Counting.Choices.{Part}
+use Rattle.columns.specs.Counting.Sets.{Set, _∈_, _⊆_, #}
+use Rattle.columns.specs.Counting.Choices.{Part}
 use Rattle.exchange.specs.Graph.States.{Placed, placed-of}
 use Rattle.exchange.specs.Graph.Closed.{Closed}
 use Rattle.exchange.specs.Graph.Layers.{layer, unplaced}

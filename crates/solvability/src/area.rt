@@ -7,10 +7,10 @@ ghost use Rattle.solvability.specs.Area.{mixed-length, mixed-bytes, Laye
 use crate::host::ANSWER_LENGTH;
 use crate::host::put_answer;
 use crate::host::put_numbers;
+use crate::host::put_set;
 use crate::layered::layered_rank;
 use crate::mixed::mixed_rank;
 use crate::refusals;
-use crate::host::put_set;
 
 // How many bytes a mixed answer takes.
 const MIXED_LENGTH: usize = 26;
@@ -35,7 +35,15 @@ pub fn layered_bytes(
         return refusals::AREA_SHORT;
     }
     let rows = r.rows;
-    put_answer(answer, r.verdict, r.rank, r.placed, r.constants, r.short, rows);
+    put_answer(
+        answer,
+        r.verdict,
+        r.rank,
+        r.placed,
+        r.constants,
+        r.short,
+        rows,
+    );
     0
 }
 

@@ -83,7 +83,7 @@ pub fn parameters_within(parameters: &[u64], n: usize) -> bool
 {
     let mut rest = parameters;
     while rest.len() > 0 {
-        if !exchange::columns::within(rest[0], n) {
+        if !columns::within(rest[0], n) {
             return false;
         }
         rest = &rest[1..];

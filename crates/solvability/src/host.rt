@@ -33,7 +33,15 @@ fn put_rows(out: &mut [u8], rows: [u8; 64])
 }
 
 // The bytes of an answer: verdict, rank, placed set, constant side, short set, and the column of each parameter row.
-pub fn put_answer(out: &mut [u8], verdict: u8, rank: u8, placed: u64, side: u64, short: u64, rows: [u8; 64])
+pub fn put_answer(
+    out: &mut [u8],
+    verdict: u8,
+    rank: u8,
+    placed: u64,
+    side: u64,
+    short: u64,
+    rows: [u8; 64],
+)
     requires { ⌜ (answer-length ≤ length (now out)) × (length rows ≡ 64) ⌝ }
     ensures { λ _. ⌜ now (out .exit) ≡ over (answer-bytes verdict rank placed side short rows) (now (out .entry)) ⌝ }
 {
@@ -60,6 +68,14 @@ pub extern "C" fn wundreska_check(file: &[u8], answer: &mut [u8]) -> u32
     }
     let r = layered_rank(sizes.p, sizes.n, sizes.a, sizes.b, &constants, &parameters);
     let rows = r.rows;
-    put_answer(answer, r.verdict, r.rank, r.placed, r.constants, r.short, rows);
+    put_answer(
+        answer,
+        r.verdict,
+        r.rank,
+        r.placed,
+        r.constants,
+        r.short,
+        rows,
+    );
     0
 }

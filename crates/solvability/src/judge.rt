@@ -84,8 +84,8 @@ fn judge_parameter_row(rest: &[u8], n: usize) -> u32
     if r != 0 {
         return r;
     }
-    let set = exchange::columns::of_bytes(&rest[3..11]);
-    if !exchange::columns::within(set, n) {
+    let set = columns::of_bytes(&rest[3..11]);
+    if !columns::within(set, n) {
         return refusals::PARAMETER_BEYOND;
     }
     0

@@ -83,7 +83,7 @@ pub fn layered_rank(
     if !passes_beforehand(p, n, b, parameters) {
         return refuse(judge_model(p, n, a, b, constants, parameters));
     }
-    let all = exchange::columns::below(n);
+    let all = columns::below(n);
     let s = exchange::solve(p, n, a, b, all, constants, parameters);
     if !s.valid {
         return refuse(judge_model(p, n, a, b, constants, parameters));

@@ -4,8 +4,8 @@ ghost use mathlib.Core.Logic.{_↔_};
 ghost use mathlib.Core.Bool.{true, false};
 ghost use Prim.Native.Nat.{ℕ, _+_, _*_, _<_, _≤_};
 ghost use lib.ListN.{length, getD};
-ghost use Rattle.exchange.specs.Counting.Sets.{_∈_};
-ghost use Rattle.exchange.specs.Columns.{members};
+ghost use Rattle.columns.specs.Counting.Sets.{_∈_};
+ghost use Rattle.columns.specs.Columns.{members};
 ghost use Rattle.solvability.specs.Refusals.{mixedRefusal};
 ghost use Rattle.solvability.specs.MixedForm.{form-entry, form-row, serves};
 ghost use Rattle.solvability.specs.MixedAnswers.{MixedRefused, MixedAnswer};
@@ -96,8 +96,8 @@ fn fill_parameters(words: &mut [u64; 64], parameters: &[u64], m: usize)
     ensures { λ _. ⌜ (length (now (words .exit)) ≡ 64) × ((i : ℕ) → i < m → members (getD (now (words .exit)) i 0) ≡ form-row m (members (getD (now (parameters .entry)) i 0)) i) ⌝ }
 {
     for i in 0..m {
-        let own = exchange::columns::raised(parameters[i], m);
-        words[i] = exchange::columns::with(own, i);
+        let own = columns::raised(parameters[i], m);
+        words[i] = columns::with(own, i);
     }
 }
 
@@ -123,10 +123,10 @@ fn idle_rows(rows: [u8; 64], m: usize) -> u64
     requires { ⌜ m ≤ 64 ⌝ }
     ensures { λ r. ⌜ ((i : ℕ) → (i ∈ members r) ↔ ((i < m) × (serves m (getD rows i 0) → ⊥))) ⌝ }
 {
-    let mut idle = exchange::columns::empty();
+    let mut idle = columns::empty();
     for i in 0..m {
         if !serves_original(rows[i], m) {
-            idle = exchange::columns::with(idle, i);
+            idle = columns::with(idle, i);
         }
     }
     idle
@@ -151,13 +151,13 @@ pub fn mixed_rank(
     fill_constants(&mut form, constants, a, n);
     let mut words = [0u64; 64];
     fill_parameters(&mut words, parameters, a);
-    let all = exchange::columns::below(a + n);
+    let all = columns::below(a + n);
     let s = exchange::solve(p, a + n, a, a, all, &form, &words);
     let rank = s.rank - a;
     let verdict = verdict_of(rank, n);
     let shown = s.rows;
     let rows = idle_rows(shown, a);
-    let columns = exchange::columns::lowered(s.constants, a);
+    let columns = columns::lowered(s.constants, a);
     MixedReport {
         refusal: 0,
         verdict,

@@ -77,7 +77,7 @@ fn read_parameters(out: &mut [u64], file: &[u8], b: usize)
     let mut at = 0;
     let mut left = b;
     while left > 0 {
-        out[at] = exchange::columns::of_bytes(&rest[3..11]);
+        out[at] = columns::of_bytes(&rest[3..11]);
         rest = &rest[11..];
         at = at + 1;
         left = left - 1;

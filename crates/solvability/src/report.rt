@@ -2,7 +2,7 @@
 ghost use mathlib.Core.Path.{_≡_};
 ghost use mathlib.Core.List.{[], _∷_};
 ghost use Prim.Native.Nat.{_+_, _<_};
-ghost use Rattle.exchange.specs.Columns.{members};
+ghost use Rattle.columns.specs.Columns.{members};
 ghost use Rattle.solvability.specs.Report.{decimal, line, item, column-items, row-item, row-items, verdict-line, answer-text, refused-line, report-text, Reporting, ascii};
 ghost use Rattle.solvability.specs.PutLaws.{Room, Puts};
 use crate::layered::Answer;
@@ -117,10 +117,10 @@ fn put_columns(out: &mut [u8], at: usize, set: u64) -> usize
 {
     let mut place = at;
     let mut rest = set;
-    while !exchange::columns::is_empty(rest) {
-        let x = exchange::columns::first(rest);
+    while !columns::is_empty(rest) {
+        let x = columns::first(rest);
         place = put_item(out, place, x);
-        rest = exchange::columns::without(rest, x);
+        rest = columns::without(rest, x);
     }
     place
 }

@@ -3,7 +3,7 @@ ghost use mathlib.Core.Path.{_≡_};
 ghost use mathlib.Core.List.{[], _∷_, flatMap};
 ghost use Prim.Native.Nat.{_+_, _*_, _/_, _%_, _≤_};
 ghost use lib.ListN.{length};
-ghost use Rattle.exchange.specs.Bytes.{bytesOf};
+ghost use Rattle.columns.specs.Bytes.{bytesOf};
 ghost use Rattle.solvability.specs.Lists.{over, rowsOf};
 ghost use Rattle.solvability.specs.Refusals.{mostColumns, mostRows};
 ghost use Rattle.solvability.specs.File.Piece.{fieldBytes};
@@ -152,7 +152,7 @@ pub fn put_set(out: &mut [u8], set: u64)
 {
     let mut at = 0;
     while at < 8 {
-        out[at] = exchange::columns::byte(set, at);
+        out[at] = columns::byte(set, at);
         at = at + 1;
     }
 }

@@ -6,9 +6,9 @@ use mathlib.Core.Bool.{Bool, true, false, true≢false, false≢true}
 use lib.ListN.{replicate}
 use borrow.Author.Tests.{not-true, not-false}
 use Rattle.residue.specs.Primes.{isPrime-reads}
-use Rattle.exchange.specs.Counting.Sets.{Set, _∈_}
-use Rattle.exchange.specs.Columns.{members}
-use Rattle.exchange.specs.Words.Operations.{members-below, within-iff}
+use Rattle.columns.specs.Counting.Sets.{Set, _∈_}
+use Rattle.columns.specs.Columns.{members}
+use Rattle.columns.specs.Words.Operations.{members-below, within-iff}
 use Rattle.exchange.specs.Modulus.{residue-of}
 use Rattle.exchange.specs.Solve.{admissible}
 use Rattle.exchange.specs.SolveLaws.{all-below-iff, fitting-reads, admissible-reads}

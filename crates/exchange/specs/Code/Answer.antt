@@ -9,12 +9,12 @@ use native.Mathlib.Decide.{ℕ-discrete, decLt}
 use lib.ListN.{getD}
 use lib.Dec.{ltb}
 use borrow.Author.Tests.{lt-ltb, le-ltb}
-use Rattle.exchange.specs.Counting.Bools.{true?, not-true, iff-eq, and-in, and-left, and-right, not-of, not-both}
-use Rattle.exchange.specs.Counting.Sets.{Set, _∈_, _∩_, ∁, Some, #}
-use Rattle.exchange.specs.Counting.Counts.{some?, #-ext, #-none}
-use Rattle.exchange.specs.Counting.Blocks.{#-plus}
-use Rattle.exchange.specs.Columns.{width, none, inserted}
-use Rattle.exchange.specs.Words.SetLaws.{inserted-same, inserted-old, inserted-split}
+use Rattle.columns.specs.Counting.Bools.{true?, not-true, iff-eq, and-in, and-left, and-right, not-of, not-both}
+use Rattle.columns.specs.Counting.Sets.{Set, _∈_, _∩_, ∁, Some, #}
+use Rattle.columns.specs.Counting.Counts.{some?, #-ext, #-none}
+use Rattle.columns.specs.Counting.Blocks.{#-plus}
+use Rattle.columns.specs.Columns.{width, none, inserted}
+use Rattle.columns.specs.Words.SetLaws.{inserted-same, inserted-old, inserted-split}
 use Rattle.exchange.specs.Graph.States.{State, Placed, placed-of, placed-iff, Terminal}
 use Rattle.exchange.specs.Graph.Closed.{Closed}
 use Rattle.exchange.specs.Graph.Layers.{grow, grow-old, grow-arc, grow-split, layer, layer-start, layer-next, unplaced, unplaced-iff}

@@ -13,10 +13,10 @@ use lib.Seq.{getD-set-same, getD-set-other}
 use borrow.Author.Tests.{ne-eqb, eq-eqb}
 use Rattle.residue.specs.Arithmetic.{isPrime, mulOf, invOf}
 use Rattle.residue.specs.Fields.{Field}
-use Rattle.exchange.specs.Counting.Bools.{iff-eq}
-use Rattle.exchange.specs.Counting.Sets.{Set, _∈_, set}
-use Rattle.exchange.specs.Counting.Counts.{set-same, set-other}
-use Rattle.exchange.specs.Columns.{members}
+use Rattle.columns.specs.Counting.Bools.{iff-eq}
+use Rattle.columns.specs.Counting.Sets.{Set, _∈_, set}
+use Rattle.columns.specs.Counting.Counts.{set-same, set-other}
+use Rattle.columns.specs.Columns.{members}
 use Rattle.exchange.specs.Modulus.{modulus, field-of, residue-of}
 use Rattle.exchange.specs.ModulusLaws.{residue-mul, residue-add, residue-inv, residue-neg, residue-zero}
 use Rattle.exchange.specs.ModelModulo.{model-modulo}

@@ -7,11 +7,11 @@ use mathlib.Core.List.{List}
 use lib.ListN.{getD}
 use native.Mathlib.Omega.{arith}
 use native.Mathlib.Decide.{ℕ-discrete, decLt}
-use Rattle.exchange.specs.Counting.Bools.{not-true, iff-eq}
-use Rattle.exchange.specs.Counting.Sets.{Set, _∈_, set}
-use Rattle.exchange.specs.Counting.Counts.{set-same, set-other}
-use Rattle.exchange.specs.Columns.{width, members, none, inserted, removed}
-use Rattle.exchange.specs.Words.SetLaws.{inserted-same, inserted-old, inserted-split, removed-old, removed-gone, removed-other}
+use Rattle.columns.specs.Counting.Bools.{not-true, iff-eq}
+use Rattle.columns.specs.Counting.Sets.{Set, _∈_, set}
+use Rattle.columns.specs.Counting.Counts.{set-same, set-other}
+use Rattle.columns.specs.Columns.{width, members, none, inserted, removed}
+use Rattle.columns.specs.Words.SetLaws.{inserted-same, inserted-old, inserted-split, removed-old, removed-gone, removed-other}
 use Rattle.exchange.specs.Graph.States.{State, Placed, SamePlaced, placed-of, placed-iff}
 use Rattle.exchange.specs.Layered.Model.{Model, Assignment, placing, Legal}
 use Rattle.exchange.specs.Layered.Rank.{taken, placeable}

@@ -8,10 +8,10 @@ use native.Mathlib.Omega.{arith}
 use native.Mathlib.Decide.{decLt, decLe}
 use lib.ListN.{length}
 use Rattle.residue.specs.Arithmetic.{isPrime}
-use Rattle.exchange.specs.Counting.Bools.{iff-eq}
-use Rattle.exchange.specs.Counting.Sets.{Set, _∈_}
-use Rattle.exchange.specs.Columns.{width, none, inserted}
-use Rattle.exchange.specs.Words.SetLaws.{inserted-same, inserted-split}
+use Rattle.columns.specs.Counting.Bools.{iff-eq}
+use Rattle.columns.specs.Counting.Sets.{Set, _∈_}
+use Rattle.columns.specs.Columns.{width, none, inserted}
+use Rattle.columns.specs.Words.SetLaws.{inserted-same, inserted-split}
 use Rattle.exchange.specs.Graph.States.{State, Placed, Terminal, Moved, SamePlaced, moved-placed, Entered}
 use Rattle.exchange.specs.Graph.Closed.{Closed}
 use Rattle.exchange.specs.Graph.Layers.{layer, layer-start, layer-placed}

@@ -10,9 +10,9 @@ use native.Mathlib.Decide.{ℕ-discrete}
 use lib.ListN.{getD}
 use lib.Dec.{eqb, ltb}
 use borrow.Author.Tests.{lt-ltb, le-ltb}
-use Rattle.exchange.specs.Counting.Sets.{Set, _∈_, _⊆_}
-use Rattle.exchange.specs.Columns.{width, members, none, inserted}
-use Rattle.exchange.specs.Words.SetLaws.{inserted-split}
+use Rattle.columns.specs.Counting.Sets.{Set, _∈_, _⊆_}
+use Rattle.columns.specs.Columns.{width, members, none, inserted}
+use Rattle.columns.specs.Words.SetLaws.{inserted-split}
 use Rattle.exchange.specs.Code.Cells.{cell}
 
 -- row q touches column x: a constant row where the tableau t is not zero, a parameter row, from a on, where its word in ws has x

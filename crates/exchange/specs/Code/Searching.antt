@@ -6,10 +6,10 @@ use mathlib.Core.Bool.{Bool, true, not, _&&_}
 use native.Mathlib.Omega.{arith}
 use native.Mathlib.Decide.{ℕ-discrete, decLe}
 use native.Mathlib.Numerals.{add-one}
-use Rattle.exchange.specs.Counting.Bools.{true?, and-in, and-left, and-right, or-left, or-right, or-split, not-of}
-use Rattle.exchange.specs.Counting.Sets.{Set, _∈_, _∩_, _∪_, ∁, #, Some}
-use Rattle.exchange.specs.Columns.{width}
-use Rattle.exchange.specs.Words.SetLaws.{nothing-in}
+use Rattle.columns.specs.Counting.Bools.{true?, and-in, and-left, and-right, or-left, or-right, or-split, not-of}
+use Rattle.columns.specs.Counting.Sets.{Set, _∈_, _∩_, _∪_, ∁, #, Some}
+use Rattle.columns.specs.Columns.{width}
+use Rattle.columns.specs.Words.SetLaws.{nothing-in}
 use Rattle.exchange.specs.Graph.States.{State, Terminal, Arc}
 use Rattle.exchange.specs.Graph.Closed.{Closed}
 use Rattle.exchange.specs.Graph.Layers.{ArcClosed, layer, layer-start, layer-next, grow, grow-old, grow-arc, grow-split, stable}

@@ -6,7 +6,7 @@ use mathlib.Core.Logic.{_≢_, _⊎_, inl, inr}
 use mathlib.Core.Path.{_≡_, refl, _∙_, ap}
 use native.Mathlib.Decide.{ℕ-discrete}
 use native.Mathlib.Omega.{arith}
-use Rattle.exchange.specs.Counting.Bools.{not-true}
+use Rattle.columns.specs.Counting.Bools.{not-true}
 use Rattle.exchange.specs.Linear.Systems.{untouched}
 use Rattle.exchange.specs.Linear.Tableaus.{owner}
 use Rattle.exchange.specs.Graph.States.{Arc, Moved, Placed, State, Terminal, terminal?}

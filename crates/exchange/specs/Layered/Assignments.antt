@@ -4,11 +4,11 @@ use mathlib.Core.Bool.{true, _&&_, true≢false, false≢true}
 use mathlib.Core.Path.{_≡_, refl, sym, _∙_, ap, subst}
 use native.Mathlib.Decide.{decLt}
 use native.Mathlib.Omega.{arith}
-use Rattle.exchange.specs.Counting.Bools.{and-in, and-left, and-right, iff-eq}
-use Rattle.exchange.specs.Counting.Sets.{#, Set, Some, _∈_, _∩_, _⊆_, touching}
-use Rattle.exchange.specs.Counting.Counts.{#-ext, Touching, both?, touching-iff}
-use Rattle.exchange.specs.Counting.Injections.{#-mono}
-use Rattle.exchange.specs.Counting.Blocks.{#-plus}
+use Rattle.columns.specs.Counting.Bools.{and-in, and-left, and-right, iff-eq}
+use Rattle.columns.specs.Counting.Sets.{#, Set, Some, _∈_, _∩_, _⊆_, touching}
+use Rattle.columns.specs.Counting.Counts.{#-ext, Touching, both?, touching-iff}
+use Rattle.columns.specs.Counting.Injections.{#-mono}
+use Rattle.columns.specs.Counting.Blocks.{#-plus}
 use Rattle.exchange.specs.Linear.Kernels.{hits, indep-count, same-indep, same-sym}
 use Rattle.exchange.specs.Linear.Tableaus.{owned-iff, owned-indep}
 use Rattle.exchange.specs.Graph.States.{Placed, State, placed-iff, placed-of, placed?}

@@ -5,9 +5,9 @@ use mathlib.Core.Logic.{_≢_, inl, inr}
 use mathlib.Core.Path.{_≡_, refl, sym, _∙_, ap}
 use native.Mathlib.Decide.{ℕ-discrete}
 use native.Mathlib.Omega.{arith}
-use Rattle.exchange.specs.Counting.Bools.{not-true, true?}
-use Rattle.exchange.specs.Counting.Sets.{#, Set, _∈_, set}
-use Rattle.exchange.specs.Counting.Counts.{#-ext, set-other, set-same}
+use Rattle.columns.specs.Counting.Bools.{not-true, true?}
+use Rattle.columns.specs.Counting.Sets.{#, Set, _∈_, set}
+use Rattle.columns.specs.Counting.Counts.{#-ext, set-other, set-same}
 use Rattle.exchange.specs.Graph.States.{Placed, placed-iff, placed-of}
 use Rattle.exchange.specs.Graph.Layers.{unplaced, unplaced-iff}
 use Rattle.exchange.specs.Graph.Search.{found}

@@ -3,12 +3,12 @@ use Prim.Native.Nat.{ℕ, _+_, _≤_, _<_}
 use mathlib.Core.Bool.{Bool, true, false, not, true≢false, false≢true, cond}
 use mathlib.Core.Path.{_≡_, refl, sym, _∙_, ap}
 use native.Mathlib.Omega.{arith}
-use Rattle.exchange.specs.Counting.Bools.{and-in, and-left, and-right, in-not, not-in, not-true, true?}
-use Rattle.exchange.specs.Counting.Sets.{#, Set, _∈_, _∩_, touching, ∁}
-use Rattle.exchange.specs.Counting.Counts.{#-split}
-use Rattle.exchange.specs.Counting.Injections.{#-mono, #-strict, touching-mono}
-use Rattle.exchange.specs.Counting.Choices.{Part}
-use Rattle.exchange.specs.Counting.ChoiceLaws.{Chosen, cond-false, cond-true, largest-at, largest-le}
+use Rattle.columns.specs.Counting.Bools.{and-in, and-left, and-right, in-not, not-in, not-true, true?}
+use Rattle.columns.specs.Counting.Sets.{#, Set, _∈_, _∩_, touching, ∁}
+use Rattle.columns.specs.Counting.Counts.{#-split}
+use Rattle.columns.specs.Counting.Injections.{#-mono, #-strict, touching-mono}
+use Rattle.columns.specs.Counting.Choices.{Part}
+use Rattle.columns.specs.Counting.ChoiceLaws.{Chosen, cond-false, cond-true, largest-at, largest-le}
 use Rattle.exchange.specs.Linear.Independence.{Indep}
 use Rattle.exchange.specs.Linear.Kernels.{indep-sub}
 use Rattle.exchange.specs.Layered.Model.{Assignment, Legal, Model, Seat, constant, constants, is-constant, is-placed, legal, out, placing, row, size}

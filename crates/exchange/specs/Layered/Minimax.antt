@@ -5,10 +5,10 @@ use mathlib.Core.Logic.{inl, inr}
 use mathlib.Core.Path.{_≡_, sym, _∙_, fun-ext}
 use native.Mathlib.Decide.{ℕ-discrete, decLt}
 use native.Mathlib.Omega.{arith}
-use Rattle.exchange.specs.Counting.Bools.{not-true}
-use Rattle.exchange.specs.Counting.Sets.{Set}
-use Rattle.exchange.specs.Counting.Counts.{#-ext, set-other, set-same}
-use Rattle.exchange.specs.Counting.Choices.{Part}
+use Rattle.columns.specs.Counting.Bools.{not-true}
+use Rattle.columns.specs.Counting.Sets.{Set}
+use Rattle.columns.specs.Counting.Counts.{#-ext, set-other, set-same}
+use Rattle.columns.specs.Counting.Choices.{Part}
 use Rattle.exchange.specs.Graph.States.{Placed, placed-iff, placed-of}
 use Rattle.exchange.specs.Graph.Closed.{Closed}
 use Rattle.exchange.specs.Graph.Layers.{layer, unplaced, unplaced-iff}

@@ -5,10 +5,10 @@ use mathlib.Core.Logic.{inl, inr}
 use mathlib.Core.Path.{_≡_, sym, _∙_, ap}
 use native.Mathlib.Decide.{ℕ-discrete}
 use native.Mathlib.Omega.{arith}
-use Rattle.exchange.specs.Counting.Bools.{iff-eq, not-true}
-use Rattle.exchange.specs.Counting.Sets.{#, Set, set}
-use Rattle.exchange.specs.Counting.Counts.{#-ext, set-other, set-same}
-use Rattle.exchange.specs.Counting.Injections.{#-strict}
+use Rattle.columns.specs.Counting.Bools.{iff-eq, not-true}
+use Rattle.columns.specs.Counting.Sets.{#, Set, set}
+use Rattle.columns.specs.Counting.Counts.{#-ext, set-other, set-same}
+use Rattle.columns.specs.Counting.Injections.{#-strict}
 use Rattle.exchange.specs.Graph.States.{Placed, SamePlaced, placed-iff, placed-of}
 use Rattle.exchange.specs.Graph.Closed.{Closed}
 use Rattle.exchange.specs.Graph.Layers.{layer, unplaced, unplaced-iff}

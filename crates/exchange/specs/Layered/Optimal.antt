@@ -7,12 +7,12 @@ use mathlib.Core.Path.{_≡_, sym, _∙_}
 use native.Mathlib.Decide.{decLt}
 use native.Mathlib.Omega.{arith}
 use Rattle.residue.specs.Fields.{Field}
-use Rattle.exchange.specs.Counting.Bools.{and-in, and-left, and-right, iff-eq, in-not, not-in, not-true, true?}
-use Rattle.exchange.specs.Counting.Sets.{#, Set, _∈_, _∩_, _⊆_, touching, ∁}
-use Rattle.exchange.specs.Counting.Counts.{#-∁}
-use Rattle.exchange.specs.Counting.Injections.{#-mono}
-use Rattle.exchange.specs.Counting.Blocks.{#-plus}
-use Rattle.exchange.specs.Counting.Choices.{Part}
+use Rattle.columns.specs.Counting.Bools.{and-in, and-left, and-right, iff-eq, in-not, not-in, not-true, true?}
+use Rattle.columns.specs.Counting.Sets.{#, Set, _∈_, _∩_, _⊆_, touching, ∁}
+use Rattle.columns.specs.Counting.Counts.{#-∁}
+use Rattle.columns.specs.Counting.Injections.{#-mono}
+use Rattle.columns.specs.Counting.Blocks.{#-plus}
+use Rattle.columns.specs.Counting.Choices.{Part}
 use Rattle.exchange.specs.Linear.Independence.{Indep}
 use Rattle.exchange.specs.Linear.Kernels.{indep-count, same-indep}
 use Rattle.exchange.specs.Graph.States.{placed-of}

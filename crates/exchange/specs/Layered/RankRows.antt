@@ -6,11 +6,11 @@ use mathlib.Core.Path.{_≡_, refl, sym, _∙_, ap, subst}
 use native.Mathlib.Decide.{ℕ-discrete, decLt}
 use native.Mathlib.Omega.{arith}
 use Rattle.residue.specs.Fields.{Field}
-use Rattle.exchange.specs.Counting.Bools.{true?}
-use Rattle.exchange.specs.Counting.Sets.{#, Set, Some, _∈_, _⊆_, set, touching}
-use Rattle.exchange.specs.Counting.Counts.{#-insert, Touching, set-other, touching-iff}
-use Rattle.exchange.specs.Counting.Injections.{inj-count}
-use Rattle.exchange.specs.Counting.Choices.{Part}
+use Rattle.columns.specs.Counting.Bools.{true?}
+use Rattle.columns.specs.Counting.Sets.{#, Set, Some, _∈_, _⊆_, set, touching}
+use Rattle.columns.specs.Counting.Counts.{#-insert, Touching, set-other, touching-iff}
+use Rattle.columns.specs.Counting.Injections.{inj-count}
+use Rattle.columns.specs.Counting.Choices.{Part}
 use Rattle.exchange.specs.Linear.Independence.{Indep}
 use Rattle.exchange.specs.Linear.Kernels.{Same, hits, hits-iff, indep-count, indep-sub, same-indep, same-sym}
 use Rattle.exchange.specs.Linear.Tableaus.{exchange-indep, owned, owned-iff}

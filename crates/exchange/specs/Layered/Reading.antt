@@ -6,11 +6,11 @@ use mathlib.Core.Logic.{_↔_}
 use mathlib.Core.Path.{_≡_, refl, sym, _∙_, ap}
 use native.Mathlib.Decide.{ℕ-discrete, decLt}
 use native.Mathlib.Omega.{arith}
-use Rattle.exchange.specs.Counting.Bools.{and-in, and-left, and-right, implied, implies, not-both, not-of, not-true, true?}
-use Rattle.exchange.specs.Counting.Sets.{#, Set, _∈_, all}
-use Rattle.exchange.specs.Counting.Counts.{indicator-one, #-none, all-iff}
-use Rattle.exchange.specs.Counting.Choices.{Part}
-use Rattle.exchange.specs.Counting.ChoiceLaws.{Chosen, cond-false, cond-true, every-part-iff, largest-at, largest-le, part-at, part-le, some-iff}
+use Rattle.columns.specs.Counting.Bools.{and-in, and-left, and-right, implied, implies, not-both, not-of, not-true, true?}
+use Rattle.columns.specs.Counting.Sets.{#, Set, _∈_, all}
+use Rattle.columns.specs.Counting.Counts.{indicator-one, #-none, all-iff}
+use Rattle.columns.specs.Counting.Choices.{Part}
+use Rattle.columns.specs.Counting.ChoiceLaws.{Chosen, cond-false, cond-true, every-part-iff, largest-at, largest-le, part-at, part-le, some-iff}
 use Rattle.exchange.specs.Linear.Independence.{Indep}
 use Rattle.exchange.specs.Layered.Model.{Assignment, Legal, Model, Seat, constant, constants, has-parameter, is-constant, is-placed, legal, out, placing, row, same-row, size}
 use Rattle.exchange.specs.Layered.Rank.{verdict, constant-rank, largest-assignment, last-seat, matching, placeable, rank, row-outside, seat, short, some-assignment, sum}

@@ -6,10 +6,10 @@ use mathlib.Core.Path.{_≡_, refl, sym, _∙_, ap, subst}
 use native.Mathlib.Decide.{ℕ-discrete, decLe, decLt}
 use native.Mathlib.Omega.{arith}
 use Rattle.residue.specs.Fields.{Field}
-use Rattle.exchange.specs.Counting.Bools.{and-in, and-left, and-right, true?}
-use Rattle.exchange.specs.Counting.Sets.{Set, Some, _∈_, set, touching}
-use Rattle.exchange.specs.Counting.Counts.{#-⊖, Touching, _⊖_, both?, set-other, set-same, some?, touching-iff, ⊖-other}
-use Rattle.exchange.specs.Counting.Injections.{inj-count}
+use Rattle.columns.specs.Counting.Bools.{and-in, and-left, and-right, true?}
+use Rattle.columns.specs.Counting.Sets.{Set, Some, _∈_, set, touching}
+use Rattle.columns.specs.Counting.Counts.{#-⊖, Touching, _⊖_, both?, set-other, set-same, some?, touching-iff, ⊖-other}
+use Rattle.columns.specs.Counting.Injections.{inj-count}
 use Rattle.exchange.specs.Linear.Independence.{Indep}
 use Rattle.exchange.specs.Linear.Kernels.{hits, hits-iff, indep-count, indep-sub, same-indep}
 use Rattle.exchange.specs.Graph.States.{placed-of}

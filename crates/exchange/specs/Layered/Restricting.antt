@@ -2,11 +2,11 @@
 use Prim.Native.Nat.{ℕ, _+_, _≤_, _<_}
 use mathlib.Core.Bool.{Bool, true, false, not, _&&_, true≢false, false≢true}
 use mathlib.Core.Path.{_≡_, refl, sym, _∙_, ap}
-use Rattle.exchange.specs.Counting.Bools.{and-in, and-left, and-right, not-in}
-use Rattle.exchange.specs.Counting.Sets.{#, Set, Some, _∈_, _∩_, _⊆_, touching, ∁}
-use Rattle.exchange.specs.Counting.Counts.{#-split, touching-iff}
-use Rattle.exchange.specs.Counting.Injections.{Injects, inj-count}
-use Rattle.exchange.specs.Counting.Choices.{Part}
+use Rattle.columns.specs.Counting.Bools.{and-in, and-left, and-right, not-in}
+use Rattle.columns.specs.Counting.Sets.{#, Set, Some, _∈_, _∩_, _⊆_, touching, ∁}
+use Rattle.columns.specs.Counting.Counts.{#-split, touching-iff}
+use Rattle.columns.specs.Counting.Injections.{Injects, inj-count}
+use Rattle.columns.specs.Counting.Choices.{Part}
 use Rattle.exchange.specs.Linear.Independence.{Indep}
 use Rattle.exchange.specs.Linear.Kernels.{indep-sub}
 use Rattle.exchange.specs.Layered.Model.{Assignment, Legal, Model, Seat, constant, constants, is-constant, is-placed, out, placing, row}

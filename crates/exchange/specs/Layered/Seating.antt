@@ -6,8 +6,8 @@ use mathlib.Core.Path.{_≡_, refl, sym, _∙_, ap}
 use native.Mathlib.Decide.{ℕ-discrete}
 use native.Mathlib.Omega.{arith}
 use Rattle.residue.specs.Fields.{Field}
-use Rattle.exchange.specs.Counting.Sets.{set}
-use Rattle.exchange.specs.Counting.Counts.{set-other, set-same}
+use Rattle.columns.specs.Counting.Sets.{set}
+use Rattle.columns.specs.Counting.Counts.{set-other, set-same}
 use Rattle.exchange.specs.Linear.Kernels.{Same, same-refl}
 use Rattle.exchange.specs.Linear.Tableaus.{Tableau}
 use Rattle.exchange.specs.Graph.States.{Moved, State}

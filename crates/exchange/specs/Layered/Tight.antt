@@ -6,11 +6,11 @@ use mathlib.Core.Path.{_≡_, sym, _∙_, ap, subst}
 use native.Mathlib.Decide.{ℕ-discrete, decLt}
 use native.Mathlib.Omega.{arith}
 use Rattle.residue.specs.Fields.{Field}
-use Rattle.exchange.specs.Counting.Bools.{and-in, and-left, and-right, implied, implies, in-not, not-true, true?}
-use Rattle.exchange.specs.Counting.Sets.{#, Set, Some, _∈_, _∩_, _⊆_, set, touching, ∁}
-use Rattle.exchange.specs.Counting.Counts.{#-insert, #-split, set-other, touching-iff}
-use Rattle.exchange.specs.Counting.Injections.{#-mono, #-strict, inj-miss, touching-mono}
-use Rattle.exchange.specs.Counting.Choices.{Part}
+use Rattle.columns.specs.Counting.Bools.{and-in, and-left, and-right, implied, implies, in-not, not-true, true?}
+use Rattle.columns.specs.Counting.Sets.{#, Set, Some, _∈_, _∩_, _⊆_, set, touching, ∁}
+use Rattle.columns.specs.Counting.Counts.{#-insert, #-split, set-other, touching-iff}
+use Rattle.columns.specs.Counting.Injections.{#-mono, #-strict, inj-miss, touching-mono}
+use Rattle.columns.specs.Counting.Choices.{Part}
 use Rattle.exchange.specs.Linear.Kernels.{hits, hits-iff, same-indep, same-sym}
 use Rattle.exchange.specs.Linear.Tableaus.{exchange-indep, owned, owned-iff}
 use Rattle.exchange.specs.Graph.States.{Arc, Placed, placed-iff, placed-of}

@@ -6,8 +6,8 @@ use mathlib.Core.Path.{_≡_, sym, _∙_}
 use native.Mathlib.Decide.{decLe}
 use native.Mathlib.Omega.{arith}
 use Rattle.residue.specs.Fields.{Field}
-use Rattle.exchange.specs.Counting.Sets.{#, _⊆_, touching}
-use Rattle.exchange.specs.Counting.Counts.{touching-iff}
+use Rattle.columns.specs.Counting.Sets.{#, _⊆_, touching}
+use Rattle.columns.specs.Counting.Counts.{touching-iff}
 use Rattle.exchange.specs.Linear.Independence.{Indep, Kills}
 use Rattle.exchange.specs.Linear.Systems.{Touches, solve, touches?, untouched}
 

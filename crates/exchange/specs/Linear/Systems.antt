@@ -6,8 +6,8 @@ use mathlib.Core.Path.{_≡_, ap, _∙_}
 use native.Mathlib.Decide.{ℕ-discrete}
 use native.Mathlib.Omega.{arith}
 use Rattle.residue.specs.Fields.{Field, ring, mul-zero, zero-mul, mul-neg, one-mul}
-use Rattle.exchange.specs.Counting.Sets.{#, Some, indicator, set}
-use Rattle.exchange.specs.Counting.Counts.{#-pick, #-⊖, set-other, set-same, some?}
+use Rattle.columns.specs.Counting.Sets.{#, Some, indicator, set}
+use Rattle.columns.specs.Counting.Counts.{#-pick, #-⊖, set-other, set-same, some?}
 use Rattle.exchange.specs.Linear.Independence.{In, dot}
 use Rattle.exchange.specs.Linear.Sums.{dot-plus, dot-set, dot-zero}
 

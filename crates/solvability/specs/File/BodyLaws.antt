@@ -8,9 +8,9 @@ use native.Mathlib.Nat.{pow-suc}
 use lib.ListN.{length, getD}
 use lib.Seq.{take-all}
 use Rattle.residue.specs.Arithmetic.{Prime}
-use Rattle.exchange.specs.Bytes.{number, bytesOf}
-use Rattle.exchange.specs.Columns.{width, within}
-use Rattle.exchange.specs.Words.Bytes.{AreBytes, number-below}
+use Rattle.columns.specs.Bytes.{number, bytesOf}
+use Rattle.columns.specs.Columns.{width, within}
+use Rattle.columns.specs.Words.Bytes.{AreBytes, number-below}
 use Rattle.solvability.specs.Lists.{All}
 use Rattle.solvability.specs.Refusals.{largestPrime, mostColumns, mostRows, firstRefusal}
 use Rattle.solvability.specs.RefusalLaws.{unless-zero, zero-unless}

@@ -4,8 +4,8 @@ use mathlib.Core.Path.{_≡_, refl}
 use mathlib.Core.List.{List, [], _∷_, _++_, flatMap}
 use lib.ListN.{take}
 use Rattle.residue.specs.Arithmetic.{isPrime, undivided}
-use Rattle.exchange.specs.Counting.Sets.{all}
-use Rattle.exchange.specs.Columns.{members, within}
+use Rattle.columns.specs.Counting.Sets.{all}
+use Rattle.columns.specs.Columns.{members, within}
 use Rattle.solvability.specs.Lists.{every}
 use Rattle.solvability.specs.Refusals.{firstRefusal, headTest, bodyTest, dueTest, primeTest, sizeTest, constantTest, endTest, rowTest}
 use Rattle.solvability.specs.File.Piece.{headTests, closed}

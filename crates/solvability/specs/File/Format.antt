@@ -6,8 +6,8 @@ use mathlib.Core.Bool.{true}
 use mathlib.Core.List.{List, [], _∷_, flatten}
 use lib.ListN.{length, getD, take, drop}
 use Rattle.residue.specs.Arithmetic.{Prime}
-use Rattle.exchange.specs.Bytes.{number, bytesOf}
-use Rattle.exchange.specs.Columns.{width, within}
+use Rattle.columns.specs.Bytes.{number, bytesOf}
+use Rattle.columns.specs.Columns.{width, within}
 use Rattle.solvability.specs.Lists.{All, rowsOf, over}
 use Rattle.solvability.specs.Refusals.{unless, _then_, firstRefusal, whereAccepted, notPrime, sizesBeyond, constantBeyond, parameterBeyond, areaShort, rowBeyond, largestPrime, mostColumns, mostRows, primeTest, sizeTest, constantTest, areaTest, rowTest, modelTests}
 use Rattle.solvability.specs.File.Piece.{Body, Piece, field, many, seq, closed}

@@ -6,7 +6,7 @@ use mathlib.Core.Logic.{_↔_}
 use mathlib.Core.List.{List, [], _++_, append-nil}
 use native.Mathlib.Nat.{le-of-eq}
 use lib.ListN.{length}
-use Rattle.exchange.specs.Words.Bytes.{AreBytes}
+use Rattle.columns.specs.Words.Bytes.{AreBytes}
 use Rattle.solvability.specs.Lists.{All}
 use Rattle.solvability.specs.ListLaws.{nothing}
 use Rattle.solvability.specs.Refusals.{firstRefusal}

@@ -10,7 +10,7 @@ use native.Mathlib.Nat.{suc-mul}
 use lib.ListN.{length, getD, take, drop, length-drop}
 use lib.Seq.{length-take-le, take-add}
 use borrow.Author.Tests.{le-leb, lt-leb}
-use Rattle.exchange.specs.Columns.{width, within}
+use Rattle.columns.specs.Columns.{width, within}
 use Rattle.solvability.specs.Lists.{All, rowsOf, over}
 use Rattle.solvability.specs.OverLaws.{over-none}
 use Rattle.solvability.specs.Refusals.{areaTest, modelTests, refusal}

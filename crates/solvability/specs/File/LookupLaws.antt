@@ -9,7 +9,7 @@ use native.Mathlib.Nat.{mul-le-mul-right, suc-mul, zero-mul}
 use lib.ListN.{length, getD, take, drop}
 use lib.Seq.{drop-drop, getD-drop}
 use borrow.Author.Tests.{lt-ltb, le-ltb}
-use Rattle.exchange.specs.Words.Bytes.{AreBytes}
+use Rattle.columns.specs.Words.Bytes.{AreBytes}
 use Rattle.solvability.specs.Refusals.{mostColumns, mostRows, rowTest}
 use Rattle.solvability.specs.RefusalLaws.{first-fails, first-passes, first-none, then-refused, then-passed, then-zero, unless-zero, where-refused, where-accepted}
 use Rattle.solvability.specs.TestLaws.{row-reads}

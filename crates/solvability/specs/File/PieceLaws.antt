@@ -6,7 +6,7 @@ use mathlib.Core.List.{List, [], _∷_, _++_, append-assoc, flatMap}
 use native.Mathlib.Omega.{arith}
 use lib.ListN.{length, getD, take, drop, length-append, length-drop, take-append-drop}
 use lib.Seq.{take-at, drop-at, getD-drop, getD-append-add, length-take-le}
-use Rattle.exchange.specs.Words.Bytes.{AreBytes}
+use Rattle.columns.specs.Words.Bytes.{AreBytes}
 use Rattle.solvability.specs.Lists.{All}
 use Rattle.solvability.specs.Refusals.{firstRefusal}
 use Rattle.solvability.specs.RefusalLaws.{acceptance-reads, then-zero, zero-then}

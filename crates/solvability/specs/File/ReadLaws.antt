@@ -8,7 +8,7 @@ use native.Mathlib.Nat.{suc-mul, zero-mul}
 use lib.ListN.{length, take, drop, length-append, length-drop}
 use lib.Seq.{length-take-le, drop-drop}
 use borrow.Author.Tests.{le-leb, lt-leb}
-use Rattle.exchange.specs.Bytes.{number}
+use Rattle.columns.specs.Bytes.{number}
 use Rattle.solvability.specs.Lists.{over}
 use Rattle.solvability.specs.OverLaws.{Wrote, over-none}
 use Rattle.solvability.specs.Refusals.{areaTest}

@@ -3,7 +3,7 @@ use Prim.Native.Nat.{ℕ, zero, suc, _+_, _*_, _≤_}
 use mathlib.Core.Path.{_≡_}
 use mathlib.Core.List.{List, [], _∷_, _++_}
 use lib.ListN.{length, take, drop}
-use Rattle.exchange.specs.Bytes.{number, bytesOf}
+use Rattle.columns.specs.Bytes.{number, bytesOf}
 use Rattle.solvability.specs.Refusals.{mostColumns, mostRows, largestPrime}
 use Rattle.solvability.specs.File.Piece.{fieldBytes}
 use Rattle.solvability.specs.File.Format.{entries, entryBytes, decode, fileLength}

@@ -5,8 +5,8 @@ use mathlib.Core.List.{List, [], _∷_, _++_, flatMap}
 use native.Mathlib.Omega.{arith}
 use native.Mathlib.Nat.{suc-mul, zero-mul}
 use lib.ListN.{length, length-append}
-use Rattle.exchange.specs.Bytes.{bytesOf}
-use Rattle.exchange.specs.Words.Bytes.{AreBytes}
+use Rattle.columns.specs.Bytes.{bytesOf}
+use Rattle.columns.specs.Words.Bytes.{AreBytes}
 use Rattle.solvability.specs.Lists.{All}
 use Rattle.solvability.specs.File.Piece.{Body, field}
 use Rattle.solvability.specs.File.Format.{FileModel, Valid, entryBytes, primeBody, sizesBody, constantBody, parameterBody, endBody, constantRow, parameterRow, endField, rowFields, sizeFields, fields, encode, fileLength}

@@ -5,10 +5,10 @@ use mathlib.Core.Bool.{true, not, false, decide, decide-iff}
 use mathlib.Core.Logic.{_≢_, _↔_}
 use native.Mathlib.Decide.{ℕ-discrete, decLt}
 use Rattle.residue.specs.Fields.{Field, zero-mul, one-mul}
-use Rattle.exchange.specs.Counting.Bools.{not-true, and-in, and-left, and-right, not-in, in-not}
-use Rattle.exchange.specs.Counting.Sets.{Some, Set, _∈_}
-use Rattle.exchange.specs.Counting.Counts.{any-iff}
-use Rattle.exchange.specs.Counting.Blocks.{beside-low, beside-high}
+use Rattle.columns.specs.Counting.Bools.{not-true, and-in, and-left, and-right, not-in, in-not}
+use Rattle.columns.specs.Counting.Sets.{Some, Set, _∈_}
+use Rattle.columns.specs.Counting.Counts.{any-iff}
+use Rattle.columns.specs.Counting.Blocks.{beside-low, beside-high}
 use Rattle.exchange.specs.Linear.Independence.{dot}
 use Rattle.exchange.specs.Linear.Sums.{dot-zero, dot-one, dot-beside}
 use Rattle.exchange.specs.Layered.Model.{Assignment, row, same-row}

@@ -7,14 +7,14 @@ use mathlib.Core.Logic.{_≢_}
 use native.Mathlib.Omega.{arith}
 use native.Mathlib.Decide.{ℕ-discrete}
 use Rattle.residue.specs.Fields.{Field, neg-zero}
-use Rattle.exchange.specs.Counting.Bools.{true?, not-true, and-in, and-left, and-right, not-in, in-not, not-of}
-use Rattle.exchange.specs.Counting.Sets.{Some, Set, _∈_, _∩_, ∁, #, touching}
-use Rattle.exchange.specs.Counting.Counts.{#-split, #-∁, Touching, touching-iff}
-use Rattle.exchange.specs.Counting.Injections.{#-mono}
-use Rattle.exchange.specs.Counting.Beside.{beside}
-use Rattle.exchange.specs.Counting.Blocks.{#-plus, beside-low, beside-high, low-or-high}
-use Rattle.exchange.specs.Counting.Choices.{Part, largest-part}
-use Rattle.exchange.specs.Counting.ChoiceLaws.{part-le}
+use Rattle.columns.specs.Counting.Bools.{true?, not-true, and-in, and-left, and-right, not-in, in-not, not-of}
+use Rattle.columns.specs.Counting.Sets.{Some, Set, _∈_, _∩_, ∁, #, touching}
+use Rattle.columns.specs.Counting.Counts.{#-split, #-∁, Touching, touching-iff}
+use Rattle.columns.specs.Counting.Injections.{#-mono}
+use Rattle.columns.specs.Counting.Beside.{beside}
+use Rattle.columns.specs.Counting.Blocks.{#-plus, beside-low, beside-high, low-or-high}
+use Rattle.columns.specs.Counting.Choices.{Part, largest-part}
+use Rattle.columns.specs.Counting.ChoiceLaws.{part-le}
 use Rattle.exchange.specs.Linear.Independence.{dot, Kills}
 use Rattle.exchange.specs.Linear.Kernels.{Same, hits, hits-iff, indep-sub, indep-count}
 use Rattle.exchange.specs.Layered.Model.{Seat, out, constant, row, Assignment, is-placed, is-constant, placing, constants, Legal, size}

@@ -7,13 +7,13 @@ use mathlib.Core.Logic.{_≢_}
 use native.Mathlib.Omega.{arith}
 use native.Mathlib.Decide.{ℕ-discrete}
 use Rattle.residue.specs.Fields.{Field, mul-zero, zero-add}
-use Rattle.exchange.specs.Counting.Bools.{true?, not-true, and-left, and-right, not-both}
-use Rattle.exchange.specs.Counting.Sets.{Set, _∈_, #}
-use Rattle.exchange.specs.Counting.Counts.{#-ext, #-all}
-use Rattle.exchange.specs.Counting.Beside.{beside}
-use Rattle.exchange.specs.Counting.Blocks.{#-plus, beside-low, beside-high, low-or-high}
-use Rattle.exchange.specs.Counting.Choices.{Part, largest-part}
-use Rattle.exchange.specs.Counting.ChoiceLaws.{part-at}
+use Rattle.columns.specs.Counting.Bools.{true?, not-true, and-left, and-right, not-both}
+use Rattle.columns.specs.Counting.Sets.{Set, _∈_, #}
+use Rattle.columns.specs.Counting.Counts.{#-ext, #-all}
+use Rattle.columns.specs.Counting.Beside.{beside}
+use Rattle.columns.specs.Counting.Blocks.{#-plus, beside-low, beside-high, low-or-high}
+use Rattle.columns.specs.Counting.Choices.{Part, largest-part}
+use Rattle.columns.specs.Counting.ChoiceLaws.{part-at}
 use Rattle.exchange.specs.Linear.Independence.{dot, Kills, Indep}
 use Rattle.exchange.specs.Linear.Sums.{dot-zero}
 use Rattle.exchange.specs.Layered.Model.{Seat, constant, row, Assignment, is-placed, is-constant, placing, constants, Legal, size}

@@ -6,11 +6,11 @@ use mathlib.Core.List.{[]}
 use mathlib.Core.Logic.{inl, inr}
 use native.Mathlib.Omega.{arith}
 use native.Mathlib.Decide.{ℕ-discrete, decLe, decLt}
-use Rattle.exchange.specs.Counting.Bools.{true?, not-true, iff-eq, and-in, and-left, and-right, or-split}
-use Rattle.exchange.specs.Counting.Sets.{all, Set, _∈_, _∩_, ∁, #}
-use Rattle.exchange.specs.Counting.Counts.{all-iff, #-ext}
-use Rattle.exchange.specs.Counting.Injections.{#-mono}
-use Rattle.exchange.specs.Counting.Choices.{Part}
+use Rattle.columns.specs.Counting.Bools.{true?, not-true, iff-eq, and-in, and-left, and-right, or-split}
+use Rattle.columns.specs.Counting.Sets.{all, Set, _∈_, _∩_, ∁, #}
+use Rattle.columns.specs.Counting.Counts.{all-iff, #-ext}
+use Rattle.columns.specs.Counting.Injections.{#-mono}
+use Rattle.columns.specs.Counting.Choices.{Part}
 use Rattle.exchange.specs.Layered.Model.{Model, Assignment, placing, Legal, size}
 use Rattle.exchange.specs.Layered.Rank.{sum, rank, short, placed}
 use Rattle.exchange.specs.Layered.Reading.{short-iff}

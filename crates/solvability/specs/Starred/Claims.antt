@@ -5,7 +5,7 @@ use Prim.Native.Nat.{ℕ, _+_}
 use mathlib.Core.Bool.{Bool, true, false, not, _&&_, _||_, decide, Bool-discrete}
 use mathlib.Core.List.{List, [], _∷_}
 use native.Mathlib.Decide.{ℕ-discrete, decLe, decLt}
-use Rattle.exchange.specs.Counting.Sets.{all, Set, _∩_, ∁, #, touching}
+use Rattle.columns.specs.Counting.Sets.{all, Set, _∩_, ∁, #, touching}
 use Rattle.exchange.specs.Linear.Kernels.{hits}
 use Rattle.exchange.specs.Layered.Model.{Model, Seat, out, constant, row, Assignment, placing, same-row, size}
 use Rattle.solvability.specs.Starred.Lists.{among, seats, within}

@@ -5,7 +5,7 @@ use mathlib.Core.Bool.{Bool, true, false, _||_, decide, false≢true}
 use mathlib.Core.List.{List, [], _∷_}
 use native.Mathlib.Omega.{arith}
 use native.Mathlib.Decide.{ℕ-discrete}
-use Rattle.exchange.specs.Counting.Sets.{Set}
+use Rattle.columns.specs.Counting.Sets.{Set}
 use Rattle.exchange.specs.Layered.Model.{Seat, out, Assignment}
 
 -- the columns listed

@@ -6,10 +6,10 @@ use mathlib.Core.List.{List, [], _∷_}
 use mathlib.Core.Logic.{_⊎_, inl, inr}
 use native.Mathlib.Omega.{arith}
 use native.Mathlib.Decide.{ℕ-discrete, decLt}
-use Rattle.exchange.specs.Counting.Bools.{and-left, and-right, or-split, not-in, implied}
-use Rattle.exchange.specs.Counting.Sets.{all, Set, _∈_, #, touching}
-use Rattle.exchange.specs.Counting.Counts.{all-iff}
-use Rattle.exchange.specs.Counting.Choices.{Part}
+use Rattle.columns.specs.Counting.Bools.{and-left, and-right, or-split, not-in, implied}
+use Rattle.columns.specs.Counting.Sets.{all, Set, _∈_, #, touching}
+use Rattle.columns.specs.Counting.Counts.{all-iff}
+use Rattle.columns.specs.Counting.Choices.{Part}
 use Rattle.exchange.specs.Linear.Independence.{Indep}
 use Rattle.exchange.specs.Linear.Kernels.{same-sym, same-indep}
 use Rattle.exchange.specs.Linear.Tableaus.{owned-indep}

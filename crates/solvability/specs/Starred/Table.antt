@@ -9,10 +9,10 @@ use native.Mathlib.Omega.{arith}
 use native.Mathlib.Decide.{ℕ-discrete, decLe, decLt}
 use Rattle.residue.specs.Arithmetic.{Prime, isPrime, undivided, invOf, last}
 use Rattle.residue.specs.Residues.{residues, res, mk, plus, times}
-use Rattle.exchange.specs.Counting.Bools.{true?}
-use Rattle.exchange.specs.Counting.Sets.{#, indicator, all, any, set, choose, touching}
-use Rattle.exchange.specs.Counting.Beside.{beside}
-use Rattle.exchange.specs.Columns.{members}
+use Rattle.columns.specs.Counting.Bools.{true?}
+use Rattle.columns.specs.Counting.Sets.{#, indicator, all, any, set, choose, touching}
+use Rattle.columns.specs.Counting.Beside.{beside}
+use Rattle.columns.specs.Columns.{members}
 use Rattle.exchange.specs.Modulus.{modulus, modulus-at}
 use Rattle.exchange.specs.Linear.Kernels.{hits}
 use Rattle.exchange.specs.Linear.Tableaus.{pivot}

@@ -6,11 +6,11 @@ use mathlib.Core.Logic.{_≢_}
 use mathlib.Core.Bool.{Bool}
 use lib.ListN.{length}
 use borrow.Author.Tests.{eqb-true, eqb-false, not-false}
-use Rattle.exchange.specs.Counting.Bools.{not-in}
-use Rattle.exchange.specs.Counting.Sets.{Set, _∈_, #}
-use Rattle.exchange.specs.Columns.{width, members}
-use Rattle.exchange.specs.Words.Operations.{least-first}
-use Rattle.exchange.specs.Words.SetLaws.{removed-less, least-there, nothing-in}
+use Rattle.columns.specs.Counting.Bools.{not-in}
+use Rattle.columns.specs.Counting.Sets.{Set, _∈_, #}
+use Rattle.columns.specs.Columns.{width, members}
+use Rattle.columns.specs.Words.Operations.{least-first}
+use Rattle.columns.specs.Words.SetLaws.{removed-less, least-there, nothing-in}
 use Rattle.exchange.specs.Code.Cells.{Below}
 use Rattle.exchange.specs.Code.Held.{Given}
 use Rattle.exchange.specs.Code.Placing.{Placing}

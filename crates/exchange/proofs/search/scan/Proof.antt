@@ -6,11 +6,11 @@ use mathlib.Core.Logic.{_≢_, _⊎_, inl, inr, ⊎-elim}
 use mathlib.Core.Bool.{true, true≢false}
 use native.Mathlib.Decide.{ℕ-discrete}
 use borrow.Author.Tests.{eqb-true, eqb-false, not-false}
-use Rattle.exchange.specs.Counting.Bools.{not-in}
-use Rattle.exchange.specs.Counting.Sets.{Set, _∈_, _⊆_, #}
-use Rattle.exchange.specs.Columns.{width, members, none, inserted, removed}
-use Rattle.exchange.specs.Words.Operations.{members-below}
-use Rattle.exchange.specs.Words.SetLaws.{inserted-same, inserted-old, removed-old, removed-other, removed-less, least-there, nothing-in}
+use Rattle.columns.specs.Counting.Bools.{not-in}
+use Rattle.columns.specs.Counting.Sets.{Set, _∈_, _⊆_, #}
+use Rattle.columns.specs.Columns.{width, members, none, inserted, removed}
+use Rattle.columns.specs.Words.Operations.{members-below}
+use Rattle.columns.specs.Words.SetLaws.{inserted-same, inserted-old, removed-old, removed-other, removed-less, least-there, nothing-in}
 use Rattle.exchange.specs.Code.Reading.{touched, owned, RowsRead, rows-kept, rows-down, Owners, owners-none, owners-more, Scanned}
 use borrow.Author.Needs.{needs}
 use native.Mathlib.Omega.{arith}

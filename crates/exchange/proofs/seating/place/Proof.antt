@@ -4,8 +4,8 @@ use Prim.Native.Nat.{ℕ, _+_, _-_, _*_, _<_, _≤_}
 use mathlib.Core.Path.{_≡_, ap, _∙_, subst}
 use mathlib.Core.Bool.{true≢false, false≢true}
 use lib.ListN.{length}
-use Rattle.exchange.specs.Counting.Sets.{Set}
-use Rattle.exchange.specs.Columns.{members, none, inserted}
+use Rattle.columns.specs.Counting.Sets.{Set}
+use Rattle.columns.specs.Columns.{members, none, inserted}
 use Rattle.exchange.specs.Graph.Closed.{Closed}
 use Rattle.exchange.specs.Graph.Layers.{layer}
 use Rattle.exchange.specs.Code.Cells.{Below}

@@ -2,7 +2,7 @@
 use mathlib.Core.List.{[], _∷_, _++_, append-nil}
 use mathlib.Core.Path.{refl, sym}
 use borrow.Author.Needs.{needs}
-use Rattle.exchange.specs.Bytes.{bytesOf}
+use Rattle.columns.specs.Bytes.{bytesOf}
 use Rattle.solvability.specs.Area.{mixed-bytes}
 use Rattle.solvability.specs.OverLaws.{wrote-first, wrote-run, wrote-all}
 use Rattle.solvability.proofs.area.put_mixed.Statement.{statement}

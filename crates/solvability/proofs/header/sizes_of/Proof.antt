@@ -4,7 +4,7 @@ use mathlib.Core.Path.{refl}
 use native.Mathlib.Omega.{arith}
 use lib.ListN.{length}
 use borrow.Author.Needs.{needs}
-use Rattle.exchange.specs.Words.Bytes.{AreBytes}
+use Rattle.columns.specs.Words.Bytes.{AreBytes}
 use Rattle.solvability.specs.File.LookupLaws.{accepted-length, accepted-header}
 use Rattle.solvability.proofs.header.sizes_of.Statement.{statement}
 use Rattle.solvability.proofs.header.sizes_of.Tie as tie

@@ -5,7 +5,7 @@ use mathlib.Core.Path.{_≡_, refl, sym, ap, _∙_}
 use native.Mathlib.Omega.{arith}
 use lib.ListN.{length, length-append}
 use borrow.Author.Needs.{needs}
-use Rattle.exchange.specs.Bytes.{bytesOf}
+use Rattle.columns.specs.Bytes.{bytesOf}
 use Rattle.solvability.specs.Host.{answer-bytes}
 use Rattle.solvability.specs.OverLaws.{wrote-first, wrote-run, wrote-all}
 use Rattle.solvability.proofs.host.put_answer.Statement.{statement}

@@ -5,8 +5,8 @@ use lib.ListN.{take, drop}
 use lib.Seq.{take-take}
 use borrow.Author.Needs.{needs}
 use borrow.Author.Tests.{not-true, not-false}
-use Rattle.exchange.specs.Bytes.{number}
-use Rattle.exchange.specs.Columns.{within}
+use Rattle.columns.specs.Bytes.{number}
+use Rattle.columns.specs.Columns.{within}
 use Rattle.solvability.specs.File.Format.{parameterRow}
 use Rattle.solvability.specs.File.PieceLaws.{head-good}
 use Rattle.solvability.specs.RefusalLaws.{first-fails, first-passes, first-none, then-refused, then-passed}

@@ -3,8 +3,8 @@ use Prim.Native.Nat.{ℕ, _<_, _≤_}
 use mathlib.Core.Path.{_≡_, sym, ap, _∙_}
 use mathlib.Core.Bool.{true, true≢false}
 use borrow.Author.Tests.{not-true, not-false}
-use Rattle.exchange.specs.Counting.Sets.{Set}
-use Rattle.exchange.specs.Columns.{width, members, upto}
+use Rattle.columns.specs.Counting.Sets.{Set}
+use Rattle.columns.specs.Columns.{width, members, upto}
 use Rattle.exchange.specs.Solve.{admissible}
 use Rattle.exchange.specs.SolveLaws.{admissible-reads, fitting-reads}
 use Rattle.exchange.specs.Solution.{Solved}

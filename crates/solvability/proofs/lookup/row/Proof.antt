@@ -5,7 +5,7 @@ use native.Mathlib.Omega.{arith}
 use lib.ListN.{length, take, drop, length-drop}
 use lib.Seq.{length-take-le}
 use borrow.Author.Needs.{needs}
-use Rattle.exchange.specs.Columns.{within}
+use Rattle.columns.specs.Columns.{within}
 use Rattle.solvability.specs.File.Format.{rowStart, fileLength}
 use Rattle.solvability.specs.File.LookupLaws.{lookup-accepted, lookup-none, lookup-place, lookup-part, row-within}
 use Rattle.solvability.specs.Refusals.{mostColumns, mostRows}

@@ -4,8 +4,8 @@ use mathlib.Core.Path.{_≡_, ap, _∙_}
 use borrow.Author.Count.{below-more}
 use lib.ListN.{length, getD, set}
 use lib.Seq.{getD-set-same, getD-set-other}
-use Rattle.exchange.specs.Counting.Sets.{Set}
-use Rattle.exchange.specs.Columns.{members, inserted}
+use Rattle.columns.specs.Counting.Sets.{Set}
+use Rattle.columns.specs.Columns.{members, inserted}
 use Rattle.solvability.specs.MixedForm.{form-row}
 use borrow.Author.Needs.{needs}
 use native.Mathlib.Omega.{arith}

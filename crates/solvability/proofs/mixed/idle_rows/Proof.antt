@@ -7,9 +7,9 @@ use mathlib.Core.List.{List}
 use native.Mathlib.Decide.{ℕ-discrete}
 use lib.ListN.{getD}
 use borrow.Author.Tests.{not-true, not-false}
-use Rattle.exchange.specs.Counting.Sets.{Set, _∈_}
-use Rattle.exchange.specs.Columns.{width, members, none, inserted}
-use Rattle.exchange.specs.Words.SetLaws.{inserted-same, inserted-old, inserted-split}
+use Rattle.columns.specs.Counting.Sets.{Set, _∈_}
+use Rattle.columns.specs.Columns.{width, members, none, inserted}
+use Rattle.columns.specs.Words.SetLaws.{inserted-same, inserted-old, inserted-split}
 use Rattle.solvability.specs.MixedForm.{serves}
 use borrow.Author.Needs.{needs}
 use native.Mathlib.Omega.{arith}

@@ -1,8 +1,8 @@
 -- `solvability::mixed::mixed_rank` meets its contract: the answer to the layered form, read as one to the mixed model. Assumes nothing.
 use Prim.Native.Nat.{ℕ, _+_, _-_, _*_, _<_, _≤_}
 use mathlib.Core.Path.{_≡_, refl, sym, ap, _∙_}
-use Rattle.exchange.specs.Counting.Sets.{Set}
-use Rattle.exchange.specs.Columns.{width, members, moved-down}
+use Rattle.columns.specs.Counting.Sets.{Set}
+use Rattle.columns.specs.Columns.{width, members, moved-down}
 use Rattle.exchange.specs.Solution.{Solved}
 use Rattle.solvability.specs.Mixed.{layered-form, mixed}
 use Rattle.solvability.specs.AnswerLaws.{rank-small}

@@ -7,7 +7,7 @@ use native.Mathlib.Omega.{arith}
 use lib.ListN.{length, take, drop, length-drop}
 use lib.Seq.{take-take}
 use borrow.Author.Needs.{needs}
-use Rattle.exchange.specs.Bytes.{number}
+use Rattle.columns.specs.Bytes.{number}
 use Rattle.solvability.specs.File.ReadLaws.{parameters-next, parameters-done, parameters-length}
 use Rattle.solvability.specs.File.Steps.{parametersOf}
 use Rattle.solvability.specs.ListLaws.{tail-part}

@@ -1,6 +1,6 @@
 -- `report::put_answer` meets its contract.: line after line. Assumes nothing.
 use mathlib.Core.Path.{_∙_}
-use Rattle.exchange.specs.Columns.{members}
+use Rattle.columns.specs.Columns.{members}
 use Rattle.solvability.specs.Report.{ascii, line, item, column-items, row-items, verdict-line, answer-text}
 use Rattle.solvability.specs.PutLaws.{puts-then, room-first, room-next}
 use borrow.Author.Needs.{needs}

@@ -1,6 +1,6 @@
 -- `report::put_column_line` meets its contract. Assumes nothing.
 use mathlib.Core.Path.{sym}
-use Rattle.exchange.specs.Columns.{members}
+use Rattle.columns.specs.Columns.{members}
 use Rattle.solvability.specs.Report.{column-items}
 use Rattle.solvability.specs.PutLaws.{puts-as, puts-then, room-as, room-first, room-next}
 use Rattle.solvability.specs.ReportLaws.{line-is}

@@ -4,9 +4,9 @@ use mathlib.Core.Path.{_≡_, sym, ap, _∙_}
 use mathlib.Core.Logic.{_≢_}
 use mathlib.Core.List.{_++_}
 use borrow.Author.Tests.{eqb-true, eqb-false, not-true, not-false}
-use Rattle.exchange.specs.Counting.Sets.{Set, #}
-use Rattle.exchange.specs.Columns.{width, members, removed}
-use Rattle.exchange.specs.Words.SetLaws.{removed-less, least-there}
+use Rattle.columns.specs.Counting.Sets.{Set, #}
+use Rattle.columns.specs.Columns.{width, members, removed}
+use Rattle.columns.specs.Words.SetLaws.{removed-less, least-there}
 use Rattle.solvability.specs.Report.{item, column-items}
 use Rattle.solvability.specs.PutLaws.{Putting, putting-none, putting-next, putting-room, putting-all}
 use Rattle.solvability.specs.ReportLaws.{column-items-next, column-items-none}

@@ -6,7 +6,7 @@ use native.Mathlib.Omega.{arith}
 use lib.ListN.{length, take, length-take, length-drop}
 use lib.Seq.{length-take-le}
 use borrow.Author.Needs.{needs}
-use Rattle.exchange.specs.Bytes.{bytesOf}
+use Rattle.columns.specs.Bytes.{bytesOf}
 use Rattle.solvability.specs.File.Piece.{fieldBytes}
 use Rattle.solvability.specs.File.RowLaws.{constant-rows-length, parameter-rows-length, handed-over-fields, handed-over-length}
 use Rattle.solvability.specs.File.Steps.{constantBytes, parameterBytes}

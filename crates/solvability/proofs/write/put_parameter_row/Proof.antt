@@ -3,7 +3,7 @@ use Prim.Native.Nat.{ℕ}
 use mathlib.Core.List.{List, []}
 use mathlib.Core.Path.{refl, ap, _∙_}
 use borrow.Author.Needs.{needs}
-use Rattle.exchange.specs.Bytes.{bytesOf}
+use Rattle.columns.specs.Bytes.{bytesOf}
 use Rattle.solvability.specs.File.Piece.{fieldBytes}
 use Rattle.solvability.specs.File.RowLaws.{parameter-bytes}
 use Rattle.solvability.specs.Lists.{over}

@@ -8,7 +8,7 @@ use native.Mathlib.Omega.{arith}
 use lib.ListN.{length, drop}
 use lib.Seq.{drop-cons}
 use borrow.Author.Needs.{needs}
-use Rattle.exchange.specs.Bytes.{bytesOf}
+use Rattle.columns.specs.Bytes.{bytesOf}
 use Rattle.solvability.specs.OverLaws.{Wrote, wrote-none, wrote-set, wrote-all}
 use Rattle.solvability.proofs.write.put_set.Statement.{statement}
 use Rattle.solvability.proofs.write.put_set.Tie as tie

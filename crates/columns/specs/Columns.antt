@@ -1,0 +1,54 @@
+-- What a word means as a set of columns, and the set operations that the contracts cite. Definitions only.
+use Prim.Native.Nat.{ℕ, zero, suc, _+_, _-_, _*_, _/_, _%_, _^_}
+use mathlib.Core.Bool.{Bool, false, not, _&&_, _||_, cond}
+use lib.Dec.{eqb, leb, ltb}
+use Rattle.columns.specs.Counting.Sets.{Set, indicator, all}
+
+-- how many columns a word has room for
+abbrev pub width : ℕ
+width = 64
+
+-- bit x of the word w, 0 or 1
+abbrev pub bit : ℕ → ℕ → ℕ
+bit w x = w / 2 ^ x % 2
+
+-- the columns of the word w
+unfoldable pub members : ℕ → Set
+members w x = eqb (bit w x) 1
+
+abbrev pub none : Set
+none x = false
+
+-- the columns below n that a word has room for
+unfoldable pub upto : ℕ → Set
+upto n x = ltb x n && ltb x width
+
+-- S with column j, where a word has room for j
+unfoldable pub inserted : Set → ℕ → Set
+inserted S j x = S x || (eqb x j && ltb j width)
+
+-- S without column j
+unfoldable pub removed : Set → ℕ → Set
+removed S j x = S x && not (eqb x j)
+
+-- S moved m columns up, as far as a word has room
+unfoldable pub moved-up : Set → ℕ → Set
+moved-up S m x = leb m x && S (x - m) && ltb x width
+
+-- S moved m columns down
+unfoldable pub moved-down : Set → ℕ → Set
+moved-down S m x = S (m + x)
+
+-- the least member of S below n, or n
+unfoldable pub least : ℕ → Set → ℕ
+least zero S = 0
+least (suc n) S = cond (S 0) 0 (suc (least n (λ x. S (suc x))))
+
+-- the word of the columns of S below k
+unfoldable pub word-of : ℕ → Set → ℕ
+word-of zero S = 0
+word-of (suc k) S = indicator (S 0) + 2 * word-of k (λ x. S (suc x))
+
+-- no column of the word w is n or more
+unfoldable pub within : ℕ → ℕ → Bool
+within n w = all width (λ x. not (members w x) || ltb x n)

@@ -1,0 +1,91 @@
+-- Eight bytes as a word: column c is bit c mod 8 of byte c div 8. Assumes nothing.
+use mathlib.Core.Path.{_≡_, refl, sym, ap, _∙_}
+use mathlib.Core.List.{List, [], _∷_}
+use Prim.Native.Nat.{ℕ, zero, suc, _+_, _-_, _*_, _/_, _%_, _^_, _≤_, _<_}
+use native.Mathlib.Nat.{div-one}
+use native.Mathlib.Decide.{decLt}
+use native.Mathlib.Omega.{arith}
+use lib.Dec.{eqb, lit<}
+use lib.ListN.{getD, take, drop}
+use lib.Pow.{pow-pos, pow-add, shr-shr}
+use Rattle.columns.specs.Bytes.{number, bytesOf}
+use Rattle.columns.specs.Columns.{bit, members}
+use Rattle.columns.specs.Words.Bits.{bit-mod, bit-of-zero}
+
+-- every element is a byte
+abbrev pub AreBytes : List ℕ → Type 0
+AreBytes bs = (i : ℕ) → getD bs i 0 < 256
+
+-- ---- the bit law
+
+low-byte : (x m : ℕ) → x < 256 → (x + 256 * m) % 2 ^ 8 ≡ x
+low-byte x m l = omega arith
+
+high-bytes : (x m : ℕ) → x < 256 → (x + 256 * m) / 2 ^ 8 ≡ m
+high-bytes x m l = omega arith
+
+pub number-bit : (bs : List ℕ) (c : ℕ) → AreBytes bs → bit (number bs) c ≡ bit (getD bs (c / 8) 0) (c % 8)
+number-bit [] c b = bit-of-zero c ∙ sym (bit-of-zero (c % 8))
+number-bit (x ∷ bs) c b = elim (decLt c 8) [
+  | yes l ↦
+      sym (bit-mod 8 (x + 256 * number bs) c l)
+      ∙ ap (λ (m : ℕ). bit m c) (low-byte x (number bs) (b 0))
+      ∙ here (c / 8) (c % 8) (omega arith) (omega arith)
+  | no nl ↦
+      ap (λ (k : ℕ). bit (x + 256 * number bs) k) (back nl)
+      ∙ ap (λ (m : ℕ). m % 2) (sym (shr-shr (x + 256 * number bs) 8 (c - 8)))
+      ∙ ap (λ (m : ℕ). bit m (c - 8)) (high-bytes x (number bs) (b 0))
+      ∙ number-bit bs (c - 8) (λ i. b (suc i))
+      ∙ there (c / 8) (c % 8) (omega arith) (omega arith)
+]
+  where
+    back : ¬ (c < 8) → c ≡ 8 + (c - 8)
+    back h = omega arith
+
+    here : (q r : ℕ) → q ≡ 0 → r ≡ c → bit x c ≡ bit (getD (x ∷ bs) q 0) r
+    here q r e d = rw (e, d) refl
+
+    there : (q r : ℕ) → q ≡ suc ((c - 8) / 8) → r ≡ (c - 8) % 8 → bit (getD bs ((c - 8) / 8) 0) ((c - 8) % 8) ≡ bit (getD (x ∷ bs) q 0) r
+    there q r e d = rw (e, d) refl
+
+-- THE BIT LAW of eight bytes
+pub number-members : (bs : List ℕ) (c : ℕ) → AreBytes bs → members (number bs) c ≡ eqb (bit (getD bs (c / 8) 0) (c % 8)) 1
+unfolding members
+number-members bs c b = ap (λ (d : ℕ). eqb d 1) (number-bit bs c b)
+
+-- ---- what reading from the last byte to the first keeps
+
+eight-more : (k : ℕ) → 8 * suc k ≡ 8 + 8 * k
+eight-more k = omega arith
+
+pub number-below : (k : ℕ) (bs : List ℕ) → AreBytes bs → number (take k bs) < 2 ^ (8 * k)
+number-below zero bs b = lit< tt
+number-below (suc k) [] b = pow-pos (8 * suc k)
+number-below (suc k) (x ∷ bs) b =
+    let split : 2 ^ (8 * suc k) ≡ 256 * 2 ^ (8 * k) = ap (λ (m : ℕ). 2 ^ m) (eight-more k) ∙ pow-add 2 8 (8 * k) in
+    omega (arith, b 0, number-below k bs (λ i. b (suc i)))
+
+none-left : (m : ℕ) → number (take m []) ≡ 0
+none-left zero = refl
+none-left (suc m) = refl
+
+-- one byte more in front
+pub number-front : (k m : ℕ) (bs : List ℕ) → number (take m (drop (suc k) bs)) * 256 + getD bs k 0 ≡ number (take (suc m) (drop k bs))
+number-front zero m [] = rw (none-left m) refl
+number-front zero m (x ∷ bs) = omega arith
+number-front (suc k) m [] = rw (none-left m) refl
+number-front (suc k) m (x ∷ bs) = number-front k m bs
+
+-- ---- the bytes of a word
+
+pub byte-at : (k j w : ℕ) → j < k → getD (bytesOf k w) j 0 ≡ w / 2 ^ (8 * j) % 256
+byte-at zero j w l = absurd (omega arith)
+byte-at (suc k) zero w l = ap (λ (q : ℕ). q % 256) (sym (div-one w))
+byte-at (suc k) (suc j) w l =
+    byte-at k j (w / 256) (omega arith)
+    ∙ ap (λ (q : ℕ). q % 256) (shr-shr w 8 (8 * j) ∙ ap (λ (m : ℕ). w / 2 ^ m) (sym (eight-more j)))
+
+pub byte-past : (k j w : ℕ) → k ≤ j → getD (bytesOf k w) j 0 ≡ 0
+byte-past zero j w l = refl
+byte-past (suc k) zero w l = absurd (omega arith)
+byte-past (suc k) (suc j) w l = byte-past k j (w / 256) (omega arith)

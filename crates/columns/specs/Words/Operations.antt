@@ -1,0 +1,349 @@
+-- Each of the machine's operations on words, as the operation on sets of columns that it is. Assumes nothing.
+use mathlib.Core.Path.{_≡_, refl, sym, ap, ap₂, _∙_, subst, fun-ext}
+use mathlib.Core.Bool.{Bool, true, false, not, _&&_, _||_, cond, true≢false}
+use mathlib.Core.Logic.{_≢_, _↔_, ⊎-elim}
+use Prim.Native.Nat.{ℕ, zero, suc, _+_, _-_, _*_, _/_, _%_, _^_, _≤_, _<_, min, max}
+use native.Mathlib.Nat.{mod-lt, mod-le, mod-eq-of-lt, div-eq-of-lt, div-lt-iff-lt-mul, zero-min, pow-suc, mul-div-cancel, mul-mod-left, mul-assoc, not-suc-le-zero, le-of-suc-le-suc}
+use native.Mathlib.Numerals.{add-one, one-add}
+use native.Mathlib.Decide.{ℕ-discrete, decLt}
+use native.Mathlib.Omega.{arith}
+use lib.Arith.{lt-one}
+use lib.Dec.{lit<, eqb, leb, ltb}
+use lib.Pow.{pow-pos, pow-mono, pow-add, pow-lt, mod-pow-add, shr-shr}
+use lib.Bits.{bitAnd, bitOr}
+use lib.Count.{ones, ones-cat, trailingZeros, under}
+use borrow.Author.Tests.{le-leb, lt-leb, eq-eqb, ne-eqb, eqb-true, lt-ltb, le-ltb, ltb-true}
+use Rattle.columns.specs.Counting.Bools.{true?, not-true, iff-eq, implies, implied}
+use Rattle.columns.specs.Counting.Sets.{Set, _∈_, _∩_, _∪_, ∁, indicator, #, all}
+use Rattle.columns.specs.Counting.Counts.{all-iff, #-⊖}
+use Rattle.columns.specs.Columns.{width, bit, members, none, upto, inserted, removed, moved-up, moved-down, least, word-of, within}
+use Rattle.columns.specs.Words.Bits.{bit-lt, two-cases, bit-suc, bit-zero, bit-and, bit-or, bit-not, bit-pow-same, bit-pow-other, bit-of-zero, bit-mod, bits-ext}
+
+-- ---- members by their bits
+
+pub members-zero : members 0 ≡ none
+unfolding members
+members-zero = fun-ext (λ x. ap (λ (b : ℕ). eqb b 1) (bit-of-zero x))
+
+-- a number below 2 ^ k has no member from k on
+pub members-beyond : (k w x : ℕ) → w < 2 ^ k → k ≤ x → members w x ≡ false
+unfolding members
+members-beyond k w x l h =
+    let m : 2 ^ k ≤ 2 ^ x = pow-mono {i = k} {j = x} h in
+    ap (λ (q : ℕ). eqb (q % 2) 1) (div-eq-of-lt {n = w} {m = 2 ^ x} (omega arith))
+
+pub members-below : (w x : ℕ) → w < 2 ^ width → x ∈ members w → x < width
+members-below w x l e = elim (decLt x width) [
+  | yes h ↦ h
+  | no nh ↦ absurd (true≢false (sym e ∙ members-beyond width w x l (omega arith)))
+]
+
+members-pow : (j x : ℕ) → members (2 ^ j) x ≡ eqb x j
+unfolding members
+members-pow j x = elim (ℕ-discrete x j) [
+  | yes e ↦ ap (λ (b : ℕ). eqb b 1) (ap (bit (2 ^ j)) e ∙ bit-pow-same j) ∙ sym (eq-eqb x j e)
+  | no ne ↦ ap (λ (b : ℕ). eqb b 1) (bit-pow-other j x ne) ∙ sym (ne-eqb x j ne)
+]
+
+-- the low k bits have the members below k
+members-mod : (k w x : ℕ) → x < k → members (w % 2 ^ k) x ≡ members w x
+unfolding members
+members-mod k w x l = ap (λ (b : ℕ). eqb b 1) (bit-mod k w x l)
+
+pub members-half : (w x : ℕ) → members w (suc x) ≡ members (w / 2) x
+unfolding members
+members-half w x = ap (λ (b : ℕ). eqb b 1) (bit-suc w x)
+
+-- a multiple of 2 ^ m has no member below m
+low-none : (m w x : ℕ) → x < m → members (w * 2 ^ m) x ≡ false
+unfolding members
+low-none zero w x l = absurd (omega arith)
+low-none (suc m) w zero l = at-zero
+  where
+    twice : w * 2 ^ suc m ≡ w * 2 ^ m * 2
+    twice = ap (λ (k : ℕ). w * k) (pow-suc 2 m) ∙ sym (mul-assoc w (2 ^ m) 2)
+
+    at-zero : members (w * 2 ^ suc m) 0 ≡ false
+    at-zero = ap (λ (b : ℕ). eqb b 1) (bit-zero (w * 2 ^ suc m) ∙ ap (λ (k : ℕ). k % 2) twice ∙ mul-mod-left (w * 2 ^ m) 2)
+low-none (suc m) w (suc x) l =
+    members-half (w * 2 ^ suc m) x
+    ∙ ap (λ (v : ℕ). members v x) (ap (λ (k : ℕ). k / 2) (ap (λ (k : ℕ). w * k) (pow-suc 2 m) ∙ sym (mul-assoc w (2 ^ m) 2)) ∙ mul-div-cancel (w * 2 ^ m) (lit< tt))
+    ∙ low-none m w x (omega arith)
+
+-- ---- the set operations
+
+one-of : (d e : ℕ) → d < 2 → e < 2 → eqb (max d e) 1 ≡ (eqb d 1 || eqb e 1)
+one-of zero zero h l = refl
+one-of zero (suc zero) h l = refl
+one-of (suc zero) zero h l = refl
+one-of (suc zero) (suc zero) h l = refl
+one-of zero (suc (suc e)) h l = absurd (omega arith)
+one-of (suc zero) (suc (suc e)) h l = absurd (omega arith)
+one-of (suc (suc d)) e h l = absurd (omega arith)
+
+one-less : (d e : ℕ) → d < 2 → e < 2 → eqb (min d (1 - e)) 1 ≡ (eqb d 1 && not (eqb e 1))
+one-less zero zero h l = refl
+one-less zero (suc zero) h l = refl
+one-less (suc zero) zero h l = refl
+one-less (suc zero) (suc zero) h l = refl
+one-less zero (suc (suc e)) h l = absurd (omega arith)
+one-less (suc zero) (suc (suc e)) h l = absurd (omega arith)
+one-less (suc (suc d)) e h l = absurd (omega arith)
+
+pub members-or : (v w : ℕ) → members (bitOr v w) ≡ members v ∪ members w
+unfolding members
+members-or v w = fun-ext (λ x. ap (λ (b : ℕ). eqb b 1) (bit-or v w x) ∙ one-of (bit v x) (bit w x) (bit-lt v x) (bit-lt w x))
+
+pub members-less : (v w : ℕ) → v < 2 ^ width → w < 2 ^ width → members (bitAnd v (2 ^ width - 1 - w)) ≡ members v ∩ ∁ (members w)
+unfolding members
+members-less v w hv hw = fun-ext (λ x. elim (decLt x width) [ yes l ↦ low x l | no nl ↦ high x (omega arith) ])
+  where
+    both-bits : (x : ℕ) → bit (bitAnd v (2 ^ width - 1 - w)) x ≡ min (bit v x) (bit (2 ^ width - 1 - w) x)
+    both-bits x = bit-and v (2 ^ width - 1 - w) x
+
+    low : (x : ℕ) → x < width → members (bitAnd v (2 ^ width - 1 - w)) x ≡ (members v x && not (members w x))
+    low x l =
+        ap (λ (b : ℕ). eqb b 1) (both-bits x ∙ ap (min (bit v x)) (bit-not width w x hw l))
+        ∙ one-less (bit v x) (bit w x) (bit-lt v x) (bit-lt w x)
+
+    none-high : (d e : ℕ) → d < 2 → eqb d 1 ≡ false → eqb (min d e) 1 ≡ false
+    none-high zero e h z = ap (λ (b : ℕ). eqb b 1) (zero-min e)
+    none-high (suc zero) e h z = absurd (true≢false z)
+    none-high (suc (suc d)) e h z = absurd (omega arith)
+
+    high : (x : ℕ) → width ≤ x → members (bitAnd v (2 ^ width - 1 - w)) x ≡ (members v x && not (members w x))
+    high x h =
+        ap (λ (b : ℕ). eqb b 1) (both-bits x)
+        ∙ none-high (bit v x) _ (bit-lt v x) (members-beyond width v x hv h)
+        ∙ sym (ap (λ b. b && not (members w x)) (members-beyond width v x hv h))
+
+and-none : (b : Bool) → false ≡ (b && false)
+and-none true = refl
+and-none false = refl
+
+and-true : (b : Bool) → b ≡ (b && true)
+and-true true = refl
+and-true false = refl
+
+pub members-with : (w j : ℕ) → j < width → members (bitOr w (2 ^ j)) ≡ inserted (members w) j
+unfolding inserted
+members-with w j l = members-or w (2 ^ j) ∙ fun-ext (λ x. ap (λ b. members w x || b) (members-pow j x ∙ with-room x))
+  where
+    with-room : (x : ℕ) → eqb x j ≡ (eqb x j && ltb j width)
+    with-room x = rw (lt-ltb j width l) (and-true (eqb x j))
+
+pub inserted-beyond : (S : Set) (j : ℕ) → width ≤ j → S ≡ inserted S j
+unfolding inserted
+inserted-beyond S j h = fun-ext (λ x. rw (le-ltb j width h) (or-none (S x) (eqb x j)))
+  where
+    or-none : (b d : Bool) → b ≡ (b || (d && false))
+    or-none true d = refl
+    or-none false true = refl
+    or-none false false = refl
+
+pub members-without : (w j : ℕ) → w < 2 ^ width → j < width → members (bitAnd w (2 ^ width - 1 - 2 ^ j)) ≡ removed (members w) j
+unfolding removed
+members-without w j hw l =
+    members-less w (2 ^ j) hw (pow-below j l)
+    ∙ fun-ext (λ x. ap (λ b. members w x && not b) (members-pow j x))
+  where
+    pow-below : (j : ℕ) → j < width → 2 ^ j < 2 ^ width
+    pow-below j l = let m : 2 ^ suc j ≤ 2 ^ width = pow-mono {i = suc j} {j = width} l in
+        omega (arith, pow-pos j, ap (λ (k : ℕ). 2 ^ k) (one-add j), pow-add 2 1 j)
+
+pub removed-beyond : (w j : ℕ) → w < 2 ^ width → width ≤ j → members w ≡ removed (members w) j
+unfolding removed
+removed-beyond w j hw h = fun-ext (λ x. elim (ℕ-discrete x j) [
+  | yes e ↦ ap (members w) e ∙ members-beyond width w j hw h ∙ sym (ap (λ b. b && not (eqb x j)) (ap (members w) e ∙ members-beyond width w j hw h))
+  | no ne ↦ rw (ne-eqb x j ne) (and-true (members w x))
+])
+
+-- ---- all columns below n
+
+pub members-upto : (n : ℕ) → n ≤ width → members (2 ^ n - 1) ≡ upto n
+unfolding members upto
+members-upto n h = fun-ext (λ x. elim (decLt x n) [
+  | yes l ↦
+      ap (λ (m : ℕ). eqb (bit m x) 1) (sym (minus-zero (2 ^ n - 1))) ∙ ap (λ (b : ℕ). eqb b 1) (bit-not n 0 x (pow-pos n) l ∙ ap (λ (b : ℕ). 1 - b) (bit-of-zero x))
+      ∙ sym (ap₂ _&&_ (lt-ltb x n l) (lt-ltb x width (omega arith)))
+  | no nl ↦ members-beyond n (2 ^ n - 1) x (omega (arith, pow-pos n)) (omega arith) ∙ sym (ap (λ b. b && ltb x width) (le-ltb x n (omega arith)))
+])
+  where
+    minus-zero : (m : ℕ) → m - 0 ≡ m
+    minus-zero m = omega arith
+
+pub upto-wide : (n : ℕ) → width ≤ n → upto width ≡ upto n
+unfolding upto
+upto-wide n h = fun-ext (λ x. elim (decLt x width) [
+  | yes l ↦ ap₂ _&&_ (lt-ltb x width l ∙ sym (lt-ltb x n (omega arith))) refl
+  | no nl ↦ rw (le-ltb x width (omega arith)) (and-none (ltb x n))
+])
+
+-- ---- columns moved up and down
+
+pub members-down : (w m : ℕ) → members (w / 2 ^ m) ≡ moved-down (members w) m
+unfolding members moved-down
+members-down w m = fun-ext (λ x. ap (λ (q : ℕ). eqb (q % 2) 1) (shr-shr w m x))
+
+pub none-down : (w m : ℕ) → w < 2 ^ width → width ≤ m → none ≡ moved-down (members w) m
+unfolding moved-down
+none-down w m h l = fun-ext (λ x. sym (members-beyond width w (m + x) h (omega arith)))
+
+pub members-up : (w m : ℕ) → members (w * 2 ^ m % 2 ^ width) ≡ moved-up (members w) m
+unfolding moved-up moved-down
+members-up w m = fun-ext (λ x. elim (decLt x width) [
+  | no nl ↦ members-beyond width (w * 2 ^ m % 2 ^ width) x (mod-lt (w * 2 ^ m) (pow-pos width)) (omega arith) ∙ rw (le-ltb x width (omega arith)) (and-none (leb m x && members w (x - m)))
+  | yes l ↦ members-mod width (w * 2 ^ m) x l ∙ rw (lt-ltb x width l) (shifted x ∙ and-true (leb m x && members w (x - m)))
+])
+  where
+    shifted : (x : ℕ) → members (w * 2 ^ m) x ≡ (leb m x && members w (x - m))
+    shifted x = elim (decLt x m) [
+      | yes l ↦ low-none m w x l ∙ sym (ap (λ b. b && members w (x - m)) (lt-leb m x l))
+      | no nl ↦
+          let at : m + (x - m) ≡ x = omega arith in
+          ap (members (w * 2 ^ m)) (sym at) ∙ sym (ap (λ (S : Set). S (x - m)) (members-down (w * 2 ^ m) m)) ∙ ap (λ (v : ℕ). members v (x - m)) (mul-div-cancel w (pow-pos m))
+          ∙ sym (ap (λ b. b && members w (x - m)) (le-leb m x (omega arith)))
+    ]
+
+pub none-up : (S : Set) (m : ℕ) → width ≤ m → none ≡ moved-up S m
+unfolding moved-up
+none-up S m h = fun-ext (λ x. elim (decLt x m) [
+  | yes l ↦ ap (λ b. b && S (x - m) && ltb x width) (sym (lt-leb m x l))
+  | no nl ↦ rw (le-ltb x width (omega arith)) (and-none (leb m x && S (x - m)))
+])
+
+-- ---- the least column
+
+pub least-zeros : (k w : ℕ) → trailingZeros k w ≡ least k (members w)
+unfolding trailingZeros least members
+least-zeros zero w = refl
+least-zeros (suc k) w =
+    ⊎-elim
+    (λ (e : w % 2 ≡ 0). at-low 0 e ∙ ap suc (least-zeros k (w / 2) ∙ ap (least k) (fun-ext (λ x. sym (members-half w x)))) ∙ sym (ap (λ b. cond b 0 (suc (least k (λ x. members w (suc x))))) (low-bit e)))
+    (λ (e : w % 2 ≡ 1). at-low 1 e ∙ sym (ap (λ b. cond b 0 (suc (least k (λ x. members w (suc x))))) (low-bit e)))
+    (two-cases (w % 2) (mod-lt w (lit< tt)))
+  where
+    at-low : (d : ℕ) → w % 2 ≡ d → under (w % 2) (trailingZeros k (w / 2)) ≡ under d (trailingZeros k (w / 2))
+    at-low d e = ap (λ (b : ℕ). under b (trailingZeros k (w / 2))) e
+
+    low-bit : {d : ℕ} → w % 2 ≡ d → members w 0 ≡ eqb d 1
+    low-bit e = ap (λ (b : ℕ). eqb b 1) (bit-zero w ∙ e)
+
+pub least-le : (k : ℕ) (S : Set) → least k S ≤ k
+unfolding least
+least-le zero S = omega arith
+least-le (suc k) S = elim (S 0) as (λ b. cond b 0 (suc (least k (λ x. S (suc x)))) ≤ suc k) [
+  | true ↦ omega arith
+  | false ↦ omega (arith, least-le k (λ x. S (suc x)))
+]
+
+-- it is a member, and there is none below it
+pub least-in : (k : ℕ) (S : Set) → least k S < k → least k S ∈ S
+unfolding least
+least-in zero S l = absurd (omega arith)
+least-in (suc k) S l = go (S 0) refl (λ h. least-in k (λ x. S (suc x)) h)
+  where
+    go : (b : Bool) → S 0 ≡ b → (least k (λ x. S (suc x)) < k → S (suc (least k (λ x. S (suc x)))) ≡ true) → S (least (suc k) S) ≡ true
+    go true e later = ap (λ b. S (cond b 0 (suc (least k (λ x. S (suc x)))))) e ∙ e
+    go false e later =
+        let at : least (suc k) S ≡ suc (least k (λ x. S (suc x))) = ap (λ b. cond b 0 (suc (least k (λ x. S (suc x))))) e in
+        ap S at ∙ later (omega arith)
+
+pub least-first : (k : ℕ) (S : Set) (x : ℕ) → x < k → x ∈ S → least k S ≤ x
+unfolding least
+least-first zero S x l m = absurd (omega arith)
+least-first (suc k) S zero l m = rw m (omega arith)
+least-first (suc k) S (suc x) l m = elim (S 0) as (λ b. cond b 0 (suc (least k (λ y. S (suc y)))) ≤ suc x) [
+  | true ↦ omega arith
+  | false ↦ omega (arith, least-first k (λ y. S (suc y)) x (omega arith) m)
+]
+
+-- ---- the size
+
+bit-indicator : (d : ℕ) → d < 2 → d ≡ indicator (eqb d 1)
+unfolding indicator
+bit-indicator zero h = refl
+bit-indicator (suc zero) h = refl
+bit-indicator (suc (suc d)) h = absurd (omega arith)
+
+ones-small : (d : ℕ) → d < 2 → ones d ≡ d
+unfolding ones
+ones-small zero h = refl
+ones-small (suc zero) h = refl
+ones-small (suc (suc d)) h = absurd (omega arith)
+
+ones-low : (k w : ℕ) → ones (w % 2 ^ k) ≡ # k (members w)
+unfolding ones # members
+ones-low zero w = ap ones (lt-one (mod-lt w (lit< tt)))
+ones-low (suc k) w =
+    ap (λ (m : ℕ). ones (w % 2 ^ m)) (sym (one-add k)) ∙ ap ones (mod-pow-add w 1 k) ∙ ones-cat k (bit w k) (w % 2 ^ k) (mod-lt w (pow-pos k))
+    ∙ ap₂ (λ (a b : ℕ). a + b) (ones-small (bit w k) (bit-lt w k) ∙ bit-indicator (bit w k) (bit-lt w k)) (ones-low k w)
+
+pub size-ones : (k w : ℕ) → w < 2 ^ k → ones w ≡ # k (members w)
+size-ones k w h = ap ones (sym (mod-eq-of-lt h)) ∙ ones-low k w
+
+-- ---- words are equal where their members are
+
+pub members-ext : (k v w : ℕ) → v < 2 ^ k → w < 2 ^ k → ((x : ℕ) → x < k → members v x ≡ members w x) → v ≡ w
+unfolding members
+members-ext k v w hv hw e = bits-ext k v w hv hw (λ x l. same (bit v x) (bit w x) (bit-lt v x) (bit-lt w x) (e x l))
+  where
+    same : (c d : ℕ) → c < 2 → d < 2 → eqb c 1 ≡ eqb d 1 → c ≡ d
+    same zero zero h l e = refl
+    same zero (suc zero) h l e = absurd (true≢false (sym e))
+    same (suc zero) zero h l e = absurd (true≢false e)
+    same (suc zero) (suc zero) h l e = refl
+    same zero (suc (suc d)) h l e = absurd (omega arith)
+    same (suc zero) (suc (suc d)) h l e = absurd (omega arith)
+    same (suc (suc c)) d h l e = absurd (omega arith)
+
+pub no-members : (w : ℕ) → w < 2 ^ width → # width (members w) ≡ 0 → w ≡ 0
+no-members w h e = members-ext width w 0 h (omega arith) (λ x l. not-true (members w x) (λ m.
+    omega (arith, e, #-⊖ width (members w) x l m)) ∙ sym (ap (λ (S : Set). S x) members-zero))
+
+pub word-members : (k w : ℕ) → w < 2 ^ k → w ≡ word-of k (members w)
+unfolding word-of members
+word-members zero w h = lt-one h
+word-members (suc k) w h =
+    let p = pow-suc 2 k in
+    let half : w / 2 ≡ word-of k (members (w / 2)) = word-members k (w / 2) (omega arith) in
+    let low : w % 2 ≡ indicator (eqb (bit w 0) 1) = sym (bit-zero w) ∙ bit-indicator (bit w 0) (bit-lt w 0) in
+    let high : word-of k (members (w / 2)) ≡ word-of k (λ x. members w (suc x)) = ap (word-of k) (fun-ext (λ x. sym (members-half w x))) in
+    omega arith
+
+-- ---- no column from n on
+
+pub within-iff : (n w : ℕ) → (within n w ≡ true) ↔ ((x : ℕ) → x < width → x ∈ members w → x < n)
+unfolding within
+within-iff n w = (
+  λ e x l m. ltb-true x n (implied (members w x) (ltb x n) (all-iff width (λ x. not (members w x) || ltb x n) .0 e x l) m),
+  λ h. all-iff width (λ x. not (members w x) || ltb x n) .1 (λ x l. implies (members w x) (ltb x n) (λ m. lt-ltb x n (h x l m))),
+)
+
+pub within-pow : (n w : ℕ) → w < 2 ^ width → within n w ≡ ltb w (2 ^ n)
+within-pow n w h = iff-eq (within n w) (ltb w (2 ^ n))
+    (λ e. lt-ltb w (2 ^ n) (small (within-iff n w .0 e)))
+    (λ e. within-iff n w .1 (λ x l m. elim (decLt x n) [
+      | yes lx ↦ lx
+      | no nx ↦ absurd (true≢false (sym m ∙ members-beyond n w x (ltb-true w (2 ^ n) e) (omega arith)))
+    ]))
+  where
+    small : ((x : ℕ) → x < width → x ∈ members w → x < n) → w < 2 ^ n
+    small inside = elim (decLt n width) [
+      | no nl ↦ let m : 2 ^ width ≤ 2 ^ n = pow-mono {i = width} {j = n} (omega arith) in omega arith
+      | yes l ↦
+          let same : w ≡ w % 2 ^ n = members-ext width w (w % 2 ^ n) h (omega (arith, mod-le w (2 ^ n))) (λ x lx. agree x lx) in
+          omega (arith, mod-lt w (pow-pos n))
+    ]
+      where
+        agree : (x : ℕ) → x < width → members w x ≡ members (w % 2 ^ n) x
+        agree x lx = elim (decLt x n) [
+          | yes lo ↦ sym (members-mod n w x lo)
+          | no hi ↦ not-true (members w x) (λ m. hi (inside x lx m)) ∙ sym (members-beyond n (w % 2 ^ n) x (mod-lt w (pow-pos n)) (omega arith))
+        ]
+
+pub within-shift : (n w : ℕ) → w < 2 ^ width → eqb (w / 2 ^ n) 0 ≡ within n w
+within-shift n w h = iff-eq (eqb (w / 2 ^ n) 0) (ltb w (2 ^ n))
+    (λ e. lt-ltb w (2 ^ n) (omega (arith, div-lt-iff-lt-mul {k = 2 ^ n} {x = w} {y = 1} (pow-pos n) .0 (omega (arith, eqb-true (w / 2 ^ n) 0 e)))))
+    (λ e. eq-eqb (w / 2 ^ n) 0 (div-eq-of-lt (ltb-true w (2 ^ n) e)))
+    ∙ sym (within-pow n w h)

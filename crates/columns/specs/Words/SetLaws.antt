@@ -1,0 +1,77 @@
+-- The laws of the set operations that the contracts of `columns` cite: what loops over a set, and sets that grow, go by. Assumes nothing.
+use Prim.Native.Nat.{ℕ, suc, _+_, _≤_, _<_}
+use mathlib.Core.Path.{_≡_, refl}
+use mathlib.Core.Bool.{not, _&&_}
+use mathlib.Core.Logic.{_≢_, _⊎_, inl, inr}
+use native.Mathlib.Omega.{arith}
+use native.Mathlib.Decide.{ℕ-discrete, decLt}
+use lib.Dec.{eqb, ltb}
+use borrow.Author.Tests.{eq-eqb, ne-eqb, eqb-true, lt-ltb, ltb-true}
+use Rattle.columns.specs.Counting.Bools.{true?, and-in, and-left, and-right, or-left, or-right, or-split, not-in, in-not, not-of, not-both}
+use Rattle.columns.specs.Counting.Sets.{Set, _∈_, _⊆_, _∩_, _∪_, ∁, #, Some}
+use Rattle.columns.specs.Counting.Counts.{#-⊖, #-pick}
+use Rattle.columns.specs.Counting.Injections.{#-strict}
+use Rattle.columns.specs.Columns.{width, upto, inserted, removed, least}
+use Rattle.columns.specs.Words.Operations.{least-in, least-first}
+
+-- ---- a column put in
+
+pub inserted-same : (S : Set) (j : ℕ) → j < width → j ∈ inserted S j
+unfolding inserted
+inserted-same S j l = or-right (S j) (eqb j j && ltb j width) (and-in (eq-eqb j j refl) (lt-ltb j width l))
+
+pub inserted-old : (S : Set) (j : ℕ) → S ⊆ inserted S j
+unfolding inserted
+inserted-old S j x e = or-left (S x) (eqb x j && ltb j width) e
+
+pub inserted-split : (S : Set) (j x : ℕ) → x ∈ inserted S j → (x ≡ j) ⊎ (x ∈ S)
+unfolding inserted
+inserted-split S j x e = elim (or-split (S x) (eqb x j && ltb j width) e) [
+  | inl o ↦ inr o
+  | inr w ↦ inl (eqb-true x j (and-left (eqb x j) (ltb j width) w))
+]
+
+-- ---- a column taken out
+
+pub removed-old : (S : Set) (j : ℕ) → removed S j ⊆ S
+unfolding removed
+removed-old S j x e = and-left (S x) (not (eqb x j)) e
+
+pub removed-gone : (S : Set) (j x : ℕ) → x ∈ removed S j → x ≢ j
+unfolding removed
+removed-gone S j x e d = not-both (eqb x j) (and-right (S x) (not (eqb x j)) e) (eq-eqb x j d)
+
+pub removed-other : (S : Set) (j x : ℕ) → x ∈ S → x ≢ j → x ∈ removed S j
+unfolding removed
+removed-other S j x e d = and-in e (in-not (eqb x j) (ne-eqb x j d))
+
+-- a set gets smaller by the loss of a column
+pub removed-less : (n : ℕ) (S : Set) (j : ℕ) → j < n → j ∈ S → # n (removed S j) < # n S
+removed-less n S j l e = #-strict n (removed S j) S (λ x h m. removed-old S j x m) j l e (λ m. removed-gone S j j m refl)
+
+-- ---- the least column of a set that is not empty
+
+pub least-there : (n : ℕ) (S : Set) → # n S ≢ 0 → (least n S < n) × (least n S ∈ S)
+least-there n S h =
+    let w : Some n (λ j. j ∈ S) = #-pick n S (omega arith) in
+    let l : least n S < n = omega (arith, least-first n S (w .0) (w .1) (w .2)) in
+    (l, least-in n S l)
+
+-- ---- sets that grow
+
+pub nothing-in : (n : ℕ) (S : Set) → # n S ≡ 0 → (x : ℕ) → x < n → x ∈ S → ⊥
+nothing-in n S e x l m = omega (arith, #-⊖ n S x l m)
+
+-- a union with something new is larger
+pub union-more : (n : ℕ) (S T : Set) → # n (T ∩ ∁ S) ≢ 0 → # n S < # n (S ∪ T)
+union-more n S T h =
+    let w : Some n (λ j. j ∈ T ∩ ∁ S) = #-pick n (T ∩ ∁ S) (omega arith) in
+    let new : w .0 ∈ T = and-left (T (w .0)) (not (S (w .0))) (w .2) in
+    #-strict n S (S ∪ T) (λ x l m. or-left (S x) (T x) m) (w .0) (w .1) (or-right (S (w .0)) (T (w .0)) new)
+    (not-both (S (w .0)) (and-right (T (w .0)) (not (S (w .0))) (w .2)))
+
+-- ---- all columns below n
+
+pub upto-iff : (n x : ℕ) → n ≤ width → (x ∈ upto n → x < n) × (x < n → x ∈ upto n)
+unfolding upto
+upto-iff n x h = (λ e. ltb-true x n (and-left (ltb x n) (ltb x width) e), λ l. and-in (lt-ltb x n l) (lt-ltb x width (omega arith)))
