@@ -1,7 +1,7 @@
 // The calls for models handed over without a file, exported to C for the tests that hold the compiled library against a
 // reference, and for measuring. The product's archive has none of them.
 ghost use Prim.Native.Nat.{ℕ};
-ghost use Rattle.solvability.specs.File.Format.{Writing};
+ghost use Rattle.model.specs.File.Format.{Writing};
 ghost use Rattle.solvability.specs.Area.{LayeredBytes, MixedBytes};
 
 // The 90 bytes of the layered answer.

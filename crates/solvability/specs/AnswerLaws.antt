@@ -26,10 +26,10 @@ use Rattle.exchange.specs.Solve.{all-below, fitting, admissible, Shown}
 use Rattle.exchange.specs.SolveLaws.{all-below-iff, fitting-reads, admissible-reads}
 use Rattle.solvability.specs.Model.{model}
 use Rattle.solvability.specs.Demand.{demand3-reported}
-use Rattle.solvability.specs.Lists.{All}
-use Rattle.solvability.specs.Refusals.{largestPrime, mostColumns, mostRows, primeTest, sizeTest, areaTest, constantTest, parameterTest, modelTests, refusal, firstRefusal}
-use Rattle.solvability.specs.RefusalLaws.{acceptance-reads}
-use Rattle.solvability.specs.TestLaws.{prime-reads, size-reads, constant-reads, area-reads, Accepted, model-accepted, constant-below}
+use Rattle.model.specs.Lists.{All}
+use Rattle.model.specs.Refusals.{largestPrime, mostColumns, mostRows, primeTest, sizeTest, areaTest, constantTest, parameterTest, modelTests, refusal, firstRefusal}
+use Rattle.model.specs.RefusalLaws.{acceptance-reads}
+use Rattle.model.specs.TestLaws.{prime-reads, size-reads, constant-reads, area-reads, Accepted, model-accepted, constant-below}
 use Rattle.solvability.specs.Answers.{Answered}
 
 -- the tests that the solver does not make

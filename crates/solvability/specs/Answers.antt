@@ -10,7 +10,7 @@ use Rattle.exchange.specs.Layered.Rank.{placed, short, verdict}
 use Rattle.exchange.specs.Solution.{Solved}
 use Rattle.solvability.specs.Model.{model}
 use Rattle.solvability.specs.Steps.{Demand3}
-use Rattle.solvability.specs.Refusals.{refusal}
+use Rattle.model.specs.Refusals.{refusal}
 
 -- a refusal has every other number 0, every set empty and every row's column 255
 pub record Refused (the-verdict the-rank the-placed the-side the-short : ℕ) (rows : List ℕ) : Type 0 where

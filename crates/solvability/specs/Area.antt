@@ -5,10 +5,10 @@ use mathlib.Core.Logic.{_≢_}
 use mathlib.Core.List.{List, _∷_, _++_}
 use lib.ListN.{length}
 use Rattle.columns.specs.Bytes.{bytesOf}
-use Rattle.solvability.specs.Lists.{over}
+use Rattle.model.specs.Lists.{over}
 use Rattle.solvability.specs.Model.{model}
 use Rattle.solvability.specs.Mixed.{Mixed, mixed}
-use Rattle.solvability.specs.Refusals.{Tests, unless, _then_, firstRefusal, areaShort, areaTest, modelTests, mixedTests}
+use Rattle.model.specs.Refusals.{Tests, unless, _then_, firstRefusal, areaShort, areaTest, modelTests, mixedTests}
 use Rattle.solvability.specs.MixedAnswers.{MixedAnswered}
 use Rattle.solvability.specs.Host.{answer-length, AnswerWritten}
 

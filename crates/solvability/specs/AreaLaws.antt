@@ -6,9 +6,9 @@ use mathlib.Core.List.{List, []}
 use native.Mathlib.Omega.{arith}
 use lib.ListN.{length}
 use borrow.Author.Tests.{lt-leb}
-use Rattle.solvability.specs.Refusals.{Tests, firstRefusal, areaShort, areaTest}
-use Rattle.solvability.specs.RefusalLaws.{then-refused, then-passed, zero-then, zero-unless, first-fails}
-use Rattle.solvability.specs.TestLaws.{area-reads}
+use Rattle.model.specs.Refusals.{Tests, firstRefusal, areaShort, areaTest}
+use Rattle.model.specs.RefusalLaws.{then-refused, then-passed, zero-then, zero-unless, first-fails}
+use Rattle.model.specs.TestLaws.{area-reads}
 use Rattle.solvability.specs.Area.{area-refusal, AreaCall}
 
 module _ (tests : Tests) (least : ℕ) (Written : List ℕ → List ℕ → Type 0) (area : List ℕ) where

@@ -6,12 +6,12 @@ use mathlib.Core.List.{List, _∷_, _++_, flatten}
 use lib.ListN.{length}
 use Rattle.columns.specs.Bytes.{bytesOf}
 use Rattle.exchange.specs.Layered.Model.{Model}
-use Rattle.solvability.specs.Lists.{over}
+use Rattle.model.specs.Lists.{over}
 use Rattle.solvability.specs.Model.{model}
-use Rattle.solvability.specs.Refusals.{unless, _then_, firstRefusal, areaShort, areaTest}
+use Rattle.model.specs.Refusals.{unless, _then_, firstRefusal, areaShort, areaTest}
 use Rattle.solvability.specs.Answers.{Answered}
-use Rattle.solvability.specs.File.Piece.{closed}
-use Rattle.solvability.specs.File.Format.{fields, decode}
+use Rattle.model.specs.File.Piece.{closed}
+use Rattle.model.specs.File.Format.{fields, decode}
 
 -- the least answer area
 abbrev pub answer-length : ℕ

@@ -17,16 +17,16 @@ use Rattle.columns.specs.Words.Bytes.{AreBytes}
 use Rattle.exchange.specs.Modulus.{modulus}
 use Rattle.exchange.specs.ModelModulo.{model-modulo}
 use Rattle.exchange.specs.Layered.Model.{Model}
-use Rattle.solvability.specs.Lists.{All, over}
-use Rattle.solvability.specs.OverLaws.{over-length}
+use Rattle.model.specs.Lists.{All, over}
+use Rattle.model.specs.OverLaws.{over-length}
 use Rattle.solvability.specs.Model.{model}
-use Rattle.solvability.specs.Refusals.{unless, _then_, firstRefusal, whereAccepted, areaShort, areaTest, mostColumns, mostRows, modelTests, refusal}
-use Rattle.solvability.specs.RefusalLaws.{acceptance-reads, then-refused, then-passed, zero-then, zero-unless, first-fails}
-use Rattle.solvability.specs.TestLaws.{prime-reads, size-reads, constant-reads, parameter-reads, area-reads}
+use Rattle.model.specs.Refusals.{unless, _then_, firstRefusal, whereAccepted, areaShort, areaTest, mostColumns, mostRows, modelTests, refusal}
+use Rattle.model.specs.RefusalLaws.{acceptance-reads, then-refused, then-passed, zero-then, zero-unless, first-fails}
+use Rattle.model.specs.TestLaws.{prime-reads, size-reads, constant-reads, parameter-reads, area-reads}
 use Rattle.solvability.specs.Answers.{Answered, LayeredAnswer}
-use Rattle.solvability.specs.File.Piece.{closed}
-use Rattle.solvability.specs.File.Format.{FileModel, Valid, fields, judge, decode, noModel, readRefusal, modelRead, Reading}
-use Rattle.solvability.specs.File.FormatLaws.{decoded-valid}
+use Rattle.model.specs.File.Piece.{closed}
+use Rattle.model.specs.File.Format.{FileModel, Valid, fields, judge, decode, noModel, readRefusal, modelRead, Reading}
+use Rattle.model.specs.File.FormatLaws.{decoded-valid}
 use Rattle.solvability.specs.Host.{answer-length, answer-bytes, file-model, host-refusal, HostAnswer}
 
 -- ---- models that agree in every number

@@ -1,4 +1,4 @@
--- Document 01: the model, lists of steps, mixed models, refusals, answers and the file; with the theorems about them.
+-- Document 01: the model, lists of steps, mixed models and answers; with the theorems about them. Refusals and the file are in crate model.
 pub mod Model
 pub mod ModelLaws
 pub mod Steps
@@ -10,12 +10,6 @@ pub mod Mixed
 pub mod MixedTheorem
 pub mod Starred
 pub mod Computed
-pub mod Lists
-pub mod ListLaws
-pub mod OverLaws
-pub mod Refusals
-pub mod RefusalLaws
-pub mod TestLaws
 pub mod Answers
 pub mod AnswerLaws
 pub mod PutLaws
@@ -26,8 +20,6 @@ pub mod MixedForm
 pub mod MixedEntries
 pub mod MixedAnswers
 pub mod MixedAnswerLaws
-pub mod File
-pub mod Readings
 pub mod Host
 pub mod HostLaws
 pub mod Area

@@ -34,9 +34,9 @@ use Rattle.solvability.specs.Mixed.{Mixed, unit, mixed-sum, mixed-rank, 
 use Rattle.solvability.specs.MixedTheorem.{form-rank, shown-reach}
 use Rattle.solvability.specs.MixedTheorem.Form.{served-iff, shown-I-iff}
 use Rattle.solvability.specs.MixedForm.{form-entry, form-row, serves}
-use Rattle.solvability.specs.Refusals.{unless, notMixed, mostColumns, mixedTest, mixedTests, mixedRefusal, modelTests, refusal, firstRefusal}
-use Rattle.solvability.specs.RefusalLaws.{first-fails, then-refused, then-passed, then-zero, zero-then, unless-zero, zero-unless}
-use Rattle.solvability.specs.TestLaws.{Accepted, model-accepted, constant-below}
+use Rattle.model.specs.Refusals.{unless, notMixed, mostColumns, mixedTest, mixedTests, mixedRefusal, modelTests, refusal, firstRefusal}
+use Rattle.model.specs.RefusalLaws.{first-fails, then-refused, then-passed, then-zero, zero-then, unless-zero, zero-unless}
+use Rattle.model.specs.TestLaws.{Accepted, model-accepted, constant-below}
 use Rattle.solvability.specs.MixedAnswers.{MixedAnswered}
 
 one-at-most : (b : Bool) → indicator b ≤ 1

@@ -7,7 +7,7 @@ use Rattle.columns.specs.Counting.Sets.{_∈_}
 use Rattle.columns.specs.Columns.{width, members, word-of}
 use Rattle.exchange.specs.Layered.Rank.{short}
 use Rattle.solvability.specs.Mixed.{Mixed, mixed-sum, mixed-rank, mixed-verdict, layered-form, mixed}
-use Rattle.solvability.specs.Refusals.{mixedRefusal}
+use Rattle.model.specs.Refusals.{mixedRefusal}
 
 -- a refusal has every other number 0 and every set empty
 pub record MixedRefused (the-verdict the-rank the-rows the-columns the-short : ℕ) : Type 0 where

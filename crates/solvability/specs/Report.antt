@@ -9,7 +9,7 @@ use lib.Dec.{eqb, leb, ltb}
 use lib.ListN.{length}
 use Rattle.columns.specs.Counting.Sets.{Set}
 use Rattle.columns.specs.Columns.{width, members}
-use Rattle.solvability.specs.Lists.{over}
+use Rattle.model.specs.Lists.{over}
 
 -- ---- characters and numbers
 

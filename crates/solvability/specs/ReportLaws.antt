@@ -16,8 +16,8 @@ use Rattle.columns.specs.Counting.Sets.{Set, _∈_, #}
 use Rattle.columns.specs.Columns.{width, members, removed, least}
 use Rattle.columns.specs.Words.SetLaws.{removed-old, removed-gone, removed-other, least-there, nothing-in}
 use Rattle.columns.specs.Words.Operations.{least-first}
-use Rattle.solvability.specs.Lists.{over}
-use Rattle.solvability.specs.OverLaws.{over-none}
+use Rattle.model.specs.Lists.{over}
+use Rattle.model.specs.OverLaws.{over-none}
 use Rattle.solvability.specs.PutLaws.{Puts, puts-over}
 use Rattle.solvability.specs.Report.{ascii, digits, decimal, line, item, columns-from, column-items, row-item, row-items, verdict-line, answer-text, refused-line, report-text, report-area, reported, Reporting}
 

@@ -2,7 +2,7 @@
 ghost use mathlib.Core.Path.{_≡_};
 ghost use Prim.Native.Nat.{_≤_};
 ghost use lib.ListN.{length};
-ghost use Rattle.solvability.specs.Lists.{over};
+ghost use Rattle.model.specs.Lists.{over};
 ghost use Rattle.solvability.specs.Area.{mixed-length, mixed-bytes, LayeredBytes, MixedBytes};
 use crate::host::ANSWER_LENGTH;
 use crate::host::put_answer;
@@ -10,7 +10,7 @@ use crate::host::put_numbers;
 use crate::host::put_set;
 use crate::layered::layered_rank;
 use crate::mixed::mixed_rank;
-use crate::refusals;
+use model::refusals;
 
 // How many bytes a mixed answer takes.
 const MIXED_LENGTH: usize = 26;

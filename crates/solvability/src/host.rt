@@ -3,12 +3,12 @@ ghost use mathlib.Core.List.{[], _∷_};
 ghost use mathlib.Core.Path.{_≡_};
 ghost use Prim.Native.Nat.{_≤_};
 ghost use lib.ListN.{length};
-ghost use Rattle.solvability.specs.Lists.{over};
+ghost use Rattle.columns.specs.Bytes.{bytesOf};
+ghost use Rattle.model.specs.Lists.{over};
 ghost use Rattle.solvability.specs.Host.{answer-length, answer-bytes, HostAnswer};
 use crate::layered::layered_rank;
-use crate::read::read_file;
-use crate::refusals;
-use crate::write::put_set;
+use model::read_file;
+use model::refusals;
 
 // How many bytes an answer takes.
 pub const ANSWER_LENGTH: usize = 90;
@@ -28,6 +28,18 @@ fn put_rows(out: &mut [u8], rows: [u8; 64])
     let mut at = 0;
     while at < 64 {
         out[at] = rows[at];
+        at = at + 1;
+    }
+}
+
+// The eight bytes of a set.
+pub fn put_set(out: &mut [u8], set: u64)
+    requires { ⌜ 8 ≤ length (now out) ⌝ }
+    ensures { λ _. ⌜ now (out .exit) ≡ over (bytesOf 8 set) (now (out .entry)) ⌝ }
+{
+    let mut at = 0;
+    while at < 8 {
+        out[at] = columns::byte(set, at);
         at = at + 1;
     }
 }

@@ -3,12 +3,12 @@ ghost use mathlib.Core.Path.{_≡_};
 ghost use mathlib.Core.Bool.{cond};
 ghost use lib.Dec.{eqb};
 ghost use lib.ListN.{take};
-ghost use Rattle.solvability.specs.Refusals.{parameterTest};
+ghost use Rattle.model.specs.Refusals.{parameterTest};
 ghost use Rattle.solvability.specs.Answers.{Refused, LayeredAnswer};
 ghost use Rattle.solvability.specs.AnswerLaws.{beforehand};
-use crate::content::LARGEST_PRIME;
-use crate::content::parameters_within;
-use crate::model::judge_model;
+use model::LARGEST_PRIME;
+use model::judge_model;
+use model::parameters_within;
 
 // The refusal or 0; the verdict, 1 "determined" or 0 "open"; the rank; the placed columns, those of them on the constant side, and
 // the short set, as words; and the column of each parameter row, 255 for none.

@@ -6,13 +6,13 @@ ghost use Prim.Native.Nat.{ℕ, _+_, _*_, _<_, _≤_};
 ghost use lib.ListN.{length, getD};
 ghost use Rattle.columns.specs.Counting.Sets.{_∈_};
 ghost use Rattle.columns.specs.Columns.{members};
-ghost use Rattle.solvability.specs.Refusals.{mixedRefusal};
+ghost use Rattle.model.specs.Refusals.{mixedRefusal};
 ghost use Rattle.solvability.specs.MixedForm.{form-entry, form-row, serves};
 ghost use Rattle.solvability.specs.MixedAnswers.{MixedRefused, MixedAnswer};
-use crate::content::MOST_COLUMNS;
 use crate::layered::verdict_of;
-use crate::model::judge_model;
-use crate::refusals::NOT_MIXED;
+use model::MOST_COLUMNS;
+use model::judge_model;
+use model::refusals::NOT_MIXED;
 
 // The refusal or 0; the verdict, 1 where the rank equals n; the rank; rows I and columns J that reach it; and the short set of the
 // layered form.

@@ -2,7 +2,7 @@
 use mathlib.Core.Path.{sym, _∙_}
 use borrow.Author.Needs.{needs}
 use Rattle.solvability.specs.Model.{model}
-use Rattle.solvability.specs.Refusals.{modelTests, refusal}
+use Rattle.model.specs.Refusals.{modelTests, refusal}
 use Rattle.solvability.specs.Host.{answer-length, AnswerWritten}
 use Rattle.solvability.specs.Area.{LayeredBytes}
 use Rattle.solvability.specs.AreaLaws.{area-refused, area-short, area-done}

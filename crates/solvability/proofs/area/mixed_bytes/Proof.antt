@@ -2,7 +2,7 @@
 use mathlib.Core.Path.{sym, _∙_}
 use borrow.Author.Needs.{needs}
 use Rattle.solvability.specs.Mixed.{mixed}
-use Rattle.solvability.specs.Refusals.{mixedTests, mixedRefusal}
+use Rattle.model.specs.Refusals.{mixedTests, mixedRefusal}
 use Rattle.solvability.specs.Area.{mixed-length, MixedWritten, MixedBytes}
 use Rattle.solvability.specs.AreaLaws.{area-refused, area-short, area-done}
 use Rattle.solvability.proofs.area.mixed_bytes.Statement.{statement}

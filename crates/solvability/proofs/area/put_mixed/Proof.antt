@@ -4,7 +4,7 @@ use mathlib.Core.Path.{refl, sym}
 use borrow.Author.Needs.{needs}
 use Rattle.columns.specs.Bytes.{bytesOf}
 use Rattle.solvability.specs.Area.{mixed-bytes}
-use Rattle.solvability.specs.OverLaws.{wrote-first, wrote-run, wrote-all}
+use Rattle.model.specs.OverLaws.{wrote-first, wrote-run, wrote-all}
 use Rattle.solvability.proofs.area.put_mixed.Statement.{statement}
 use Rattle.solvability.proofs.area.put_mixed.Tie as tie
 

@@ -7,7 +7,7 @@ use lib.ListN.{length, length-append}
 use borrow.Author.Needs.{needs}
 use Rattle.columns.specs.Bytes.{bytesOf}
 use Rattle.solvability.specs.Host.{answer-bytes}
-use Rattle.solvability.specs.OverLaws.{wrote-first, wrote-run, wrote-all}
+use Rattle.model.specs.OverLaws.{wrote-first, wrote-run, wrote-all}
 use Rattle.solvability.proofs.host.put_answer.Statement.{statement}
 use Rattle.solvability.proofs.host.put_answer.Tie as tie
 

@@ -9,7 +9,7 @@ use Rattle.exchange.specs.Solve.{admissible}
 use Rattle.exchange.specs.SolveLaws.{admissible-reads, fitting-reads}
 use Rattle.exchange.specs.Solution.{Solved}
 use Rattle.solvability.specs.Model.{model}
-use Rattle.solvability.specs.Refusals.{refusal}
+use Rattle.model.specs.Refusals.{refusal}
 use Rattle.solvability.specs.AnswerLaws.{accepted-beforehand, shows-model, accepted-taken, taken-accepted, rank-small, answered}
 use borrow.Author.Needs.{needs}
 use native.Mathlib.Omega.{arith}

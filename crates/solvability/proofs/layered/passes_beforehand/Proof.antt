@@ -1,7 +1,7 @@
 -- `solvability::layered::passes_beforehand` meets its contract. Assumes nothing.
 use mathlib.Core.Path.{_≡_, refl, _∙_}
 use borrow.Author.Tests.{le-leb, lt-leb}
-use Rattle.solvability.specs.Refusals.{largestPrime}
+use Rattle.model.specs.Refusals.{largestPrime}
 use Rattle.solvability.specs.AnswerLaws.{beforehand}
 use borrow.Author.Needs.{needs}
 use Rattle.solvability.proofs.layered.passes_beforehand.Statement.{statement}

@@ -3,7 +3,7 @@ use mathlib.Core.Path.{_≡_, sym, ap, _∙_}
 use native.Mathlib.Omega.{arith}
 use denote.Ref.{now}
 use lib.Seq.{take-all, length-take-le}
-use Rattle.solvability.specs.Refusals.{parameterTest}
+use Rattle.model.specs.Refusals.{parameterTest}
 use borrow.Author.Needs.{needs}
 use Rattle.solvability.proofs.layered.rows_within.Statement.{statement}
 use Rattle.solvability.proofs.layered.rows_within.Tie as tie

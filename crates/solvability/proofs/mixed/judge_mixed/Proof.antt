@@ -1,7 +1,7 @@
 -- `solvability::mixed::judge_mixed` meets its contract. Assumes nothing.
 use mathlib.Core.Path.{_≡_, sym, _∙_}
 use Rattle.columns.specs.Counting.Bools.{not-true}
-use Rattle.solvability.specs.TestLaws.{model-accepted}
+use Rattle.model.specs.TestLaws.{model-accepted}
 use Rattle.solvability.specs.MixedAnswerLaws.{at-model, at-mixed, at-none, mixed-reads}
 use borrow.Author.Needs.{needs}
 use native.Mathlib.Omega.{arith}

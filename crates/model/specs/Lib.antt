@@ -1,0 +1,9 @@
+-- Document 01: lists, refusals and the file; with their laws and the readings of every refusal number.
+pub mod Lists
+pub mod ListLaws
+pub mod OverLaws
+pub mod Refusals
+pub mod RefusalLaws
+pub mod TestLaws
+pub mod File
+pub mod Readings

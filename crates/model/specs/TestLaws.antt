@@ -1,0 +1,122 @@
+-- What each test says, and what holds of a model handed over that is accepted. Assumes nothing.
+use Prim.Native.Nat.{ℕ, _+_, _-_, _*_, _≤_, _<_}
+use mathlib.Core.Path.{_≡_, sym, ap, _∙_}
+use mathlib.Core.Logic.{_↔_}
+use mathlib.Core.Bool.{Bool, true, _&&_}
+use mathlib.Core.List.{List}
+use native.Mathlib.Omega.{arith}
+use lib.ListN.{length, getD, take}
+use lib.Seq.{getD-take, length-take-le}
+use lib.Dec.{leb, ltb, eqb}
+use borrow.Author.Tests.{leb-true, ltb-true, eqb-true, le-leb, lt-ltb, eq-eqb}
+use Rattle.residue.specs.Arithmetic.{isPrime, Prime}
+use Rattle.residue.specs.Primes.{isPrime-reads}
+use Rattle.columns.specs.Columns.{within}
+use Rattle.columns.specs.Counting.Bools.{and-in, and-left, and-right}
+use Rattle.model.specs.Lists.{All}
+use Rattle.model.specs.ListLaws.{every-all, all-at}
+use Rattle.model.specs.Refusals.{largestPrime, mostColumns, mostRows, headTest, bodyTest, dueTest, primeTest, sizeTest, constantTest, parameterTest, endTest, areaTest, rowTest, modelTests, refusal}
+use Rattle.model.specs.RefusalLaws.{acceptance-reads}
+
+leb-reads : (x y : ℕ) → (leb x y ≡ true) ↔ (x ≤ y)
+leb-reads x y = (leb-true x y, le-leb x y)
+
+and-reads : {P Q : Type 0} (s t : Bool) → (s ≡ true) ↔ P → (t ≡ true) ↔ Q → ((s && t) ≡ true) ↔ (P × Q)
+and-reads s t f g = ((λ e. (f .0 (and-left s t e), g .0 (and-right s t e))), (λ v. and-in (f .1 (v .0)) (g .1 (v .1))))
+
+-- 1
+pub head-reads : (s : List ℕ) → (headTest s ≡ true) ↔ (3 ≤ length s)
+unfolding headTest
+head-reads s = leb-reads 3 (length s)
+
+pub body-reads : (size : ℕ) (s : List ℕ) → (bodyTest size s ≡ true) ↔ (size ≤ length s - 3)
+unfolding bodyTest
+body-reads size s = leb-reads size (length s - 3)
+
+-- 2
+pub due-reads : (tag size : ℕ) (s : List ℕ) → (dueTest tag size s ≡ true) ↔ ((getD s 0 0 ≡ tag) × (getD s 1 0 + 256 * getD s 2 0 ≡ size))
+unfolding dueTest
+due-reads tag size s = and-reads (eqb (getD s 0 0) tag) (eqb (getD s 1 0 + 256 * getD s 2 0) size) (eqb-true _ _, eq-eqb _ _) (eqb-true _ _, eq-eqb _ _)
+
+-- 3
+pub prime-reads : (p : ℕ) → (primeTest p ≡ true) ↔ ((p ≤ largestPrime) × Prime p)
+unfolding primeTest
+prime-reads p = and-reads (leb p largestPrime) (isPrime p) (leb-reads p largestPrime) (isPrime-reads p)
+
+-- 4
+pub size-reads : (n a b : ℕ) → (sizeTest n a b ≡ true) ↔ ((1 ≤ n) × (n ≤ mostColumns) × (a ≤ mostRows) × (b ≤ mostRows))
+unfolding sizeTest
+size-reads n a b =
+    let three = and-reads (leb 1 n && leb n mostColumns) (leb a mostRows) (and-reads (leb 1 n) (leb n mostColumns) (leb-reads 1 n) (leb-reads n mostColumns)) (leb-reads a mostRows) in
+    let four = and-reads (leb 1 n && leb n mostColumns && leb a mostRows) (leb b mostRows) three (leb-reads b mostRows) in
+    ((λ e. let v = four .0 e in (v .0 .0 .0, v .0 .0 .1, v .0 .1, v .1)), (λ v. four .1 (((v .0, v .1), v .2), v .3)))
+
+-- 5
+pub constant-reads : (p : ℕ) (cs : List ℕ) → (constantTest p cs ≡ true) ↔ All (λ c. c < p) cs
+unfolding constantTest
+constant-reads p cs = every-all (λ c. ltb c p) (λ c. c < p) (λ c. (ltb-true c p, lt-ltb c p)) cs
+
+-- 6
+pub parameter-reads : (n : ℕ) (ws : List ℕ) → (parameterTest n ws ≡ true) ↔ All (λ w. within n w ≡ true) ws
+unfolding parameterTest
+parameter-reads n ws = every-all (within n) (λ w. within n w ≡ true) (λ w. ((λ e. e), (λ e. e))) ws
+
+-- 7
+pub end-reads : (s : List ℕ) → (endTest s ≡ true) ↔ (length s ≡ 0)
+unfolding endTest
+end-reads s = (eqb-true _ _, eq-eqb _ _)
+
+-- 8
+pub area-reads : (k len : ℕ) → (areaTest k len ≡ true) ↔ (k ≤ len)
+unfolding areaTest
+area-reads k len = leb-reads k len
+
+-- 9
+pub row-reads : (i a : ℕ) → (rowTest i a ≡ true) ↔ (i < a)
+unfolding rowTest
+row-reads i a = (ltb-true i a, lt-ltb i a)
+
+-- ---- a model handed over
+
+pub record Accepted (p n a b : ℕ) (cs ws : List ℕ) : Type 0 where
+  pub prime : Prime p
+  pub p-most : p ≤ largestPrime
+  pub n-least : 1 ≤ n
+  pub n-most : n ≤ mostColumns
+  pub a-most : a ≤ mostRows
+  pub b-most : b ≤ mostRows
+  pub constants-lent : a * n ≤ length cs
+  pub parameters-lent : b ≤ length ws
+  pub constants-below : All (λ c. c < p) (take (a * n) cs)
+  pub parameters-within : All (λ w. within n w ≡ true) (take b ws)
+
+pub model-accepted : (p n a b : ℕ) (cs ws : List ℕ) → refusal p n a b cs ws ≡ 0 → Accepted p n a b cs ws
+unfolding refusal modelTests
+model-accepted p n a b cs ws e =
+    let v = acceptance-reads (modelTests p n a b cs ws) .0 e in
+    let q = prime-reads p .0 (v .0) in
+    let z = size-reads n a b .0 (v .1 .0) in
+    record {
+      prime = q .1;
+      p-most = q .0;
+      n-least = z .0;
+      n-most = z .1;
+      a-most = z .2;
+      b-most = z .3;
+      constants-lent = area-reads _ _ .0 (v .1 .1 .0);
+      parameters-lent = area-reads _ _ .0 (v .1 .1 .1 .0);
+      constants-below = constant-reads _ _ .0 (v .1 .1 .1 .1 .0);
+      parameters-within = parameter-reads _ _ .0 (v .1 .1 .1 .1 .1 .0);
+    }
+
+-- constant k and parameter row r by their places
+module _ {p n a b : ℕ} {cs ws : List ℕ} (h : Accepted p n a b cs ws) where
+  pub constant-below : (k : ℕ) → k < a * n → getD cs k 0 < p
+  constant-below k l =
+      let len = length-take-le (a * n) cs (h .constants-lent) in
+      rw (getD-take (a * n) cs k 0 l) at (all-at (λ c. c < p) (take (a * n) cs) 0 (h .constants-below) k (omega arith))
+
+  pub parameter-within : (r : ℕ) → r < b → within n (getD ws r 0) ≡ true
+  parameter-within r l =
+      let len = length-take-le b ws (h .parameters-lent) in
+      sym (ap (within n) (getD-take b ws r 0 l)) ∙ all-at (λ w. within n w ≡ true) (take b ws) 0 (h .parameters-within) r (omega arith)
