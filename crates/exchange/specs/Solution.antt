@@ -9,8 +9,8 @@ use lib.ListN.{getD}
 use lib.Dec.{ltb}
 use Rattle.columns.specs.Counting.Sets.{Set, Some}
 use Rattle.columns.specs.Counting.Counts.{some?}
-use Rattle.exchange.specs.Layered.Model.{Model, Seat, out, constant, row, Assignment, placing, constants, Legal}
-use Rattle.exchange.specs.Layered.Rank.{rank, placed, short}
+use Rattle.rank.specs.Layered.Model.{Model, Seat, out, constant, row, Assignment, placing, constants, Legal}
+use Rattle.rank.specs.Layered.Rank.{rank, placed, short}
 
 -- the first parameter row below b that shows column x, or out
 unfoldable pub shown-row : (b : ℕ) (rows : List ℕ) (x : ℕ) → Dec (Some b (λ r. getD rows r 0 ≡ x)) → Seat

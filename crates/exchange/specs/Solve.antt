@@ -8,8 +8,8 @@ use lib.Dec.{leb, ltb}
 use Rattle.residue.specs.Arithmetic.{isPrime}
 use Rattle.columns.specs.Counting.Sets.{Set, all}
 use Rattle.columns.specs.Columns.{width, members, within}
-use Rattle.exchange.specs.Modulus.{modulus, field-of, residue-of}
-use Rattle.exchange.specs.ModelModulo.{model-modulo}
+use Rattle.rank.specs.Modulus.{modulus, field-of, residue-of}
+use Rattle.rank.specs.ModelModulo.{model-modulo}
 use Rattle.exchange.specs.Solution.{Solved}
 
 -- the first k constants are below p

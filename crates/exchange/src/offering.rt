@@ -8,7 +8,7 @@ ghost use lib.Dec.{ltb};
 ghost use Rattle.residue.specs.Arithmetic.{isPrime};
 ghost use Rattle.columns.specs.Counting.Sets.{_∈_, Some};
 ghost use Rattle.columns.specs.Columns.{members};
-ghost use Rattle.exchange.specs.Layered.Offers.{Offered};
+ghost use Rattle.rank.specs.Layered.Offers.{Offered};
 ghost use Rattle.exchange.specs.Code.Cells.{Below};
 ghost use Rattle.exchange.specs.Code.Reading.{owned};
 ghost use Rattle.exchange.specs.Code.Held.{Given, model-of, Held};

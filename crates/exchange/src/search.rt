@@ -5,7 +5,7 @@ ghost use Prim.Native.Nat.{ℕ, _+_, _<_, _≤_};
 ghost use lib.ListN.{length};
 ghost use Rattle.columns.specs.Counting.Sets.{Set, _∈_};
 ghost use Rattle.columns.specs.Columns.{members};
-ghost use Rattle.exchange.specs.Graph.States.{State};
+ghost use Rattle.rank.specs.Graph.States.{State};
 ghost use Rattle.exchange.specs.Code.Reading.{touched, owned, Scanned};
 ghost use Rattle.exchange.specs.Code.Searching.{Shows, Searched};
 

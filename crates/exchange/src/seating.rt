@@ -4,7 +4,7 @@ ghost use mathlib.Core.Bool.{true};
 ghost use Prim.Native.Nat.{ℕ, _+_, _<_, _≤_};
 ghost use lib.ListN.{length};
 ghost use Rattle.residue.specs.Arithmetic.{isPrime};
-ghost use Rattle.exchange.specs.Graph.States.{Placed};
+ghost use Rattle.rank.specs.Graph.States.{Placed};
 ghost use Rattle.exchange.specs.Code.Cells.{Below};
 ghost use Rattle.exchange.specs.Code.Reading.{owned};
 ghost use Rattle.exchange.specs.Code.Held.{Given, Held, Vacated, Sat};

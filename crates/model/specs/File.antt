@@ -10,7 +10,4 @@ pub mod JudgeLaws
 pub mod FieldLaws
 pub mod WriteLaws
 pub mod RowLaws
-pub mod HandedLaws
-pub mod ReadLaws
-pub mod LookupLaws
 mod Example

@@ -6,10 +6,10 @@ use mathlib.Core.List.{List, _∷_, _++_}
 use lib.ListN.{length}
 use Rattle.columns.specs.Bytes.{bytesOf}
 use Rattle.model.specs.Lists.{over}
-use Rattle.solvability.specs.Model.{model}
-use Rattle.solvability.specs.Mixed.{Mixed, mixed}
+use Rattle.mixed_models.specs.Model.{model}
+use Rattle.mixed_models.specs.Mixed.{Mixed, mixed}
 use Rattle.model.specs.Refusals.{Tests, unless, _then_, firstRefusal, areaShort, areaTest, modelTests, mixedTests}
-use Rattle.solvability.specs.MixedAnswers.{MixedAnswered}
+use Rattle.mixed.specs.MixedAnswers.{MixedAnswered}
 use Rattle.solvability.specs.Host.{answer-length, AnswerWritten}
 
 -- as the model is judged, then 8 for the area of at least so many bytes

@@ -2,16 +2,16 @@
 use Prim.Native.Nat.{ℕ}
 use mathlib.Core.Path.{_≡_}
 use mathlib.Core.Logic.{_≢_}
-use mathlib.Core.List.{List, _∷_, _++_, flatten}
+use mathlib.Core.List.{List, _∷_, _++_}
 use lib.ListN.{length}
 use Rattle.columns.specs.Bytes.{bytesOf}
-use Rattle.exchange.specs.Layered.Model.{Model}
+use Rattle.rank.specs.Layered.Model.{Model}
 use Rattle.model.specs.Lists.{over}
-use Rattle.solvability.specs.Model.{model}
 use Rattle.model.specs.Refusals.{unless, _then_, firstRefusal, areaShort, areaTest}
-use Rattle.solvability.specs.Answers.{Answered}
+use Rattle.layered.specs.Answers.{Answered}
+use Rattle.layered.specs.FileModel.{file-model}
 use Rattle.model.specs.File.Piece.{closed}
-use Rattle.model.specs.File.Format.{fields, decode}
+use Rattle.model.specs.File.Format.{fields}
 
 -- the least answer area
 abbrev pub answer-length : ℕ
@@ -20,10 +20,6 @@ answer-length = 90
 -- verdict, rank, placed set, constant side, short set, and the 64 row columns
 unfoldable pub answer-bytes : (the-verdict the-rank the-placed the-side the-short : ℕ) → List ℕ → List ℕ
 answer-bytes the-verdict the-rank the-placed the-side the-short rows = the-verdict ∷ the-rank ∷ (bytesOf 8 the-placed ++ (bytesOf 8 the-side ++ (bytesOf 8 the-short ++ rows)))
-
--- the layered model in a file
-abbrev pub file-model : List ℕ → Model
-file-model s = model (decode s .p) (decode s .n) (decode s .a) (decode s .b) (flatten (decode s .constants)) (decode s .parameters)
 
 -- 1 to 7 as the file is judged, then 8 for the area
 unfoldable pub host-refusal : (file area : List ℕ) → ℕ

@@ -1,220 +1,56 @@
--- The model in a file, read into areas of the call's own, is accepted and is the model of the file; and what the C call then answers.
--- Assumes nothing.
-use Prim.Native.Nat.{ℕ, zero, suc, _+_, _-_, _*_, _≤_, _<_}
-use mathlib.Core.Path.{_≡_, refl, sym, ap, ap₂, _∙_, subst, fun-ext}
+-- What the C call answers, by what was read from the file and by the layered rank call. Assumes nothing.
+use Prim.Native.Nat.{ℕ, _*_, _≤_, _<_}
+use mathlib.Core.Path.{_≡_, refl, sym, _∙_, subst}
 use mathlib.Core.Logic.{_≢_}
-use mathlib.Core.Bool.{true}
-use mathlib.Core.List.{List, [], _∷_, _++_, flatten}
+use mathlib.Core.List.{List, []}
 use native.Mathlib.Omega.{arith}
-use native.Mathlib.Nat.{mul-le-mul, zero-mul, suc-mul, le-of-eq}
-use native.Mathlib.Decide.{decLt}
-use lib.ListN.{length, getD, take, drop, replicate, length-append, length-replicate, List·getD-append, List·getD-eq-default}
-use lib.Seq.{getD-append-add, getD-drop, take-append-seam}
+use lib.ListN.{length}
 use borrow.Author.Tests.{lt-leb}
-use Rattle.residue.specs.Residues.{res}
-use Rattle.columns.specs.Columns.{members, within}
 use Rattle.columns.specs.Words.Bytes.{AreBytes}
-use Rattle.exchange.specs.Modulus.{modulus}
-use Rattle.exchange.specs.ModelModulo.{model-modulo}
-use Rattle.exchange.specs.Layered.Model.{Model}
-use Rattle.model.specs.Lists.{All, over}
-use Rattle.model.specs.OverLaws.{over-length}
-use Rattle.solvability.specs.Model.{model}
-use Rattle.model.specs.Refusals.{unless, _then_, firstRefusal, whereAccepted, areaShort, areaTest, mostColumns, mostRows, modelTests, refusal}
-use Rattle.model.specs.RefusalLaws.{acceptance-reads, then-refused, then-passed, zero-then, zero-unless, first-fails}
-use Rattle.model.specs.TestLaws.{prime-reads, size-reads, constant-reads, parameter-reads, area-reads}
-use Rattle.solvability.specs.Answers.{Answered, LayeredAnswer}
+use Rattle.rank.specs.Layered.Model.{Model}
+use Rattle.model.specs.Lists.{over}
+use Rattle.model.specs.Refusals.{areaShort, areaTest, mostColumns, mostRows}
+use Rattle.model.specs.RefusalLaws.{then-refused, then-passed, zero-then, zero-unless, first-fails}
+use Rattle.model.specs.TestLaws.{area-reads}
 use Rattle.model.specs.File.Piece.{closed}
-use Rattle.model.specs.File.Format.{FileModel, Valid, fields, judge, decode, noModel, readRefusal, modelRead, Reading}
-use Rattle.model.specs.File.FormatLaws.{decoded-valid}
-use Rattle.solvability.specs.Host.{answer-length, answer-bytes, file-model, host-refusal, HostAnswer}
+use Rattle.model.specs.File.Format.{fields, judge, readRefusal, Reading}
+use Rattle.layered.specs.Answers.{Answered, LayeredAnswer}
+use Rattle.layered.specs.FileLaws.{read-judged, own-constants, own-parameters, judged, own-model, own-accepted}
+use Rattle.solvability.specs.Host.{answer-length, answer-bytes, host-refusal, HostAnswer}
 
--- ---- models that agree in every number
+module _ (s : List ℕ) (bytes : AreBytes s) (cs ws : List ℕ) (l : mostRows * mostColumns ≤ length cs) (m : mostRows ≤ length ws) (area : List ℕ) where
+  pub host-refused : (r : ℕ) → r ≡ readRefusal s cs ws → r ≢ 0 → HostAnswer s area r area
+  unfolding host-refusal judge
+  host-refused r e h =
+      let q = then-refused (closed fields s) _ r (e ∙ read-judged s bytes cs ws l m) h in
+      record { is-number = q; if-refused = λ _. refl; if-accepted = λ z. absurd (h (q ∙ z)) }
 
--- a model depends on its lists by their elements alone, 0 past the end
-pub same-model : (p n a b : ℕ) (cs cs′ ws ws′ : List ℕ) → ((k : ℕ) → getD cs k 0 ≡ getD cs′ k 0) → ((k : ℕ) → getD ws k 0 ≡ getD ws′ k 0) → model p n a b cs ws ≡ model p n a b cs′ ws′
-same-model p n a b cs cs′ ws ws′ e f = ap₂ by-elements (fun-ext e) (fun-ext f)
-  where
-    by-elements : (ℕ → ℕ) → (ℕ → ℕ) → Model
-    by-elements c w = model-modulo (modulus p .0) (modulus p .1) n a b (λ i x. res (modulus p .0) (modulus p .1) (c (i * n + x))) (λ r x. members (w r) x) (λ x. true)
+  module _ (ok : readRefusal s cs ws ≡ 0) where
+    pub host-short : length area < answer-length → HostAnswer s area 8 area
+    unfolding host-refusal judge areaTest
+    host-short u =
+        let q = then-passed (closed fields s) _ 8 (sym (read-judged s bytes cs ws l m) ∙ ok) (first-fails _ areaShort [] (lt-leb _ _ u)) in
+        record { is-number = q; if-refused = λ _. refl; if-accepted = λ z. absurd (omega (arith, q, z)) }
 
--- zeros behind a list add nothing
-zeros-default : (m k : ℕ) → _≡_ {A = ℕ} (getD (replicate m 0) k 0) 0
-zeros-default zero k = refl
-zeros-default (suc m) zero = refl
-zeros-default (suc m) (suc k) = zeros-default m k
-
-pub over-zeros : (xs : List ℕ) (m k : ℕ) → getD (over xs (replicate m 0)) k 0 ≡ getD xs k 0
-unfolding over
-over-zeros xs m k = elim (decLt k (length xs)) [
-  | yes l ↦ List·getD-append xs (drop (length xs) (replicate m 0)) 0 k l
-  | no nl ↦
-      let at : length xs + (k - length xs) ≡ k = omega arith in
-      ap (λ (j : ℕ). getD (xs ++ drop (length xs) (replicate m 0)) j 0) (sym at) ∙ getD-append-add xs (drop (length xs) (replicate m 0)) (k - length xs) 0
-      ∙ getD-drop (length xs) (replicate m 0) (k - length xs) 0 ∙ zeros-default m (length xs + (k - length xs)) ∙ sym (List·getD-eq-default xs 0 (omega arith))
-]
-
--- the front of an area is what was written over it
-over-front : (xs d : List ℕ) (k : ℕ) → length xs ≡ k → take k (over xs d) ≡ xs
-unfolding over
-over-front xs d k e = subst (λ (j : ℕ). take j (xs ++ drop (length xs) d) ≡ xs) e (take-append-seam xs (drop (length xs) d))
-
--- ---- rows one after the other
-
-all-append : {A : Type 0} (Is : A → Type 0) (xs ys : List A) → All Is xs → All Is ys → All Is (xs ++ ys)
-all-append Is [] ys h k = k
-all-append Is (x ∷ xs) ys h k = (h .0, all-append Is xs ys (h .1) k)
-
-flat-length : (p n : ℕ) (rs : List (List ℕ)) → All (λ r. (length r ≡ n) × All (λ c. c < p) r) rs → length (flatten rs) ≡ length rs * n
-unfolding flatten
-flat-length p n [] h = sym (zero-mul n)
-flat-length p n (r ∷ rs) h =
-    let e = flat-length p n rs (h .1) in
-    let l = h .0 .0 in
-    let k = length-append r (flatten rs) in
-    omega (arith, k, l, e, suc-mul (length rs) n)
-
-flat-below : (p n : ℕ) (rs : List (List ℕ)) → All (λ r. (length r ≡ n) × All (λ c. c < p) r) rs → All (λ c. c < p) (flatten rs)
-unfolding flatten
-flat-below p n [] h = tt
-flat-below p n (r ∷ rs) h = all-append (λ c. c < p) r (flatten rs) (h .0 .1) (flat-below p n rs (h .1))
-
-all-left : {A : Type 0} (Is Also : A → Type 0) (xs : List A) → All (λ x. Also x × Is x) xs → All Is xs
-all-left Is Also [] h = tt
-all-left Is Also (x ∷ xs) h = (h .0 .1, all-left Is Also xs (h .1))
-
--- ---- a file that is accepted
-
-module _ (s : List ℕ) (bytes : AreBytes s) (ok : judge s ≡ 0) where
-  valid : Valid (decode s)
-  valid = decoded-valid s bytes ok
-
-  constants-length : length (flatten (decode s .constants)) ≡ decode s .a * decode s .n
-  constants-length = flat-length (decode s .p) (decode s .n) (decode s .constants) (valid .constants-below) ∙ ap (λ (k : ℕ). k * decode s .n) (valid .constant-rows)
-
-  few-constants : decode s .a * decode s .n ≤ mostRows * mostColumns
-  few-constants = mul-le-mul (valid .a-most) (valid .n-most)
-
-  -- its model is accepted from areas that it was read into
-  file-accepted : (cs ws : List ℕ) → mostRows * mostColumns ≤ length cs → mostRows ≤ length ws
-      → refusal (decode s .p) (decode s .n) (decode s .a) (decode s .b) (over (flatten (decode s .constants)) cs) (over (decode s .parameters) ws) ≡ 0
-  unfolding refusal modelTests
-  file-accepted cs ws l m =
-      let few = few-constants in
-      let some = valid .b-most in
-      let flat = flatten (decode s .constants) in
-      let rows = decode s .parameters in
-      let len = constants-length in
-      let count = valid .parameter-rows in
-      acceptance-reads _ .1 (
-        prime-reads _ .1 (valid .p-most, valid .prime),
-        (
-          size-reads _ _ _ .1 (valid .n-least, valid .n-most, valid .a-most, valid .b-most),
-          (
-            area-reads _ _ .1 (omega (arith, over-length flat cs (omega arith))),
-            (
-              area-reads _ _ .1 (omega (arith, over-length rows ws (omega arith))),
-              (
-                constant-reads _ _ .1 (subst (All (λ c. c < decode s .p)) (sym (over-front flat cs _ len)) (flat-below _ _ _ (valid .constants-below))),
-                (
-                  parameter-reads _ _ .1 (subst (All (λ w. within (decode s .n) w ≡ true)) (sym (over-front rows ws _ count)) (all-left _ _ rows (valid .parameters-within))),
-                  tt,
-                ),
-              ),
-            ),
-          ),
-        ),
-      )
-
--- ---- the call
-
-module _ (s : List ℕ) (bytes : AreBytes s) (cs ws : List ℕ) (l : mostRows * mostColumns ≤ length cs) (m : mostRows ≤ length ws) where
-  -- areas of the largest size hold every model
-  read-accepted : judge s ≡ 0 → readRefusal s cs ws ≡ 0
-  unfolding readRefusal judge
-  read-accepted ok =
-      let few = few-constants s bytes ok in
-      let some = valid s bytes ok .b-most in
-      zero-then _ _ ok (zero-then _ _ (zero-unless _ _ (area-reads _ _ .1 (omega arith))) (zero-unless _ _ (area-reads _ _ .1 (omega arith))))
-
-  pub read-judged : readRefusal s cs ws ≡ judge s
-  unfolding readRefusal judge
-  read-judged = at (judge s) refl
-    where
-      at : (k : ℕ) → judge s ≡ k → readRefusal s cs ws ≡ judge s
-      at zero e = read-accepted e ∙ sym e
-      at (suc k) e = sym (then-refused (closed fields s) _ (judge s) refl (λ z. omega (arith, e, z)))
-
-  module _ (area : List ℕ) where
-    pub host-refused : (r : ℕ) → r ≡ readRefusal s cs ws → r ≢ 0 → HostAnswer s area r area
-    unfolding host-refusal judge
-    host-refused r e h =
-        let q = then-refused (closed fields s) _ r (e ∙ read-judged) h in
-        record { is-number = q; if-refused = λ _. refl; if-accepted = λ z. absurd (h (q ∙ z)) }
-
-    module _ (ok : readRefusal s cs ws ≡ 0) where
-      pub host-short : length area < answer-length → HostAnswer s area 8 area
-      unfolding host-refusal judge areaTest
-      host-short u =
-          let q = then-passed (closed fields s) _ 8 (sym read-judged ∙ ok) (first-fails _ areaShort [] (lt-leb _ _ u)) in
-          record { is-number = q; if-refused = λ _. refl; if-accepted = λ z. absurd (omega (arith, q, z)) }
-
-      -- what was read is the file's model
-      read-all : modelRead s cs ws ≡ decode s
-      unfolding modelRead
-      read-all = ap (λ (k : ℕ). whereAccepted k (decode s) noModel) ok
-
--- ---- an accepted file
-
--- the call's own areas, before the reading
-abbrev pub own-constants : List ℕ
-own-constants = replicate (mostRows * mostColumns) 0
-
-abbrev pub own-parameters : List ℕ
-own-parameters = replicate mostRows 0
-
-pub own-length : mostRows * mostColumns ≤ length own-constants
-own-length = le-of-eq (sym (length-replicate {A = ℕ} (mostRows * mostColumns) 0))
-
-pub own-count : mostRows ≤ length own-parameters
-own-count = le-of-eq (sym (length-replicate {A = ℕ} mostRows 0))
-
-module _ (s : List ℕ) (bytes : AreBytes s) (area : List ℕ) (p n a b : ℕ) (cs′ ws′ : List ℕ) where
-  module _ (r : Reading s own-constants own-parameters 0 p n a b cs′ ws′) where
-    judged : judge s ≡ 0
-    judged = sym (read-judged s bytes own-constants own-parameters own-length own-count) ∙ sym (r .refusal-is)
-
-    all : modelRead s own-constants own-parameters ≡ decode s
-    all = read-all s bytes own-constants own-parameters own-length own-count area (sym (r .refusal-is))
-
-    own-model : model p n a b cs′ ws′ ≡ file-model s
-    own-model =
-        rw (r .p-is, r .n-is, r .a-is, r .b-is, r .constants-are, r .parameters-are, all)
-        (same-model (decode s .p) (decode s .n) (decode s .a) (decode s .b) (over (flatten (decode s .constants)) own-constants) (flatten (decode s .constants)) (over (decode s .parameters) own-parameters) (decode s .parameters) (over-zeros (flatten (decode s .constants)) (mostRows * mostColumns)) (over-zeros (decode s .parameters) mostRows))
-
-    own-accepted : refusal p n a b cs′ ws′ ≡ 0
-    own-accepted =
-        rw (r .p-is, r .n-is, r .a-is, r .b-is, r .constants-are, r .parameters-are, all)
-        (file-accepted s bytes judged own-constants own-parameters own-length own-count)
-
-    pub host-done : answer-length ≤ length area → (the-refusal the-verdict the-rank the-placed the-side the-short : ℕ) (rows : List ℕ) → length rows ≡ 64
-        → LayeredAnswer p n a b cs′ ws′ the-refusal the-verdict the-rank the-placed the-side the-short rows
-        → HostAnswer s area 0 (over (answer-bytes the-verdict the-rank the-placed the-side the-short rows) area)
-    unfolding host-refusal judge
-    host-done u the-refusal the-verdict the-rank the-placed the-side the-short rows k h =
-        let q : host-refusal s area ≡ 0 = zero-then _ _ judged (zero-unless _ _ (area-reads _ _ .1 u)) in
-        record {
-          is-number = sym q;
-          if-refused = λ z. absurd (z q);
-          if-accepted = λ _. record {
-            the-verdict = the-verdict;
-            the-rank = the-rank;
-            the-placed = the-placed;
-            the-side = the-side;
-            the-short = the-short;
-            rows = rows;
-            row-count = k;
-            is-answer = subst (λ (M : Model). Answered M the-verdict the-rank the-placed the-side the-short rows) own-model (h .if-accepted own-accepted);
-            bytes-are = refl;
-          };
-        }
+module _ (s : List ℕ) (bytes : AreBytes s) (area : List ℕ) (p n a b : ℕ) (cs′ ws′ : List ℕ) (r : Reading s own-constants own-parameters 0 p n a b cs′ ws′) where
+  pub host-done : answer-length ≤ length area → (the-refusal the-verdict the-rank the-placed the-side the-short : ℕ) (rows : List ℕ) → length rows ≡ 64
+      → LayeredAnswer p n a b cs′ ws′ the-refusal the-verdict the-rank the-placed the-side the-short rows
+      → HostAnswer s area 0 (over (answer-bytes the-verdict the-rank the-placed the-side the-short rows) area)
+  unfolding host-refusal judge
+  host-done u the-refusal the-verdict the-rank the-placed the-side the-short rows k h =
+      let q : host-refusal s area ≡ 0 = zero-then _ _ (judged s bytes p n a b cs′ ws′ r) (zero-unless _ _ (area-reads _ _ .1 u)) in
+      record {
+        is-number = sym q;
+        if-refused = λ z. absurd (z q);
+        if-accepted = λ _. record {
+          the-verdict = the-verdict;
+          the-rank = the-rank;
+          the-placed = the-placed;
+          the-side = the-side;
+          the-short = the-short;
+          rows = rows;
+          row-count = k;
+          is-answer = subst (λ (M : Model). Answered M the-verdict the-rank the-placed the-side the-short rows) (own-model s bytes p n a b cs′ ws′ r) (h .if-accepted (own-accepted s bytes p n a b cs′ ws′ r));
+          bytes-are = refl;
+        };
+      }

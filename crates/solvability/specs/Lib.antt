@@ -1,25 +1,4 @@
--- Document 01: the model, lists of steps, mixed models and answers; with the theorems about them. Refusals and the file are in crate model.
-pub mod Model
-pub mod ModelLaws
-pub mod Steps
-pub mod StepsLaws
-pub mod Demand
-pub mod StepsReach
-pub mod Theorems
-pub mod Mixed
-pub mod MixedTheorem
-pub mod Starred
-pub mod Computed
-pub mod Answers
-pub mod AnswerLaws
-pub mod PutLaws
-pub mod Report
-pub mod ReportLaws
-pub mod ReportExamples
-pub mod MixedForm
-pub mod MixedEntries
-pub mod MixedAnswers
-pub mod MixedAnswerLaws
+-- What the call for a host and the calls that lend an area promise, with the laws that their proofs use.
 pub mod Host
 pub mod HostLaws
 pub mod Area

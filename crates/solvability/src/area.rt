@@ -8,8 +8,8 @@ use crate::host::ANSWER_LENGTH;
 use crate::host::put_answer;
 use crate::host::put_numbers;
 use crate::host::put_set;
-use crate::layered::layered_rank;
-use crate::mixed::mixed_rank;
+use layered::layered_rank;
+use mixed::mixed_rank;
 use model::refusals;
 
 // How many bytes a mixed answer takes.

@@ -6,8 +6,8 @@ ghost use lib.ListN.{length};
 ghost use Rattle.columns.specs.Bytes.{bytesOf};
 ghost use Rattle.model.specs.Lists.{over};
 ghost use Rattle.solvability.specs.Host.{answer-length, answer-bytes, HostAnswer};
-use crate::layered::layered_rank;
-use model::read_file;
+use layered::layered_rank;
+use loader::read_file;
 use model::refusals;
 
 // How many bytes an answer takes.

@@ -1,31 +1,26 @@
-// The rank of layered and mixed models, and the call for a host; what crate model has for a caller is passed on. Every public function is total, and refuses by a number.
+// The rank of layered and mixed models, and the call for a host; what the crates below have for a caller is passed on. Every public function is total, and refuses by a number.
 mod area;
 mod host;
-mod layered;
-mod mixed;
-mod report;
 
 pub use area::layered_bytes;
 pub use area::mixed_bytes;
 pub use host::wundreska_check;
 pub use layered::Answer;
 pub use layered::layered_rank;
+pub use loader::Sizes;
+pub use loader::judge_row;
+pub use loader::read_file;
+pub use loader::row;
 pub use mixed::MixedReport;
 pub use mixed::judge_mixed;
 pub use mixed::mixed_rank;
 pub use model::Reader;
-pub use model::Sizes;
-pub use model::Written;
 pub use model::after_field;
 pub use model::judge_field;
 pub use model::judge_file;
 pub use model::judge_model;
 pub use model::judge_rest;
-pub use model::judge_row;
 pub use model::open_reader;
-pub use model::read_file;
 pub use model::refusals;
-pub use model::row;
-pub use model::write_file;
-pub use report::write_refusal;
-pub use report::write_report;
+pub use writer::Written;
+pub use writer::write_file;

@@ -9,7 +9,7 @@ use Rattle.residue.specs.Primes.{isPrime-reads}
 use Rattle.columns.specs.Counting.Sets.{Set, _∈_}
 use Rattle.columns.specs.Columns.{members}
 use Rattle.columns.specs.Words.Operations.{members-below, within-iff}
-use Rattle.exchange.specs.Modulus.{residue-of}
+use Rattle.rank.specs.Modulus.{residue-of}
 use Rattle.exchange.specs.Solve.{admissible}
 use Rattle.exchange.specs.SolveLaws.{all-below-iff, fitting-reads, admissible-reads}
 use Rattle.exchange.specs.Code.Cells.{zeros-below, filled-below}

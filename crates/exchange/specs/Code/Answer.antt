@@ -15,16 +15,16 @@ use Rattle.columns.specs.Counting.Counts.{some?, #-ext, #-none}
 use Rattle.columns.specs.Counting.Blocks.{#-plus}
 use Rattle.columns.specs.Columns.{width, none, inserted}
 use Rattle.columns.specs.Words.SetLaws.{inserted-same, inserted-old, inserted-split}
-use Rattle.exchange.specs.Graph.States.{State, Placed, placed-of, placed-iff, Terminal}
-use Rattle.exchange.specs.Graph.Closed.{Closed}
-use Rattle.exchange.specs.Graph.Layers.{grow, grow-old, grow-arc, grow-split, layer, layer-start, layer-next, unplaced, unplaced-iff}
-use Rattle.exchange.specs.Layered.Model.{Model, Seat, out, constant, row, Assignment, is-placed, is-constant, placing, constants, Legal}
-use Rattle.exchange.specs.Layered.Rank.{rank, placed, short}
-use Rattle.exchange.specs.Layered.Reading.{seat-cases}
-use Rattle.exchange.specs.Layered.Assignments.{row-seat-low, row-seat-high, assignment, assignment-owned, assignment-places, constant-owner, row-owner}
-use Rattle.exchange.specs.Layered.Optimal.{open-columns, open-columns-iff, reach-open, reach-iff}
-use Rattle.exchange.specs.Layered.ColumnOrder.{placed-below}
-use Rattle.exchange.specs.Layered.Offers.{finished, Answered, answered}
+use Rattle.rank.specs.Graph.States.{State, Placed, placed-of, placed-iff, Terminal}
+use Rattle.rank.specs.Graph.Closed.{Closed}
+use Rattle.rank.specs.Graph.Layers.{grow, grow-old, grow-arc, grow-split, layer, layer-start, layer-next, unplaced, unplaced-iff}
+use Rattle.rank.specs.Layered.Model.{Model, Seat, out, constant, row, Assignment, is-placed, is-constant, placing, constants, Legal}
+use Rattle.rank.specs.Layered.Rank.{rank, placed, short}
+use Rattle.rank.specs.Layered.Reading.{seat-cases}
+use Rattle.rank.specs.Layered.Assignments.{row-seat-low, row-seat-high, assignment, assignment-owned, assignment-places, constant-owner, row-owner}
+use Rattle.rank.specs.Layered.Optimal.{open-columns, open-columns-iff, reach-open, reach-iff}
+use Rattle.rank.specs.Layered.ColumnOrder.{placed-below}
+use Rattle.rank.specs.Layered.Offers.{finished, Answered, answered}
 use Rattle.exchange.specs.Solution.{shown-row, shown, ShowsRow, Solved}
 use Rattle.exchange.specs.Code.Reading.{owned}
 use Rattle.exchange.specs.Code.Searching.{Ended, Final, Searched, in-last}

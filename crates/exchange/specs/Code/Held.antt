@@ -17,16 +17,16 @@ use Rattle.columns.specs.Counting.Bools.{iff-eq}
 use Rattle.columns.specs.Counting.Sets.{Set, _∈_, set}
 use Rattle.columns.specs.Counting.Counts.{set-same, set-other}
 use Rattle.columns.specs.Columns.{members}
-use Rattle.exchange.specs.Modulus.{modulus, field-of, residue-of}
-use Rattle.exchange.specs.ModulusLaws.{residue-mul, residue-add, residue-inv, residue-neg, residue-zero}
-use Rattle.exchange.specs.ModelModulo.{model-modulo}
-use Rattle.exchange.specs.Linear.Kernels.{hits, hits-iff}
-use Rattle.exchange.specs.Linear.Tableaus.{pivot, pivot-row, pivot-other}
-use Rattle.exchange.specs.Graph.States.{State, Placed, Moved, Entered}
-use Rattle.exchange.specs.Layered.Model.{Model}
-use Rattle.exchange.specs.Layered.Valid.{touch, touch-constant, touch-row, Valid, state, seated, seated-constant, seated-row, seat-valid}
-use Rattle.exchange.specs.Layered.Seating.{Good, good-valid, freed, moved-valid, moved}
-use Rattle.exchange.specs.Layered.Assignments.{offered-owner}
+use Rattle.rank.specs.Modulus.{modulus, field-of, residue-of}
+use Rattle.rank.specs.ModulusLaws.{residue-mul, residue-add, residue-inv, residue-neg, residue-zero}
+use Rattle.rank.specs.ModelModulo.{model-modulo}
+use Rattle.rank.specs.Linear.Kernels.{hits, hits-iff}
+use Rattle.rank.specs.Linear.Tableaus.{pivot, pivot-row, pivot-other}
+use Rattle.rank.specs.Graph.States.{State, Placed, Moved, Entered}
+use Rattle.rank.specs.Layered.Model.{Model}
+use Rattle.rank.specs.Layered.Valid.{touch, touch-constant, touch-row, Valid, state, seated, seated-constant, seated-row, seat-valid}
+use Rattle.rank.specs.Layered.Seating.{Good, good-valid, freed, moved-valid, moved}
+use Rattle.rank.specs.Layered.Assignments.{offered-owner}
 use Rattle.exchange.specs.Code.Cells.{cell, Below, cleared, cleared-is, Pivoted}
 use Rattle.exchange.specs.Code.Reading.{touched, touched-constant, touched-parameter, owned}
 use Rattle.exchange.specs.Code.Searching.{Shows}

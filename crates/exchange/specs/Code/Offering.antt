@@ -12,16 +12,16 @@ use Rattle.columns.specs.Counting.Sets.{Set, _∈_, set}
 use Rattle.columns.specs.Counting.Counts.{set-same, set-other}
 use Rattle.columns.specs.Columns.{width, members, none, inserted, removed}
 use Rattle.columns.specs.Words.SetLaws.{inserted-same, inserted-old, inserted-split, removed-old, removed-gone, removed-other}
-use Rattle.exchange.specs.Graph.States.{State, Placed, SamePlaced, placed-of, placed-iff}
-use Rattle.exchange.specs.Layered.Model.{Model, Assignment, placing, Legal}
-use Rattle.exchange.specs.Layered.Rank.{taken, placeable}
-use Rattle.exchange.specs.Layered.Reading.{placeable-iff}
-use Rattle.exchange.specs.Layered.Augmenting.{StateOf, OneMore}
-use Rattle.exchange.specs.Layered.ColumnOrder.{taken-no}
-use Rattle.exchange.specs.Layered.Offers.{Offered, offered-none, offered-same, offered-new, took, passed}
-use Rattle.exchange.specs.Modulus.{residue-of}
-use Rattle.exchange.specs.Layered.Valid.{state}
-use Rattle.exchange.specs.Layered.Seating.{empty-valid}
+use Rattle.rank.specs.Graph.States.{State, Placed, SamePlaced, placed-of, placed-iff}
+use Rattle.rank.specs.Layered.Model.{Model, Assignment, placing, Legal}
+use Rattle.rank.specs.Layered.Rank.{taken, placeable}
+use Rattle.rank.specs.Layered.Reading.{placeable-iff}
+use Rattle.rank.specs.Layered.Augmenting.{StateOf, OneMore}
+use Rattle.rank.specs.Layered.ColumnOrder.{taken-no}
+use Rattle.rank.specs.Layered.Offers.{Offered, offered-none, offered-same, offered-new, took, passed}
+use Rattle.rank.specs.Modulus.{residue-of}
+use Rattle.rank.specs.Layered.Valid.{state}
+use Rattle.rank.specs.Layered.Seating.{empty-valid}
 use Rattle.exchange.specs.Code.Cells.{cell}
 use Rattle.exchange.specs.Code.Reading.{owned}
 use Rattle.exchange.specs.Code.Held.{Given, model-of, ShowsConstants, Held}

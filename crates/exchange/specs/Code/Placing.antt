@@ -12,11 +12,11 @@ use Rattle.columns.specs.Counting.Bools.{iff-eq}
 use Rattle.columns.specs.Counting.Sets.{Set, _∈_}
 use Rattle.columns.specs.Columns.{width, none, inserted}
 use Rattle.columns.specs.Words.SetLaws.{inserted-same, inserted-split}
-use Rattle.exchange.specs.Graph.States.{State, Placed, Terminal, Moved, SamePlaced, moved-placed, Entered}
-use Rattle.exchange.specs.Graph.Closed.{Closed}
-use Rattle.exchange.specs.Graph.Layers.{layer, layer-start, layer-placed}
-use Rattle.exchange.specs.Graph.Search.{Hit, fall}
-use Rattle.exchange.specs.Layered.Augmenting.{only, only-iff, OneMore, entered-more}
+use Rattle.rank.specs.Graph.States.{State, Placed, Terminal, Moved, SamePlaced, moved-placed, Entered}
+use Rattle.rank.specs.Graph.Closed.{Closed}
+use Rattle.rank.specs.Graph.Layers.{layer, layer-start, layer-placed}
+use Rattle.rank.specs.Graph.Search.{Hit, fall}
+use Rattle.rank.specs.Layered.Augmenting.{only, only-iff, OneMore, entered-more}
 use Rattle.exchange.specs.Code.Cells.{Below}
 use Rattle.exchange.specs.Code.Reading.{touched, owned}
 use Rattle.exchange.specs.Code.Searching.{Shows, Ended, Final, Searched, in-last}

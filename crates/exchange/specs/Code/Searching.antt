@@ -10,10 +10,10 @@ use Rattle.columns.specs.Counting.Bools.{true?, and-in, and-left, and-right, or
 use Rattle.columns.specs.Counting.Sets.{Set, _∈_, _∩_, _∪_, ∁, #, Some}
 use Rattle.columns.specs.Columns.{width}
 use Rattle.columns.specs.Words.SetLaws.{nothing-in}
-use Rattle.exchange.specs.Graph.States.{State, Terminal, Arc}
-use Rattle.exchange.specs.Graph.Closed.{Closed}
-use Rattle.exchange.specs.Graph.Layers.{ArcClosed, layer, layer-start, layer-next, grow, grow-old, grow-arc, grow-split, stable}
-use Rattle.exchange.specs.Graph.Search.{Hit}
+use Rattle.rank.specs.Graph.States.{State, Terminal, Arc}
+use Rattle.rank.specs.Graph.Closed.{Closed}
+use Rattle.rank.specs.Graph.Layers.{ArcClosed, layer, layer-start, layer-next, grow, grow-old, grow-arc, grow-split, stable}
+use Rattle.rank.specs.Graph.Search.{Hit}
 use Rattle.exchange.specs.Code.Reading.{RowsRead, Owner, Owners, Scanned}
 
 -- the arrays show s: they touch offered columns as s does, and have its owners, which are offered

@@ -8,7 +8,7 @@ use Rattle.columns.specs.Counting.Sets.{Set, _∈_, _∩_, _∪_, ∁, #}
 use Rattle.columns.specs.Counting.Counts.{#-le}
 use Rattle.columns.specs.Columns.{width, members}
 use Rattle.columns.specs.Words.SetLaws.{union-more}
-use Rattle.exchange.specs.Graph.States.{State}
+use Rattle.rank.specs.Graph.States.{State}
 use Rattle.exchange.specs.Code.Reading.{touched, owned}
 use Rattle.exchange.specs.Code.Searching.{Shows, Reaching, reaching-start, reaching-more, ended, final}
 use borrow.Author.Needs.{needs}

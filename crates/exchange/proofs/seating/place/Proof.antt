@@ -6,8 +6,8 @@ use mathlib.Core.Bool.{true≢false, false≢true}
 use lib.ListN.{length}
 use Rattle.columns.specs.Counting.Sets.{Set}
 use Rattle.columns.specs.Columns.{members, none, inserted}
-use Rattle.exchange.specs.Graph.Closed.{Closed}
-use Rattle.exchange.specs.Graph.Layers.{layer}
+use Rattle.rank.specs.Graph.Closed.{Closed}
+use Rattle.rank.specs.Graph.Layers.{layer}
 use Rattle.exchange.specs.Code.Cells.{Below}
 use Rattle.exchange.specs.Code.Held.{held-shows}
 use Rattle.exchange.specs.Code.Placing.{Seeks, seeks, Finds, Holds, holds-first, same-placed-refl, found-below, turn-holds, turn-nearer, last-turn}

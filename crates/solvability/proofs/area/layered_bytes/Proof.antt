@@ -1,7 +1,7 @@
 -- `area::layered_bytes` meets its contract, by what the rank call and the writing of its answer ensure. Assumes nothing.
 use mathlib.Core.Path.{sym, _∙_}
 use borrow.Author.Needs.{needs}
-use Rattle.solvability.specs.Model.{model}
+use Rattle.mixed_models.specs.Model.{model}
 use Rattle.model.specs.Refusals.{modelTests, refusal}
 use Rattle.solvability.specs.Host.{answer-length, AnswerWritten}
 use Rattle.solvability.specs.Area.{LayeredBytes}

@@ -1,7 +1,7 @@
 -- `area::mixed_bytes` meets its contract, by what the rank call and the writing of its answer ensure. Assumes nothing.
 use mathlib.Core.Path.{sym, _∙_}
 use borrow.Author.Needs.{needs}
-use Rattle.solvability.specs.Mixed.{mixed}
+use Rattle.mixed_models.specs.Mixed.{mixed}
 use Rattle.model.specs.Refusals.{mixedTests, mixedRefusal}
 use Rattle.solvability.specs.Area.{mixed-length, MixedWritten, MixedBytes}
 use Rattle.solvability.specs.AreaLaws.{area-refused, area-short, area-done}

@@ -6,7 +6,8 @@ use borrow.Author.Needs.{needs}
 use native.Mathlib.Omega.{arith}
 use Rattle.columns.specs.Words.Bytes.{AreBytes}
 use Rattle.model.specs.File.Format.{Reading}
-use Rattle.solvability.specs.HostLaws.{own-constants, own-parameters, own-length, own-count, host-refused, host-short, host-done}
+use Rattle.layered.specs.FileLaws.{own-constants, own-parameters, own-length, own-count}
+use Rattle.solvability.specs.HostLaws.{host-refused, host-short, host-done}
 use Rattle.solvability.proofs.host.wundreska_check.Statement.{statement}
 use Rattle.solvability.proofs.host.wundreska_check.Tie as tie
 

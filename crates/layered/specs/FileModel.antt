@@ -1,0 +1,10 @@
+-- The layered model in a file. Definitions only.
+use Prim.Native.Nat.{ℕ}
+use mathlib.Core.List.{List, flatten}
+use Rattle.rank.specs.Layered.Model.{Model}
+use Rattle.mixed_models.specs.Model.{model}
+use Rattle.model.specs.File.Format.{decode}
+
+-- the model of the numbers, constants and parameter rows that the file has
+abbrev pub file-model : List ℕ → Model
+file-model s = model (decode s .p) (decode s .n) (decode s .a) (decode s .b) (flatten (decode s .constants)) (decode s .parameters)

@@ -1,0 +1,102 @@
+// The layered rank call: the answer to a model handed over without a file.
+ghost use mathlib.Core.Path.{_≡_};
+ghost use lib.ListN.{take};
+ghost use Rattle.model.specs.Refusals.{parameterTest};
+ghost use Rattle.layered.specs.Answers.{verdict-number, Refused, LayeredAnswer};
+ghost use Rattle.layered.specs.AnswerLaws.{beforehand};
+use model::LARGEST_PRIME;
+use model::judge_model;
+use model::parameters_within;
+
+// The refusal or 0; the verdict, 1 "determined" or 0 "open"; the rank; the placed columns, those of them on the constant side, and
+// the short set, as words; and the column of each parameter row, 255 for none.
+pub struct Answer {
+    pub refusal: u32,
+    pub verdict: u8,
+    pub rank: u8,
+    pub placed: u64,
+    pub constants: u64,
+    pub short: u64,
+    pub rows: [u8; 64],
+}
+
+fn refuse(number: u32) -> Answer
+    ensures { λ r. ⌜ (r .refusal ≡ number) × Refused (r .verdict) (r .rank) (r .placed) (r .constants) (r .short) (r .rows) ⌝ }
+{
+    Answer {
+        refusal: number,
+        verdict: 0,
+        rank: 0,
+        placed: 0,
+        constants: 0,
+        short: 0,
+        rows: [255u8; 64],
+    }
+}
+
+// The verdict of a rank of n columns: 1 "determined", 0 "open".
+pub fn verdict_of(rank: usize, n: usize) -> u8
+    ensures { λ r. ⌜ r ≡ verdict-number rank n ⌝ }
+{
+    if rank == n {
+        return 1;
+    }
+    0
+}
+
+// Whether the first b parameter rows, or all there are, lie below column n.
+fn rows_within(parameters: &[u64], b: usize, n: usize) -> bool
+    ensures { λ r. ⌜ r ≡ parameterTest n (take b (now (parameters .entry))) ⌝ }
+{
+    if b < parameters.len() {
+        return parameters_within(&parameters[..b], n);
+    }
+    parameters_within(parameters, n)
+}
+
+// The tests that the solver does not make.
+fn passes_beforehand(p: u32, n: usize, b: usize, parameters: &[u64]) -> bool
+    ensures { λ r. ⌜ r ≡ beforehand p n b (now (parameters .entry)) ⌝ }
+{
+    if p > LARGEST_PRIME {
+        return false;
+    }
+    if n < 1 {
+        return false;
+    }
+    rows_within(parameters, b, n)
+}
+
+// The answer to the layered model of p, n, a, b, the constants row by row and the parameter rows. The solver judges most of it, so
+// that an accepted model is judged once; a refused one is judged again for its number.
+pub fn layered_rank(
+    p: u32,
+    n: usize,
+    a: usize,
+    b: usize,
+    constants: &[u16],
+    parameters: &[u64],
+) -> Answer
+    ensures { λ r. ⌜ LayeredAnswer p n a b (now (constants .entry)) (now (parameters .entry)) (r .refusal) (r .verdict) (r .rank) (r .placed) (r .constants) (r .short) (r .rows) ⌝ }
+{
+    if !passes_beforehand(p, n, b, parameters) {
+        return refuse(judge_model(p, n, a, b, constants, parameters));
+    }
+    let all = columns::below(n);
+    let s = exchange::solve(p, n, a, b, all, constants, parameters);
+    if !s.valid {
+        return refuse(judge_model(p, n, a, b, constants, parameters));
+    }
+    let verdict = verdict_of(s.rank, n);
+    let rank = s.rank as u8;
+    let rows = s.rows;
+    Answer {
+        refusal: 0,
+        verdict,
+        rank,
+        placed: s.placed,
+        constants: s.constants,
+        short: s.short,
+        rows,
+    }
+}

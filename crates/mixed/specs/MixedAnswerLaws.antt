@@ -1,0 +1,238 @@
+-- The layered form in numbers is the layered form; and the answer to a mixed model is read off the answer to its form. Assumes nothing.
+use Prim.Native.Nat.{ℕ, zero, suc, _+_, _-_, _*_, _/_, _%_, _^_, _≤_, _<_}
+use mathlib.Core.Path.{_≡_, refl, sym, ap, _∙_, fun-ext}
+use mathlib.Core.Logic.{_≢_, _↔_, inl, inr}
+use mathlib.Core.Bool.{Bool, true, false, not, _&&_, cond, decide, decide-iff, true≢false, false≢true}
+use mathlib.Core.List.{List, []}
+use native.Mathlib.Omega.{arith}
+use native.Mathlib.Decide.{ℕ-discrete, decLt}
+use native.Mathlib.Nat.{mul-add-div-right, mul-add-mod-self-right, mod-lt, mod-eq-of-lt, mod-add-div', div-eq-of-lt, div-lt-iff-lt-mul, mul-zero, mul-le-mul}
+use lib.ListN.{length, getD}
+use lib.Dec.{eqb, leb, ltb}
+use borrow.Author.Tests.{eq-eqb, ne-eqb, eqb-true, le-leb, lt-leb, leb-true, lt-ltb}
+use Rattle.residue.specs.Arithmetic.{Prime, isPrime}
+use Rattle.residue.specs.Fields.{Field}
+use Rattle.residue.specs.Primes.{prime→test}
+use Rattle.residue.specs.Residues.{res-zero, res-one}
+use Rattle.columns.specs.Counting.Bools.{true?, not-true, iff-eq, and-in, and-left, and-right, not-of, not-both, not-in}
+use Rattle.columns.specs.Counting.Sets.{Set, _∈_, indicator, #}
+use Rattle.columns.specs.Counting.Counts.{#-ext}
+use Rattle.columns.specs.Counting.Beside.{beside}
+use Rattle.columns.specs.Counting.Blocks.{beside-low, beside-high, low-or-high}
+use Rattle.columns.specs.Columns.{width, members, upto, inserted, moved-up, word-of, within}
+use Rattle.columns.specs.Words.Operations.{within-iff, word-members}
+use Rattle.columns.specs.Words.SetLaws.{upto-iff, inserted-same, inserted-old, inserted-split}
+use Rattle.rank.specs.Modulus.{modulus, field-of, residue-of}
+use Rattle.rank.specs.Layered.Model.{Model, Seat, out, constant, row, Assignment, is-placed, is-constant, placing, constants, Legal, size}
+use Rattle.rank.specs.Layered.Rank.{rank, placed, short}
+use Rattle.rank.specs.Layered.Restricting.{constant-placed}
+use Rattle.rank.specs.Layered.ColumnOrder.{placed-size}
+use Rattle.exchange.specs.Solution.{shown, ShowsRow, Solved}
+use Rattle.exchange.specs.Solve.{all-below, fitting, admissible, Shown}
+use Rattle.exchange.specs.SolveLaws.{all-below-iff}
+use Rattle.mixed_models.specs.Mixed.{Mixed, unit, mixed-sum, mixed-rank, mixed-verdict, form-constants, form-parameters, layered-form, served, shown-I, shown-J, mixed}
+use Rattle.mixed_models.specs.MixedTheorem.{form-rank, shown-reach}
+use Rattle.mixed_models.specs.MixedTheorem.Form.{served-iff, shown-I-iff}
+use Rattle.mixed.specs.MixedForm.{form-entry, form-row, serves}
+use Rattle.model.specs.Refusals.{unless, notMixed, mostColumns, mixedTest, mixedTests, mixedRefusal, modelTests, refusal, firstRefusal}
+use Rattle.model.specs.RefusalLaws.{first-fails, then-refused, then-passed, then-zero, zero-then, unless-zero, zero-unless}
+use Rattle.model.specs.TestLaws.{Accepted, model-accepted, constant-below}
+use Rattle.mixed.specs.MixedAnswers.{MixedAnswered}
+
+one-at-most : (b : Bool) → indicator b ≤ 1
+unfolding indicator
+one-at-most true = omega arith
+one-at-most false = omega arith
+
+-- ---- the form in numbers
+
+module _ (p m n : ℕ) (cs ws : List ℕ) where
+  abbrev X : Mixed
+  X = mixed p m n cs ws
+
+  place-row : (i x : ℕ) → x < m + n → (i * (m + n) + x) / (m + n) ≡ i
+  place-row i x l = mul-add-div-right {m = m + n} (omega arith) i x ∙ ap (λ (k : ℕ). i + k) (div-eq-of-lt l) ∙ plus-zero i
+    where
+      plus-zero : (k : ℕ) → k + 0 ≡ k
+      plus-zero k = omega arith
+
+  place-column : (i x : ℕ) → x < m + n → (i * (m + n) + x) % (m + n) ≡ x
+  place-column i x l = mul-add-mod-self-right i (m + n) x ∙ mod-eq-of-lt l
+
+  entry-at : (i x : ℕ) → x < m + n → form-entry m n cs (i * (m + n) + x) ≡ beside m (λ j. indicator (eqb i j)) (λ y. getD cs (i * n + y) 0) x
+  unfolding form-entry
+  entry-at i x l = rw (place-row i x l, place-column i x l) refl
+
+  entry-low : (i x : ℕ) → x < m → form-entry m n cs (i * (m + n) + x) ≡ indicator (eqb i x)
+  entry-low i x l = entry-at i x (omega arith) ∙ beside-low m (λ j. indicator (eqb i j)) (λ y. getD cs (i * n + y) 0) x l
+
+  entry-high : (i y : ℕ) → y < n → form-entry m n cs (i * (m + n) + (m + y)) ≡ getD cs (i * n + y) 0
+  entry-high i y l = entry-at i (m + y) (omega arith) ∙ beside-high m (λ j. indicator (eqb i j)) (λ y. getD cs (i * n + y) 0) y
+
+  unit-at : (i x : ℕ) → unit (field-of p) i x ≡ residue-of p (indicator (eqb i x))
+  unfolding unit indicator decide
+  unit-at i x = elim (ℕ-discrete i x) as (λ d. cond (decide d) (field-of p .𝟙) (field-of p .𝟘) ≡ residue-of p (indicator (eqb i x))) [
+    | yes e ↦ sym (ap (λ b. residue-of p (indicator b)) (eq-eqb i x e) ∙ res-one (modulus p .0) (modulus p .1))
+    | no ne ↦ sym (ap (λ b. residue-of p (indicator b)) (ne-eqb i x ne) ∙ res-zero (modulus p .0) (modulus p .1))
+  ]
+
+  pub constants-at : (i x : ℕ) → x < m + n → form-constants X i x ≡ residue-of p (form-entry m n cs (i * (m + n) + x))
+  constants-at i x l = low-or-high m x
+      (λ lx. beside-low m (unit (field-of p) i) (X .Q i) x lx ∙ unit-at i x ∙ ap (residue-of p) (sym (entry-low i x lx)))
+      (λ y e. rw e (beside-high m (unit (field-of p) i) (X .Q i) y ∙ ap (residue-of p) (sym (entry-high i y (omega arith)))))
+
+  pub parameters-at : m + n ≤ width → (i x : ℕ) → i < m → x < m + n → form-parameters X i x ≡ form-row m (members (getD ws i 0)) i x
+  unfolding moved-up
+  parameters-at h i x li l = low-or-high m x
+      (λ lx. beside-low m (λ j. decide (ℕ-discrete i j)) (X .T i) x lx ∙ iff-eq (decide (ℕ-discrete i x)) (form-row m (members (getD ws i 0)) i x)
+      (λ e. let d : i ≡ x = decide-iff (ℕ-discrete i x) .0 e in rw d (inserted-same (moved-up (members (getD ws x 0)) m) x (omega arith)))
+      (λ e. elim (inserted-split (moved-up (members (getD ws i 0)) m) i x e) [
+        | inl z ↦ decide-iff (ℕ-discrete i x) .1 (sym z)
+        | inr u ↦ absurd (true≢false (sym (and-left (leb m x) (members (getD ws i 0) (x - m)) (and-left (leb m x && members (getD ws i 0) (x - m)) (ltb x width) u)) ∙ lt-leb m x lx))
+      ]))
+      (λ y e. rw e (beside-high m (λ j. decide (ℕ-discrete i j)) (X .T i) y ∙ iff-eq (members (getD ws i 0) y) (form-row m (members (getD ws i 0)) i (m + y))
+      (λ d. inserted-old (moved-up (members (getD ws i 0)) m) i (m + y) (and-in (and-in (le-leb m (m + y) (omega arith)) (ap (members (getD ws i 0)) (back y) ∙ d)) (lt-ltb (m + y) width (omega arith))))
+      (λ d. elim (inserted-split (moved-up (members (getD ws i 0)) m) i (m + y) d) [
+        | inl z ↦ absurd (omega arith)
+        | inr u ↦ ap (members (getD ws i 0)) (sym (back y)) ∙ and-right (leb m (m + y)) (members (getD ws i 0) (m + y - m)) (and-left (leb m (m + y) && members (getD ws i 0) (m + y - m)) (ltb (m + y) width) u)
+      ])))
+    where
+      back : (y : ℕ) → m + y - m ≡ y
+      back y = omega arith
+
+  -- what the call hands to the solver
+  module _ (h : Accepted p n m m cs ws) (room : m + n ≤ width) (form words : List ℕ) (offered : ℕ) (lf : length form ≡ 4096) (lw : length words ≡ 64)
+      (entries-are : (k : ℕ) → k < m * (m + n) → getD form k 0 ≡ form-entry m n cs k) (all-offered : members offered ≡ upto (m + n)) where
+    in-form : (i x : ℕ) → i < m → x < m + n → i * (m + n) + x < m * (m + n)
+    in-form i x li lx = let g : (i + 1) * (m + n) ≤ m * (m + n) = mul-le-mul {n₂ = m} {m₂ = m + n} (omega arith) (omega arith) in omega arith
+
+    entry-below : (i x : ℕ) → i < m → x < m + n → form-entry m n cs (i * (m + n) + x) < p
+    entry-below i x li lx = low-or-high m x
+        (λ l. rw (entry-low i x l) (omega (arith, one-at-most (eqb i x), h .prime .least)))
+        (λ y e. rw (e, entry-high i y (omega arith)) (constant-below h (i * n + y) (row-inside i y li (omega arith))))
+      where
+        row-inside : (i y : ℕ) → i < m → y < n → i * n + y < m * n
+        row-inside i y li ly = let g : (i + 1) * n ≤ m * n = mul-le-mul {n₂ = m} {m₂ = n} (omega arith) (omega arith) in omega arith
+
+    -- every entry, by its place
+    all-entries-below : (k : ℕ) → k < m * (m + n) → getD form k 0 < p
+    all-entries-below k l =
+        let w : 0 < m + n = wide (m + n) k l in
+        let x : k % (m + n) < m + n = mod-lt k w in
+        let i : k / (m + n) < m = div-lt-iff-lt-mul {k = m + n} {x = k} {y = m} w .1 l in
+        rw (entries-are k l) (rw (at-place k) at (entry-below (k / (m + n)) (k % (m + n)) i x))
+      where
+        wide : (v k : ℕ) → k < m * v → 0 < v
+        wide zero k l = absurd (omega (arith, mul-zero m))
+        wide (suc v) k l = omega arith
+
+        at-place : (k : ℕ) → k / (m + n) * (m + n) + k % (m + n) ≡ k
+        at-place k = omega (arith, mod-add-div' k (m + n))
+
+    pub form-admissible : admissible p (m + n) m m offered form words ≡ true
+    unfolding admissible fitting
+    form-admissible =
+        let area : m * (m + n) ≤ 64 * 64 = mul-le-mul {n₂ = 64} {m₂ = 64} (h .a-most) room in
+        and-in
+        (and-in
+        (and-in
+        (and-in
+        (and-in (and-in (and-in (and-in (le-leb (m + n) width room) (le-leb m 64 (h .a-most))) (le-leb m 64 (h .a-most))) (le-leb (m * (m + n)) (length form) (omega arith))) (le-leb m (length words) (omega (arith, h .a-most))))
+        (within-iff (m + n) offered .1 (λ x l e. upto-iff (m + n) x room .0 (sym (ap (λ (S : Set). S x) all-offered) ∙ e))))
+        (lt-ltb p 65536 (omega (arith, h .p-most))))
+        (prime→test p (h .prime)))
+        (all-below-iff p (m * (m + n)) form .1 all-entries-below)
+
+    pub shows-form : ((i : ℕ) → i < m → members (getD words i 0) ≡ form-row m (members (getD ws i 0)) i)
+        → Shown p (m + n) m m offered form words (form-constants X) (form-parameters X) (λ x. true)
+    shows-form rows-are = record {
+      constants = λ i x li lx. constants-at i x lx ∙ ap (residue-of p) (sym (entries-are (i * (m + n) + x) (in-form i x li lx)));
+      parameters = λ i x li lx. parameters-at room i x li lx ∙ sym (ap (λ (S : Set). S x) (rows-are i li));
+      columns = λ x l. sym (ap (λ (S : Set). S x) all-offered ∙ upto-iff (m + n) x room .1 l);
+    }
+
+-- ---- the answer
+
+module _ (X : Mixed) (the-rank : ℕ) (placed-set side short-set : Set) (rows : List ℕ) (s : Solved (layered-form X) the-rank placed-set side short-set rows) where
+  open Mixed X using (m, n)
+
+  A : Assignment
+  A = shown (m + n) m side rows
+
+  pub rank-of-form : the-rank ≡ m + mixed-rank X
+  rank-of-form = s .is-rank ∙ form-rank X
+
+  full-size : size (layered-form X) A ≡ rank (layered-form X)
+  unfolding A
+  full-size = #-ext (m + n) (placing (shown (m + n) m side rows)) (placed (layered-form X)) (λ x l. s .places-it x) ∙ placed-size (layered-form X)
+
+  -- a row serves an original column where it shows one
+  served-shown : (i : ℕ) → i < m → m + n < 255 → (i ∈ served X A) ↔ serves m (getD rows i 0)
+  unfolding A
+  served-shown i li small = (
+    (λ e.
+        let w = served-iff X (shown (m + n) m side rows) i .0 e in
+        elim (s .rows-shown i li) [
+          | inl r ↦ let same : m + w .0 ≡ getD rows i 0 = s .is-legal .one-each (m + w .0) (getD rows i 0) i (w .2) (r .1) in (omega arith, omega (arith, r .0))
+          | inr r ↦ absurd (r .1 (m + w .0) (w .2))
+        ]),
+    λ w. elim (s .rows-shown i li) [
+      | inl r ↦
+          let y = getD rows i 0 - m in
+          let back : m + (getD rows i 0 - m) ≡ getD rows i 0 = omega (arith, w .0) in
+          served-iff X (shown (m + n) m side rows) i .1 (getD rows i 0 - m, omega (arith, r .0, w .0), ap (shown (m + n) m side rows) back ∙ r .1)
+      | inr r ↦ absurd (omega (arith, r .0, w .1))
+    ],
+  )
+
+  pub mixed-answered : (the-verdict the-rows the-columns the-short : ℕ) → m + n < 255 → the-short < 2 ^ width → the-verdict ≡ cond (eqb (the-rank - m) n) 1 0
+      → ((i : ℕ) → (i ∈ members the-rows) ↔ ((i < m) × (serves m (getD rows i 0) → ⊥))) → ((x : ℕ) → members the-columns x ≡ side (m + x)) → ((x : ℕ) → members the-short x ≡ short-set x)
+      → MixedAnswered X the-verdict (the-rank - m) the-rows the-columns the-short
+  unfolding A mixed-verdict indicator decide
+  mixed-answered the-verdict the-rows the-columns the-short small hs hv rows-are columns-are short-are =
+      let r : the-rank - m ≡ mixed-rank X = omega (arith, rank-of-form) in
+      let I : members the-rows ≡ shown-I X (shown (m + n) m side rows) = fun-ext (λ i. iff-eq (members the-rows i) (shown-I X (shown (m + n) m side rows) i)
+      (λ e. let w = rows-are i .0 e in shown-I-iff X (shown (m + n) m side rows) i .1 (w .0, not-true _ (λ k. w .1 (served-shown i (w .0) small .0 k))))
+      (λ e. let w = shown-I-iff X (shown (m + n) m side rows) i .0 e in rows-are i .1 (w .0, λ k. true≢false (sym (served-shown i (w .0) small .1 k) ∙ w .1)))) in
+      let J : members the-columns ≡ shown-J X (shown (m + n) m side rows) = fun-ext (λ x. columns-are x ∙ s .side-shown (m + x)) in
+      record {
+        is-verdict = hv ∙ elim (ℕ-discrete (mixed-rank X) n) as (λ z. cond (eqb (the-rank - m) n) 1 0 ≡ indicator (decide z)) [
+          | yes e ↦ ap (λ t. cond t 1 0) (eq-eqb (the-rank - m) n (r ∙ e))
+          | no ne ↦ ap (λ t. cond t 1 0) (ne-eqb (the-rank - m) n (λ z. ne (sym r ∙ z)))
+        ];
+        is-rank = r;
+        rows-below = λ i e. rows-are i .0 e .0;
+        columns-below = λ x e. omega (arith, s .is-legal .offered (m + x) (constant-placed (shown (m + n) m side rows (m + x)) (sym (s .side-shown (m + x)) ∙ sym (columns-are x) ∙ e)) .0);
+        they-reach = rw (I, J) (shown-reach X (shown (m + n) m side rows) (s .is-legal) full-size);
+        short-word = word-members width the-short hs ∙ ap (word-of width) (fun-ext (λ x. short-are x ∙ s .is-short x));
+      }
+
+-- ---- the judgement
+
+module _ (p n a b : ℕ) (cs ws : List ℕ) where
+  pub at-model : (r : ℕ) → r ≡ refusal p n a b cs ws → r ≢ 0 → r ≡ mixedRefusal p n a b cs ws
+  unfolding refusal mixedRefusal mixedTests
+  at-model r e h = then-refused (modelTests p n a b cs ws) (unless (mixedTest n a b) notMixed) r e h
+
+  pub at-mixed : refusal p n a b cs ws ≡ 0 → mixedTest n a b ≡ false → 10 ≡ mixedRefusal p n a b cs ws
+  unfolding refusal mixedRefusal mixedTests
+  at-mixed z e = then-passed (modelTests p n a b cs ws) (unless (mixedTest n a b) notMixed) 10 z (first-fails (mixedTest n a b) notMixed [] e)
+
+  pub at-none : refusal p n a b cs ws ≡ 0 → mixedTest n a b ≡ true → 0 ≡ mixedRefusal p n a b cs ws
+  unfolding refusal mixedRefusal mixedTests
+  at-none z e = sym (zero-then (modelTests p n a b cs ws) (unless (mixedTest n a b) notMixed) z (zero-unless (mixedTest n a b) notMixed e))
+
+  pub mixed-reads : (mixedTest n a b ≡ true) ↔ ((a ≡ b) × (a + n ≤ mostColumns))
+  unfolding mixedTest
+  mixed-reads = (
+    (λ e. (eqb-true a b (and-left (eqb a b) (leb (a + n) mostColumns) e), leb-true (a + n) mostColumns (and-right (eqb a b) (leb (a + n) mostColumns) e))),
+    λ w. and-in (eq-eqb a b (w .0)) (le-leb (a + n) mostColumns (w .1)),
+  )
+
+  pub mixed-accepted : mixedRefusal p n a b cs ws ≡ 0 → Accepted p n a a cs ws × (a + n ≤ mostColumns)
+  unfolding refusal mixedRefusal mixedTests
+  mixed-accepted e =
+      let z = then-zero (modelTests p n a b cs ws) (unless (mixedTest n a b) notMixed) e in
+      let w = mixed-reads .0 (unless-zero (mixedTest n a b) notMixed (z .1)) in
+      let h : Accepted p n a b cs ws = model-accepted p n a b cs ws (z .0) in
+      (rw (sym (w .0)) at h, w .1)

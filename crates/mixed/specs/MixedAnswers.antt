@@ -1,0 +1,34 @@
+-- What the mixed rank call promises. Definitions only.
+use Prim.Native.Nat.{ℕ, _<_}
+use mathlib.Core.Path.{_≡_}
+use mathlib.Core.Logic.{_≢_}
+use mathlib.Core.List.{List}
+use Rattle.columns.specs.Counting.Sets.{_∈_}
+use Rattle.columns.specs.Columns.{width, members, word-of}
+use Rattle.rank.specs.Layered.Rank.{short}
+use Rattle.mixed_models.specs.Mixed.{Mixed, mixed-sum, mixed-rank, mixed-verdict, layered-form, mixed}
+use Rattle.model.specs.Refusals.{mixedRefusal}
+
+-- a refusal has every other number 0 and every set empty
+pub record MixedRefused (the-verdict the-rank the-rows the-columns the-short : ℕ) : Type 0 where
+  pub no-verdict : the-verdict ≡ 0
+  pub no-rank : the-rank ≡ 0
+  pub no-rows : the-rows ≡ 0
+  pub no-columns : the-columns ≡ 0
+  pub none-short : the-short ≡ 0
+
+-- the answer to an accepted mixed model. Which rows I and columns J it shows is left open: they are rows and columns of the model and reach the rank,
+-- and this is all that holds of them.
+pub record MixedAnswered (X : Mixed) (the-verdict the-rank the-rows the-columns the-short : ℕ) : Type 0 where
+  pub is-verdict : the-verdict ≡ mixed-verdict X
+  pub is-rank : the-rank ≡ mixed-rank X
+  pub rows-below : (i : ℕ) → i ∈ members the-rows → i < X .m
+  pub columns-below : (x : ℕ) → x ∈ members the-columns → x < X .n
+  pub they-reach : mixed-sum X (members the-rows) (members the-columns) ≡ mixed-rank X
+  pub short-word : the-short ≡ word-of width (short (layered-form X))
+
+-- the mixed rank call
+pub record MixedAnswer (p n a b : ℕ) (cs ws : List ℕ) (the-refusal the-verdict the-rank the-rows the-columns the-short : ℕ) : Type 0 where
+  pub is-refusal : the-refusal ≡ mixedRefusal p n a b cs ws
+  pub if-refused : mixedRefusal p n a b cs ws ≢ 0 → MixedRefused the-verdict the-rank the-rows the-columns the-short
+  pub if-accepted : mixedRefusal p n a b cs ws ≡ 0 → MixedAnswered (mixed p a n cs ws) the-verdict the-rank the-rows the-columns the-short

@@ -1,0 +1,169 @@
+// The mixed rank call: row i is the sum of constant row i and parameter row i. It is answered through the layered form.
+ghost use mathlib.Core.Path.{_≡_};
+ghost use mathlib.Core.Logic.{_↔_};
+ghost use mathlib.Core.Bool.{true, false};
+ghost use Prim.Native.Nat.{ℕ, _+_, _*_, _<_, _≤_};
+ghost use lib.ListN.{length, getD};
+ghost use Rattle.columns.specs.Counting.Sets.{_∈_};
+ghost use Rattle.columns.specs.Columns.{members};
+ghost use Rattle.model.specs.Refusals.{mixedRefusal};
+ghost use Rattle.mixed.specs.MixedForm.{form-entry, form-row, serves};
+ghost use Rattle.mixed.specs.MixedAnswers.{MixedRefused, MixedAnswer};
+use layered::verdict_of;
+use model::MOST_COLUMNS;
+use model::judge_model;
+use model::refusals::NOT_MIXED;
+
+// The refusal or 0; the verdict, 1 where the rank equals n; the rank; rows I and columns J that reach it; and the short set of the
+// layered form.
+pub struct MixedReport {
+    pub refusal: u32,
+    pub verdict: u8,
+    pub rank: u8,
+    pub rows: u64,
+    pub columns: u64,
+    pub short: u64,
+}
+
+fn refuse(number: u32) -> MixedReport
+    ensures { λ r. ⌜ (r .refusal ≡ number) × MixedRefused (r .verdict) (r .rank) (r .rows) (r .columns) (r .short) ⌝ }
+{
+    MixedReport {
+        refusal: number,
+        verdict: 0,
+        rank: 0,
+        rows: 0,
+        columns: 0,
+        short: 0,
+    }
+}
+
+// The refusal of a mixed question, or 0.
+pub fn judge_mixed(
+    p: u32,
+    n: usize,
+    a: usize,
+    b: usize,
+    constants: &[u16],
+    parameters: &[u64],
+) -> u32
+    ensures { λ r. ⌜ r ≡ mixedRefusal p n a b (now (constants .entry)) (now (parameters .entry)) ⌝ }
+{
+    let number = judge_model(p, n, a, b, constants, parameters);
+    if number != 0 {
+        return number;
+    }
+    if a != b {
+        return NOT_MIXED;
+    }
+    if a + n > MOST_COLUMNS {
+        return NOT_MIXED;
+    }
+    0
+}
+
+// Entry k of the form's constants, row by row: the unit matrix, and behind it the constants.
+fn entry_of_form(constants: &[u16], m: usize, n: usize, k: usize) -> u16
+    requires { ⌜ (m * n ≤ length (now constants)) × (m + n ≤ 64) × (k < m * (m + n)) ⌝ }
+    ensures { λ r. ⌜ r ≡ form-entry m n (now (constants .entry)) k ⌝ }
+{
+    let width = m + n;
+    let i = k / width;
+    let j = k % width;
+    if j < m {
+        if i == j {
+            return 1;
+        }
+        return 0;
+    }
+    let at = i * n + (j - m);
+    constants[at]
+}
+
+fn fill_constants(form: &mut [u16; 4096], constants: &[u16], m: usize, n: usize)
+    requires { ⌜ (length (now form) ≡ 4096) × (m * n ≤ length (now constants)) × (m + n ≤ 64) ⌝ }
+    ensures { λ _. ⌜ (length (now (form .exit)) ≡ 4096) × ((k : ℕ) → k < m * (m + n) → getD (now (form .exit)) k 0 ≡ form-entry m n (now (constants .entry)) k) ⌝ }
+{
+    let all = m * (m + n);
+    for k in 0..all {
+        form[k] = entry_of_form(constants, m, n, k);
+    }
+}
+
+// Parameter row i of the form: a parameter at column i, and its own parameters m columns up.
+fn fill_parameters(words: &mut [u64; 64], parameters: &[u64], m: usize)
+    requires { ⌜ (length (now words) ≡ 64) × (m ≤ 64) × (m ≤ length (now parameters)) ⌝ }
+    ensures { λ _. ⌜ (length (now (words .exit)) ≡ 64) × ((i : ℕ) → i < m → members (getD (now (words .exit)) i 0) ≡ form-row m (members (getD (now (parameters .entry)) i 0)) i) ⌝ }
+{
+    for i in 0..m {
+        let own = columns::raised(parameters[i], m);
+        words[i] = columns::with(own, i);
+    }
+}
+
+fn widened(x: u8) -> usize
+    ensures { λ r. ⌜ (r ≡ x) × (r < 256) ⌝ }
+{
+    x as usize
+}
+
+// Whether the column y that a row of the form shows is an original one.
+fn serves_original(y: u8, m: usize) -> bool
+    ensures { λ r. ⌜ (r ≡ true → serves m y) × (r ≡ false → serves m y → ⊥) ⌝ }
+{
+    let column = widened(y);
+    if column < m {
+        return false;
+    }
+    column < 255
+}
+
+// The rows below m that serve no original column.
+fn idle_rows(rows: [u8; 64], m: usize) -> u64
+    requires { ⌜ m ≤ 64 ⌝ }
+    ensures { λ r. ⌜ ((i : ℕ) → (i ∈ members r) ↔ ((i < m) × (serves m (getD rows i 0) → ⊥))) ⌝ }
+{
+    let mut idle = columns::empty();
+    for i in 0..m {
+        if !serves_original(rows[i], m) {
+            idle = columns::with(idle, i);
+        }
+    }
+    idle
+}
+
+// The answer to the mixed model of p, n, m = a = b, the constants row by row and the parameter rows.
+pub fn mixed_rank(
+    p: u32,
+    n: usize,
+    a: usize,
+    b: usize,
+    constants: &[u16],
+    parameters: &[u64],
+) -> MixedReport
+    ensures { λ r. ⌜ MixedAnswer p n a b (now (constants .entry)) (now (parameters .entry)) (r .refusal) (r .verdict) (r .rank) (r .rows) (r .columns) (r .short) ⌝ }
+{
+    let number = judge_mixed(p, n, a, b, constants, parameters);
+    if number != 0 {
+        return refuse(number);
+    }
+    let mut form = [0u16; 4096];
+    fill_constants(&mut form, constants, a, n);
+    let mut words = [0u64; 64];
+    fill_parameters(&mut words, parameters, a);
+    let all = columns::below(a + n);
+    let s = exchange::solve(p, a + n, a, a, all, &form, &words);
+    let rank = s.rank - a;
+    let verdict = verdict_of(rank, n);
+    let shown = s.rows;
+    let rows = idle_rows(shown, a);
+    let columns = columns::lowered(s.constants, a);
+    MixedReport {
+        refusal: 0,
+        verdict,
+        rank: rank as u8,
+        rows,
+        columns,
+        short: s.short,
+    }
+}

@@ -1,0 +1,141 @@
+-- The table of the starred bench models: what the definitions of document 01 give for S1 to S11, for the mixed ones through the mixed theorem.
+-- Assumes nothing.
+use Prim.Native.Nat.{ℕ, _+_}
+use mathlib.Core.Path.{_≡_, refl, ap, _∙_}
+use mathlib.Core.Bool.{true, decide}
+use mathlib.Core.List.{List, [], _∷_}
+use mathlib.Core.Logic.{Dec·not}
+use native.Mathlib.Omega.{arith}
+use native.Mathlib.Decide.{ℕ-discrete, decLe, decLt}
+use Rattle.residue.specs.Arithmetic.{Prime, isPrime, undivided, invOf, last}
+use Rattle.residue.specs.Residues.{residues, res, mk, plus, times}
+use Rattle.columns.specs.Counting.Bools.{true?}
+use Rattle.columns.specs.Counting.Sets.{#, indicator, all, any, set, choose, touching}
+use Rattle.columns.specs.Counting.Beside.{beside}
+use Rattle.columns.specs.Columns.{members}
+use Rattle.rank.specs.Modulus.{modulus, modulus-at}
+use Rattle.rank.specs.Linear.Kernels.{hits}
+use Rattle.rank.specs.Linear.Tableaus.{pivot}
+use Rattle.rank.specs.Layered.Model.{Model, same-row}
+use Rattle.rank.specs.Layered.Rank.{rank, placed, short, verdict}
+use Rattle.mixed_models.specs.Model.{model-at}
+use Rattle.mixed_models.specs.Mixed.{Mixed, mixed-at, unit, mixed-rank, mixed-verdict, layered-form}
+use Rattle.mixed_models.specs.MixedTheorem.{form-rank}
+use Rattle.mixed_models.specs.Starred.Lists.{among, seats, within}
+use Rattle.mixed_models.specs.Starred.Pivots.{pivoted, owners, proper, owns}
+use Rattle.mixed_models.specs.Starred.Claims.{Claim, earlier, sits, apart, sound, rows-left, spares, spared, within-set, refuses, refused-by, places-all, below-all, passes}
+use Rattle.mixed_models.specs.Starred.Checked.{claimed}
+use Rattle.mixed_models.specs.Starred.Models.{S1, S2, S3, S4, S5, S6, S7, S8, S9, S10, S11}
+use Rattle.mixed_models.specs.Starred.Evidence.{claim-S1, claim-S2, claim-S3, claim-S4, claim-S5, claim-S6, claim-S7, claim-S8, claim-S9, claim-S10, claim-S11}
+
+-- the answer to a layered model: verdict, rank, placed set, short set
+pub record Answers (M : Model) (the-verdict the-rank : ℕ) (the-placed the-short : List ℕ) : Type 0 where
+  pub is-verdict : verdict M ≡ the-verdict
+  pub is-rank : rank M ≡ the-rank
+  pub is-placed : (x : ℕ) → placed M x ≡ among the-placed x
+  pub is-short : (x : ℕ) → short M x ≡ among the-short x
+
+-- the answer to a mixed model: verdict, rank, and the short set of the layered form
+pub record MixedAnswers (X : Mixed) (the-verdict the-rank : ℕ) (the-short : List ℕ) : Type 0 where
+  pub is-verdict : mixed-verdict X ≡ the-verdict
+  pub is-rank : mixed-rank X ≡ the-rank
+  pub is-short : (x : ℕ) → short (layered-form X) x ≡ among the-short x
+
+-- what document 01 says of S1 to S11: verdict, rank, placed set, short set
+pub record Table : Type 0 where
+  pub s1 : Answers S1 0 0 [] (0 ∷ [])
+  pub s2 : Answers S2 1 2 (0 ∷ 1 ∷ []) []
+  pub s3 : Answers S3 0 1 (0 ∷ []) (0 ∷ 1 ∷ [])
+  pub s4 : Answers S4 0 4 (0 ∷ 1 ∷ 2 ∷ 4 ∷ []) (2 ∷ 3 ∷ [])
+  pub s5 : Answers S5 0 1 (0 ∷ []) (0 ∷ 1 ∷ [])
+  pub s6 : Answers S6 1 2 (0 ∷ 1 ∷ []) []
+  pub s7 : MixedAnswers S7 1 1 []
+  pub s8 : MixedAnswers S8 0 1 (2 ∷ 3 ∷ [])
+  pub s9 : MixedAnswers S9 1 2 []
+  pub s10 : Answers S10 0 1 (0 ∷ []) (1 ∷ [])
+  pub s11 : Answers S11 1 1 (0 ∷ []) []
+
+answers : (M : Model) (c : Claim) (v : ℕ) → passes M c ≡ true → indicator (decide (ℕ-discrete (c .the-rank) (# (M .n) (M .E)))) ≡ v
+    → Answers M v (c .the-rank) (c .the-placed) (c .the-short)
+unfolding verdict
+answers M c v e f = record {
+  is-verdict = ap (λ (k : ℕ). indicator (decide (ℕ-discrete k (# (M .n) (M .E))))) (claimed M c e .0) ∙ f;
+  is-rank = claimed M c e .0;
+  is-placed = claimed M c e .1;
+  is-short = claimed M c e .2;
+}
+
+mixed-answers : (X : Mixed) (c : Claim) (v r : ℕ) → passes (layered-form X) c ≡ true → c .the-rank ≡ X .m + r → indicator (decide (ℕ-discrete r (X .n))) ≡ v
+    → MixedAnswers X v r (c .the-short)
+unfolding mixed-verdict
+mixed-answers X c v r e s f =
+    let is-r : mixed-rank X ≡ r = omega (arith, form-rank X, claimed (layered-form X) c e .0) in record {
+      is-verdict = ap (λ (k : ℕ). indicator (decide (ℕ-discrete k (X .n)))) is-r ∙ f;
+      is-rank = is-r;
+      is-short = claimed (layered-form X) c e .2;
+    }
+
+-- all that has to be opened to test the evidence
+unfoldable run : ℕ
+unfolding residues res mk plus times invOf last members # indicator any all set choose touching beside unit pivot hits same-row among seats within pivoted owners proper owns sits apart sound rows-left spares spared earlier within-set refuses refused-by places-all below-all passes decide Dec·not ℕ-discrete decLe decLt
+run = 0
+
+passes-S1 : (P : Prime 1021) → passes (model-at 1021 P 1 0 0 [] []) claim-S1 ≡ true
+unfolding run
+passes-S1 P = refl
+
+passes-S2 : (P : Prime 1021) → passes (model-at 1021 P 2 1 1 (1 ∷ 0 ∷ []) (2 ∷ [])) claim-S2 ≡ true
+unfolding run
+passes-S2 P = refl
+
+passes-S3 : (P : Prime 1021) → passes (model-at 1021 P 2 2 0 (1 ∷ 1 ∷ 1 ∷ 1 ∷ []) []) claim-S3 ≡ true
+unfolding run
+passes-S3 P = refl
+
+passes-S4 : (P : Prime 1021) → passes (model-at 1021 P 5 2 2 (1 ∷ 1 ∷ 1 ∷ 1 ∷ 0 ∷ 0 ∷ 2 ∷ 1 ∷ 1 ∷ 0 ∷ []) (17 ∷ 18 ∷ [])) claim-S4 ≡ true
+unfolding run
+passes-S4 P = refl
+
+passes-S5 : (P : Prime 3) → passes (model-at 3 P 2 2 0 (1 ∷ 2 ∷ 2 ∷ 1 ∷ []) []) claim-S5 ≡ true
+unfolding run
+passes-S5 P = refl
+
+passes-S6 : (P : Prime 1021) → passes (model-at 1021 P 2 2 0 (1 ∷ 2 ∷ 2 ∷ 1 ∷ []) []) claim-S6 ≡ true
+unfolding run
+passes-S6 P = refl
+
+passes-S10 : (P : Prime 1021) → passes (model-at 1021 P 2 0 2 [] (1 ∷ 1 ∷ [])) claim-S10 ≡ true
+unfolding run
+passes-S10 P = refl
+
+passes-S11 : (P : Prime 1021) → passes (model-at 1021 P 1 0 2 [] (1 ∷ 1 ∷ [])) claim-S11 ≡ true
+unfolding run
+passes-S11 P = refl
+
+passes-S7 : (P : Prime 1021) → passes (layered-form (mixed-at 1021 P 1 1 (1 ∷ []) (1 ∷ []))) claim-S7 ≡ true
+unfolding run
+passes-S7 P = refl
+
+passes-S8 : (P : Prime 1021) → passes (layered-form (mixed-at 1021 P 2 2 (1 ∷ 1 ∷ 1 ∷ 1 ∷ []) (0 ∷ 0 ∷ []))) claim-S8 ≡ true
+unfolding run
+passes-S8 P = refl
+
+passes-S9 : (P : Prime 1021) → passes (layered-form (mixed-at 1021 P 2 2 (1 ∷ 1 ∷ 1 ∷ 1 ∷ []) (1 ∷ 0 ∷ []))) claim-S9 ≡ true
+unfolding run
+passes-S9 P = refl
+
+pub table : Table
+unfolding modulus modulus-at true? isPrime undivided # indicator decide ℕ-discrete
+table = record {
+  s1 = answers S1 claim-S1 0 (passes-S1 (modulus 1021 .1)) refl;
+  s2 = answers S2 claim-S2 1 (passes-S2 (modulus 1021 .1)) refl;
+  s3 = answers S3 claim-S3 0 (passes-S3 (modulus 1021 .1)) refl;
+  s4 = answers S4 claim-S4 0 (passes-S4 (modulus 1021 .1)) refl;
+  s5 = answers S5 claim-S5 0 (passes-S5 (modulus 3 .1)) refl;
+  s6 = answers S6 claim-S6 1 (passes-S6 (modulus 1021 .1)) refl;
+  s7 = mixed-answers S7 claim-S7 1 1 (passes-S7 (modulus 1021 .1)) refl refl;
+  s8 = mixed-answers S8 claim-S8 0 1 (passes-S8 (modulus 1021 .1)) refl refl;
+  s9 = mixed-answers S9 claim-S9 1 2 (passes-S9 (modulus 1021 .1)) refl refl;
+  s10 = answers S10 claim-S10 0 (passes-S10 (modulus 1021 .1)) refl;
+  s11 = answers S11 claim-S11 1 (passes-S11 (modulus 1021 .1)) refl;
+}

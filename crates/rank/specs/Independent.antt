@@ -1,0 +1,26 @@
+-- Independence of constant columns modulo a prime, as a test that tries every combination of coefficients. Definitions only; assumes nothing.
+use Prim.Native.Nat.{ℕ, _-_}
+use mathlib.Core.Bool.{Bool, not, _||_, cond, decide}
+use Rattle.residue.specs.Arithmetic.{Prime}
+use Rattle.residue.specs.Fields.{Field}
+use Rattle.residue.specs.Residues.{residues, res}
+use Rattle.columns.specs.Counting.Sets.{Set, all}
+use Rattle.columns.specs.Counting.Choices.{every}
+use Rattle.rank.specs.Linear.Independence.{dot}
+
+-- a residue modulo the prime q is zero
+unfoldable pub is-zero : (q : ℕ) (P : Prime q) → residues q P .F → Bool
+is-zero q P x = decide (residues q P .decide x (residues q P .𝟘))
+
+-- a constant rows and n columns of residues modulo the prime q
+module _ (q : ℕ) (P : Prime q) (a n : ℕ) (Q : ℕ → ℕ → residues q P .F) where
+  open Field (residues q P) using (F)
+
+  -- the combination with the coefficients c is zero in each constant row
+  unfoldable pub kills : (ℕ → F) → Bool
+  kills c = all a (λ i. is-zero q P (dot (residues q P) n (Q i) c))
+
+  -- every combination of the columns in S that is zero in each constant row has only zero coefficients. The coefficient of a column in S is one of
+  -- 0 .. q - 1, that of any other column is 0.
+  unfoldable pub independent : Set → Bool
+  independent S = every (res q P) (λ x. cond (S x) (q - 1) 0) n (λ c. not (kills c) || all n (λ j. is-zero q P (c j)))

@@ -1,0 +1,1 @@
+// The theory of the layered rank: definitions and theorems alone, in specs/.

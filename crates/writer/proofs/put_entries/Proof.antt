@@ -1,0 +1,88 @@
+-- `writer::put_entries` meets its contract. The invariant: the entries before the rest are written, and those of the rest are left.
+-- The measure is the length of the rest. Assumes nothing.
+use Prim.Native.Nat.{ℕ, _/_, _%_}
+use mathlib.Core.List.{List, [], _∷_}
+use mathlib.Core.Path.{sym, ap, _∙_}
+use native.Mathlib.Omega.{arith}
+use lib.ListN.{length, getD, length-take, length-drop}
+use Rattle.model.specs.File.BodyLaws.{entries-back}
+use Rattle.model.specs.File.EntryLaws.{entry-bytes-next, entry-bytes-done}
+use Rattle.model.specs.File.Format.{entryBytes}
+use Rattle.model.specs.ListLaws.{tail-part}
+use Rattle.model.specs.OverLaws.{Wrote, wrote-none, wrote-next, wrote-all}
+use Rattle.writer.proofs.put_entries.Statement.{statement}
+use Rattle.writer.proofs.put_entries.Tie as tie
+
+abbrev Inv-loop : tie.InvT-loop
+Inv-loop out₀ row rest₀ at₀ out rest at = Wrote (entryBytes row) (entryBytes rest) out₀ out at
+
+abbrev μ-loop : tie.MeasureT-loop
+μ-loop out₀ row rest₀ at₀ out rest at = length rest
+
+loop-holds : tie.Need-loop-holds Inv-loop μ-loop
+loop-holds c = wrote-none _ _ (omega (arith, entries-back (c .before .before .args .row .now)))
+
+sub-put-two : tie.Need-sub-put-two Inv-loop μ-loop
+sub-put-two c = omega (arith, entries-back (c .before .loop .rest .now), c .before .loop .inv)
+
+part-put-two-start : tie.Need-part-put-two-start Inv-loop μ-loop
+part-put-two-start c = omega (arith, entries-back (c .before .loop .rest .now), c .before .loop .inv)
+
+part-put-two-end : tie.Need-part-put-two-end Inv-loop μ-loop
+part-put-two-end c = omega (arith, entries-back (c .before .loop .rest .now), c .before .loop .inv)
+
+shared-slice-read-put-two : tie.Need-shared-slice-read-put-two Inv-loop μ-loop
+shared-slice-read-put-two c = omega arith
+
+put-two-requires : tie.Need-put-two-requires Inv-loop μ-loop
+put-two-requires c κs = simp (length-take, length-drop) (omega (arith, entries-back (c .before .before .before .loop .rest .now), c .before .before .before .loop .inv))
+
+add-at : tie.Need-add-at Inv-loop μ-loop
+add-at c = omega (arith, entries-back (c .before .before .before .before .before .before .loop .rest .now), c .before .before .before .before .before .before .loop .inv)
+
+sub-rest : tie.Need-sub-rest Inv-loop μ-loop
+sub-rest c = omega arith
+
+part-rest-start : tie.Need-part-rest-start Inv-loop μ-loop
+part-rest-start c = omega arith
+
+part-rest-end : tie.Need-part-rest-end Inv-loop μ-loop
+part-rest-end c = omega arith
+
+loop-less : tie.Need-loop-less Inv-loop μ-loop
+loop-less c = simp (length-take, length-drop) (omega arith)
+
+loop-again : tie.Need-loop-again Inv-loop μ-loop
+loop-again c =
+    let l = c .before .before .before .before .before .before .before .loop in
+    let r = l .rest .now in
+    wrote-next (getD r 0 0 % 256 ∷ getD r 0 0 / 256 ∷ []) _ _ (l .inv)
+    (entry-bytes-next r (c .before .before .before .before .before .before .loop-test .taken) ∙ ap (λ (s : List ℕ). getD r 0 0 % 256 ∷ getD r 0 0 / 256 ∷ entryBytes s) (sym (tail-part 1 r)))
+    (c .before .before .before .put-two .ensures)
+
+same-length : tie.Need-same-length Inv-loop μ-loop
+same-length c = c .before .loop .inv .same
+
+returns : tie.Need-returns Inv-loop μ-loop
+returns c = wrote-all (c .before .loop .inv) (entry-bytes-done _ (c .loop-test .left))
+
+pub put-entries-spec : {M : Type 1} → statement M
+put-entries-spec =
+    tie.close
+    (tie.spec
+    Inv-loop
+    μ-loop
+    loop-holds
+    sub-put-two
+    part-put-two-start
+    part-put-two-end
+    shared-slice-read-put-two
+    put-two-requires
+    add-at
+    sub-rest
+    part-rest-start
+    part-rest-end
+    loop-less
+    loop-again
+    same-length
+    returns)

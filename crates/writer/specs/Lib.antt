@@ -1,0 +1,2 @@
+-- What is known of a model handed over to be written; the definitions are those of crate model.
+pub mod HandedLaws
