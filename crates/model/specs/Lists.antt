@@ -1,8 +1,9 @@
 -- Lists: tests and statements about every element, rows cut from a list, one list written over the front of another. Definitions only.
 use Prim.Native.Nat.{ℕ, zero, suc}
-use mathlib.Core.Bool.{Bool, true, _&&_}
+use mathlib.Core.Bool.{Bool, true, _&&_, cond}
 use mathlib.Core.List.{List, [], _∷_, _++_}
 use lib.ListN.{length, take, drop}
+use lib.Dec.{leb}
 
 -- every element passes the test
 unfoldable pub every : {A : Type 0} → (A → Bool) → List A → Bool
@@ -22,3 +23,7 @@ rowsOf n (suc k) xs = take n xs ∷ rowsOf n k (drop n xs)
 -- the elements xs over the front of the area; what stands behind them is unchanged
 unfoldable pub over : List ℕ → List ℕ → List ℕ
 over xs area = xs ++ drop (length xs) area
+
+-- the same where they have room there; else nothing is written
+unfoldable pub overRoom : List ℕ → List ℕ → List ℕ
+overRoom xs area = over (cond (leb (length xs) (length area)) xs []) area

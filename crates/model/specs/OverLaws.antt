@@ -1,13 +1,15 @@
 -- Writing one run of elements after another into what is left of an area. Assumes nothing.
-use Prim.Native.Nat.{ℕ, suc, _+_, _-_, _≤_}
+use Prim.Native.Nat.{ℕ, suc, _+_, _-_, _≤_, _<_}
 use mathlib.Core.Path.{_≡_, refl, sym, ap, _∙_, subst}
+use mathlib.Core.Bool.{Bool, cond}
 use mathlib.Core.List.{List, [], _∷_, _++_, append-assoc, append-nil}
 use native.Mathlib.Omega.{arith}
 use lib.ListN.{length, take, drop, set, length-append, length-drop, drop-of-length-le}
 use native.Mathlib.Nat.{le-of-eq}
 use native.Mathlib.Numerals.{add-one}
 use lib.Seq.{take-at, drop-at, drop-drop, take-all, set-split}
-use Rattle.model.specs.Lists.{over}
+use borrow.Author.Tests.{le-leb, lt-leb}
+use Rattle.model.specs.Lists.{over, overRoom}
 
 pub over-none : (d : List ℕ) → d ≡ over [] d
 unfolding over
@@ -16,6 +18,14 @@ over-none d = refl
 pub over-length : (bs d : List ℕ) → length bs ≤ length d → length (over bs d) ≡ length d
 unfolding over
 over-length bs d h = simp (length-append, length-drop) (omega arith)
+
+pub over-room : (bs d : List ℕ) → length bs ≤ length d → overRoom bs d ≡ over bs d
+unfolding overRoom
+over-room bs d h = ap (λ (b : Bool). over (cond b bs []) d) (le-leb _ _ h)
+
+pub over-no-room : (bs d : List ℕ) → length d < length bs → d ≡ overRoom bs d
+unfolding overRoom
+over-no-room bs d h = over-none d ∙ sym (ap (λ (b : Bool). over (cond b bs []) d) (lt-leb _ _ h))
 
 -- a list that was written over another is as long
 pub over-same : (bs d₀ d : List ℕ) → d ≡ over bs d₀ → length bs ≤ length d₀ → length d ≡ length d₀
@@ -79,6 +89,15 @@ wrote-next {all} {todo} {d₀} {d} {at} bs rest e w t q =
 pub wrote-run : {all todo d₀ d : List ℕ} {at : ℕ} (bs rest e : List ℕ) (k : ℕ) → Wrote all todo d₀ d at → todo ≡ bs ++ rest → e ≡ over bs (take (length d - at) (drop at d)) → length bs ≡ k
     → Wrote all rest d₀ (take at d ++ (e ++ drop (length d - at) (drop at d))) (at + k)
 wrote-run bs rest e k w t q h = rw h at (wrote-next bs rest e w t q)
+
+-- the same, by a writer that tests for room: there is room for what is still to be written
+pub wrote-room : {all todo d₀ d : List ℕ} {at : ℕ} (bs rest e : List ℕ) (k : ℕ) → Wrote all todo d₀ d at → todo ≡ bs ++ rest → e ≡ overRoom bs (take (length d - at) (drop at d)) → length bs ≡ k
+    → Wrote all rest d₀ (take at d ++ (e ++ drop (length d - at) (drop at d))) (at + k)
+wrote-room {all} {todo} {d₀} {d} {at} bs rest e k w t q h =
+    let m : length todo ≡ length bs + length rest = rw (t, length-append) in
+    let n : length (drop at d) ≡ length d - at = length-drop at d in
+    let u : length (take (length d - at) (drop at d)) ≡ length d - at = ap length (take-all (length d - at) (drop at d) (le-of-eq n)) ∙ n in
+    wrote-run bs rest e k w t (q ∙ over-room bs _ (omega (arith, w .room))) h
 
 -- the next run is one element, stored where the last one ended
 pub wrote-set : {all todo d₀ d : List ℕ} {at : ℕ} (x : ℕ) (rest : List ℕ) → Wrote all todo d₀ d at → todo ≡ x ∷ rest → Wrote all rest d₀ (set d at x) (at + 1)

@@ -4,6 +4,7 @@ mod judge;
 mod model;
 mod reader;
 pub mod refusals;
+mod sets;
 
 pub use content::LARGEST_PRIME;
 pub use content::MOST_COLUMNS;
@@ -16,3 +17,4 @@ pub use reader::judge_field;
 pub use reader::judge_file;
 pub use reader::judge_rest;
 pub use reader::open_reader;
+pub use sets::put_set;

@@ -7,9 +7,9 @@ ghost use Rattle.solvability.specs.Area.{mixed-length, mixed-bytes, Laye
 use crate::host::ANSWER_LENGTH;
 use crate::host::put_answer;
 use crate::host::put_numbers;
-use crate::host::put_set;
 use layered::layered_rank;
 use mixed::mixed_rank;
+use model::put_set;
 use model::refusals;
 
 // How many bytes a mixed answer takes.

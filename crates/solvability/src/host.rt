@@ -3,11 +3,11 @@ ghost use mathlib.Core.List.{[], _∷_};
 ghost use mathlib.Core.Path.{_≡_};
 ghost use Prim.Native.Nat.{_≤_};
 ghost use lib.ListN.{length};
-ghost use Rattle.columns.specs.Bytes.{bytesOf};
 ghost use Rattle.model.specs.Lists.{over};
 ghost use Rattle.solvability.specs.Host.{answer-length, answer-bytes, HostAnswer};
 use layered::layered_rank;
 use loader::read_file;
+use model::put_set;
 use model::refusals;
 
 // How many bytes an answer takes.
@@ -28,18 +28,6 @@ fn put_rows(out: &mut [u8], rows: [u8; 64])
     let mut at = 0;
     while at < 64 {
         out[at] = rows[at];
-        at = at + 1;
-    }
-}
-
-// The eight bytes of a set.
-pub fn put_set(out: &mut [u8], set: u64)
-    requires { ⌜ 8 ≤ length (now out) ⌝ }
-    ensures { λ _. ⌜ now (out .exit) ≡ over (bytesOf 8 set) (now (out .entry)) ⌝ }
-{
-    let mut at = 0;
-    while at < 8 {
-        out[at] = columns::byte(set, at);
         at = at + 1;
     }
 }

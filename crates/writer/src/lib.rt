@@ -10,6 +10,7 @@ ghost use Rattle.model.specs.File.Piece.{fieldBytes};
 ghost use Rattle.model.specs.File.Format.{entryBytes, encode, handedOver, fileLength, Writing};
 ghost use Rattle.model.specs.File.Steps.{constantBytes, parameterBytes};
 use model::judge_model;
+use model::put_set;
 use model::refusals;
 
 // How many bytes were written; 0 where the writing is refused.
@@ -142,18 +143,6 @@ fn put_constant_rows(out: &mut [u8], constants: &[u16], n: usize, a: usize)
         rest = &rest[n..];
         at = at + size;
         left = left - 1;
-    }
-}
-
-// The eight bytes of a set.
-fn put_set(out: &mut [u8], set: u64)
-    requires { ⌜ 8 ≤ length (now out) ⌝ }
-    ensures { λ _. ⌜ now (out .exit) ≡ over (bytesOf 8 set) (now (out .entry)) ⌝ }
-{
-    let mut at = 0;
-    while at < 8 {
-        out[at] = columns::byte(set, at);
-        at = at + 1;
     }
 }
 

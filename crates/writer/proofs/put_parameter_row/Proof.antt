@@ -7,7 +7,7 @@ use Rattle.columns.specs.Bytes.{bytesOf}
 use Rattle.model.specs.File.Piece.{fieldBytes}
 use Rattle.model.specs.File.RowLaws.{parameter-bytes}
 use Rattle.model.specs.Lists.{over}
-use Rattle.model.specs.OverLaws.{lend-next}
+use Rattle.model.specs.OverLaws.{over-room, lend-next}
 use Rattle.writer.proofs.put_parameter_row.Statement.{statement}
 use Rattle.writer.proofs.put_parameter_row.Tie as tie
 
@@ -32,7 +32,7 @@ same-length c = search needs
 returns : tie.Need-returns
 returns c =
     let a = c .before .before .before .before .before .before .before .before .before .args in
-    lend-next (fieldBytes 4 8 []) (bytesOf 8 (a .set)) (a .out .now) _ _ 3 refl (c .before .before .before .before .before .before .put-head .ensures) (c .before .before .put-set .ensures)
+    lend-next (fieldBytes 4 8 []) (bytesOf 8 (a .set)) (a .out .now) _ _ 3 refl (c .before .before .before .before .before .before .put-head .ensures) (c .before .before .put-set .ensures ∙ over-room _ _ (search needs))
     ∙ ap (λ (s : List ℕ). over s (a .out .now)) (parameter-bytes (a .set))
 
 pub put-parameter-row-spec : {M : Type 1} → statement M

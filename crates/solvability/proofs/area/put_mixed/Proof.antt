@@ -4,7 +4,7 @@ use mathlib.Core.Path.{refl, sym}
 use borrow.Author.Needs.{needs}
 use Rattle.columns.specs.Bytes.{bytesOf}
 use Rattle.solvability.specs.Area.{mixed-bytes}
-use Rattle.model.specs.OverLaws.{wrote-first, wrote-run, wrote-all}
+use Rattle.model.specs.OverLaws.{wrote-first, wrote-room, wrote-all}
 use Rattle.solvability.proofs.area.put_mixed.Statement.{statement}
 use Rattle.solvability.proofs.area.put_mixed.Tie as tie
 
@@ -58,9 +58,9 @@ returns c =
     let columns = bytesOf 8 (a .columns) in
     let short = bytesOf 8 (a .short) in
     let w₁ = wrote-first (mixed-bytes (a .verdict) (a .rank) (a .rows) (a .columns) (a .short)) (a .verdict ∷ a .rank ∷ []) (rows ++ (columns ++ short)) 2 refl (c .before .before .before .before .before .before .before .before .before .before .before .before .before .before .before .before .before .pre) (c .before .before .before .before .before .before .before .before .before .before .before .before .before .before .put-numbers .ensures) refl in
-    let w₂ = wrote-run rows (columns ++ short) _ 8 w₁ refl (c .before .before .before .before .before .before .before .before .before .before .put-set .ensures) refl in
-    let w₃ = wrote-run columns short _ 8 w₂ refl (c .before .before .before .before .before .before .put-set2 .ensures) refl in
-    wrote-all (wrote-run short [] _ 8 w₃ (sym (append-nil short)) (c .before .before .put-set3 .ensures) refl) refl
+    let w₂ = wrote-room rows (columns ++ short) _ 8 w₁ refl (c .before .before .before .before .before .before .before .before .before .before .put-set .ensures) refl in
+    let w₃ = wrote-room columns short _ 8 w₂ refl (c .before .before .before .before .before .before .put-set2 .ensures) refl in
+    wrote-all (wrote-room short [] _ 8 w₃ (sym (append-nil short)) (c .before .before .put-set3 .ensures) refl) refl
 
 pub put-mixed-spec : {M : Type 1} → statement M
 put-mixed-spec =

@@ -7,7 +7,7 @@ use lib.ListN.{length, length-append}
 use borrow.Author.Needs.{needs}
 use Rattle.columns.specs.Bytes.{bytesOf}
 use Rattle.solvability.specs.Host.{answer-bytes}
-use Rattle.model.specs.OverLaws.{wrote-first, wrote-run, wrote-all}
+use Rattle.model.specs.OverLaws.{wrote-first, wrote-run, wrote-room, wrote-all}
 use Rattle.solvability.proofs.host.put_answer.Statement.{statement}
 use Rattle.solvability.proofs.host.put_answer.Tie as tie
 
@@ -79,9 +79,9 @@ returns c =
     let one : length (placed ++ (side ++ (short ++ a .rows))) ≡ 8 + length (side ++ (short ++ a .rows)) = length-append placed (side ++ (short ++ a .rows)) in
     let len : length all ≡ suc (suc (length (placed ++ (side ++ (short ++ a .rows))))) = refl in
     let w₁ = wrote-first all (a .verdict ∷ a .rank ∷ []) (placed ++ (side ++ (short ++ a .rows))) 2 refl (omega (arith, len, one, two, three, h)) (c .before .before .before .before .before .before .before .before .before .before .before .before .before .before .before .before .before .before .put-numbers .ensures) refl in
-    let w₂ = wrote-run placed (side ++ (short ++ a .rows)) _ 8 w₁ refl (c .before .before .before .before .before .before .before .before .before .before .before .before .before .before .put-set .ensures) refl in
-    let w₃ = wrote-run side (short ++ a .rows) _ 8 w₂ refl (c .before .before .before .before .before .before .before .before .before .before .put-set2 .ensures) refl in
-    let w₄ = wrote-run short (a .rows) _ 8 w₃ refl (c .before .before .before .before .before .before .put-set3 .ensures) refl in
+    let w₂ = wrote-room placed (side ++ (short ++ a .rows)) _ 8 w₁ refl (c .before .before .before .before .before .before .before .before .before .before .before .before .before .before .put-set .ensures) refl in
+    let w₃ = wrote-room side (short ++ a .rows) _ 8 w₂ refl (c .before .before .before .before .before .before .before .before .before .before .put-set2 .ensures) refl in
+    let w₄ = wrote-room short (a .rows) _ 8 w₃ refl (c .before .before .before .before .before .before .put-set3 .ensures) refl in
     wrote-all (wrote-run (a .rows) [] _ 64 w₄ (sym (append-nil (a .rows))) (c .before .before .put-rows .ensures) (h .1)) refl
 
 pub put-answer-spec : {M : Type 1} → statement M

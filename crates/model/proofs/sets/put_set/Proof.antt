@@ -1,17 +1,17 @@
--- `host::put_set` meets its contract. The invariant: the bytes before place `at` are written, and those from it on are left.
+-- `sets::put_set` meets its contract. The invariant: the bytes before place `at` are written, and those from it on are left.
 -- The measure is how many are left. Assumes nothing.
 use Prim.Native.Nat.{ℕ, _+_, _-_, _≤_}
 use mathlib.Core.List.{_∷_}
-use mathlib.Core.Path.{_≡_, refl, ap, _∙_}
+use mathlib.Core.Path.{_≡_, refl, sym, ap, _∙_}
 use native.Mathlib.Numerals.{add-one}
 use native.Mathlib.Omega.{arith}
 use lib.ListN.{length, drop}
 use lib.Seq.{drop-cons}
 use borrow.Author.Needs.{needs}
 use Rattle.columns.specs.Bytes.{bytesOf}
-use Rattle.model.specs.OverLaws.{Wrote, wrote-none, wrote-set, wrote-all}
-use Rattle.solvability.proofs.host.put_set.Statement.{statement}
-use Rattle.solvability.proofs.host.put_set.Tie as tie
+use Rattle.model.specs.OverLaws.{over-room, over-no-room, Wrote, wrote-none, wrote-set, wrote-all}
+use Rattle.model.proofs.sets.put_set.Statement.{statement}
+use Rattle.model.proofs.sets.put_set.Tie as tie
 
 abbrev Inv-loop : tie.InvT-loop
 Inv-loop out₀ set at₀ out at = Wrote (bytesOf 8 set) (drop at (bytesOf 8 set)) out₀ out at × (at ≤ 8)
@@ -19,14 +19,17 @@ Inv-loop out₀ set at₀ out at = Wrote (bytesOf 8 set) (drop at (bytesOf 8 set
 abbrev μ-loop : tie.MeasureT-loop
 μ-loop out₀ set at₀ out at = 8 - at
 
+returns : tie.Need-returns Inv-loop μ-loop
+returns c = over-no-room _ _ (c .if1 .taken)
+
 loop-holds : tie.Need-loop-holds Inv-loop μ-loop
-loop-holds c = (wrote-none _ _ (c .before .pre), omega arith)
+loop-holds c = (wrote-none _ _ (c .if1 .left), omega arith)
 
 byte-requires : tie.Need-byte-requires Inv-loop μ-loop
 byte-requires c κs = search needs
 
 slice-write-out : tie.Need-slice-write-out Inv-loop μ-loop
-slice-write-out c = let l = c .before .before .loop in omega (arith, l .inv .0, ap length (drop-cons (bytesOf 8 (c .before .before .before .before .args .set)) (l .at) 0 (c .before .loop-test .taken)))
+slice-write-out c = let l = c .before .before .loop in omega (arith, l .inv .0, ap length (drop-cons (bytesOf 8 (c .before .before .before .before .before .args .set)) (l .at) 0 (c .before .loop-test .taken)))
 
 add-at : tie.Need-add-at Inv-loop μ-loop
 add-at c = omega arith
@@ -37,18 +40,19 @@ loop-less c = omega arith
 loop-again : tie.Need-loop-again Inv-loop μ-loop
 loop-again c =
     let l = c .before .before .loop in
-    let bytes = bytesOf 8 (c .before .before .before .before .args .set) in
+    let bytes = bytesOf 8 (c .before .before .before .before .before .args .set) in
     let next : drop (l .at) bytes ≡ c .byte .result ∷ drop (l .at + 1) bytes = drop-cons bytes (l .at) 0 (c .before .loop-test .taken) ∙ rw (c .byte .ensures, add-one) refl in
     (wrote-set (c .byte .result) _ (l .inv .0) next, omega arith)
 
 same-length : tie.Need-same-length Inv-loop μ-loop
 same-length c = c .before .loop .inv .0 .same
 
-returns : tie.Need-returns Inv-loop μ-loop
-returns c =
+returns-2 : tie.Need-returns-2 Inv-loop μ-loop
+returns-2 c =
     let l = c .before .loop in
+    let a = c .before .before .before .before .args in
     let all : l .at ≡ 8 = omega arith in
-    wrote-all (l .inv .0) (ap (λ (k : ℕ). drop k (bytesOf 8 (c .before .before .before .args .set))) all)
+    wrote-all (l .inv .0) (ap (λ (k : ℕ). drop k (bytesOf 8 (a .set))) all) ∙ sym (over-room (bytesOf 8 (a .set)) (a .out .now) (c .before .before .if1 .left))
 
 pub put-set-spec : {M : Type 1} → statement M
 put-set-spec =
@@ -56,6 +60,7 @@ put-set-spec =
     (tie.spec
     Inv-loop
     μ-loop
+    returns
     loop-holds
     byte-requires
     slice-write-out
@@ -63,4 +68,4 @@ put-set-spec =
     loop-less
     loop-again
     same-length
-    returns)
+    returns-2)
