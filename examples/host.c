@@ -11,14 +11,14 @@
 #include "wundreska.h"
 
 static const char *const reasons[] = {
-    [WUNDRESKA_CUT] = "the file ends within a field",
-    [WUNDRESKA_NOT_DUE] = "a tag or length is not the one due",
+    [WUNDRESKA_TRUNCATED] = "the file ends within a field",
+    [WUNDRESKA_UNEXPECTED] = "a tag or length is not the one due",
     [WUNDRESKA_NOT_PRIME] = "p is not a prime up to 65521",
-    [WUNDRESKA_BAD_SIZE] = "n, a or b is beyond its limit",
-    [WUNDRESKA_LARGE_CONSTANT] = "a constant is p or more",
-    [WUNDRESKA_FAR_PARAMETER] = "a parameter stands at column n or later",
+    [WUNDRESKA_SIZES_BEYOND] = "n, a or b is beyond its limit",
+    [WUNDRESKA_CONSTANT_BEYOND] = "a constant is p or more",
+    [WUNDRESKA_PARAMETER_BEYOND] = "a parameter stands at column n or later",
     [WUNDRESKA_TRAILING] = "bytes follow the end field",
-    [WUNDRESKA_SHORT_AREA] = "the answer area is too short",
+    [WUNDRESKA_AREA_SHORT] = "the answer area is too short",
 };
 
 /* Stands for the host's own solver. */

@@ -54,15 +54,15 @@ extern "C" {
 /* What the call returns. */
 #define WUNDRESKA_ACCEPTED 0
 /* Whoever wrote the file causes these. */
-#define WUNDRESKA_CUT 1            /* fewer than three bytes remain for a field's head, or fewer than its length for its body */
-#define WUNDRESKA_NOT_DUE 2        /* the tag or length is not the one due */
-#define WUNDRESKA_NOT_PRIME 3      /* p is not prime (0 and 1 are not) or is above 65,521 */
-#define WUNDRESKA_BAD_SIZE 4       /* n, a or b is beyond its limit */
-#define WUNDRESKA_LARGE_CONSTANT 5 /* a constant is p or more */
-#define WUNDRESKA_FAR_PARAMETER 6  /* a parameter stands at column n or later */
-#define WUNDRESKA_TRAILING 7       /* bytes follow the end field */
+#define WUNDRESKA_TRUNCATED 1        /* fewer than three bytes remain for a field's head, or fewer than its length for its body */
+#define WUNDRESKA_UNEXPECTED 2       /* the tag or length is not the one due */
+#define WUNDRESKA_NOT_PRIME 3        /* p is not prime (0 and 1 are not) or is above 65,521 */
+#define WUNDRESKA_SIZES_BEYOND 4     /* n, a or b is beyond its limit */
+#define WUNDRESKA_CONSTANT_BEYOND 5  /* a constant is p or more */
+#define WUNDRESKA_PARAMETER_BEYOND 6 /* a parameter stands at column n or later */
+#define WUNDRESKA_TRAILING 7         /* bytes follow the end field */
 /* The calling program causes this one. It comes after all others: only a sound file can meet it. */
-#define WUNDRESKA_SHORT_AREA 8     /* answer_len is below WUNDRESKA_ANSWER_SIZE */
+#define WUNDRESKA_AREA_SHORT 8       /* answer_len is below WUNDRESKA_ANSWER_SIZE */
 
 /* Judges the file from its front (for each field: head, tag and length, body, content) and returns the first refusal met,
  * or WUNDRESKA_ACCEPTED.

@@ -1,4 +1,4 @@
-// A set of columns as one word: column x is in the set if bit x of the word is 1. Nothing outside this file touches bits.
+// A set of columns as one word: column x is in the set if bit x of the word is 1. No other library touches bits.
 // Every function is total: a column from 64 on is in no set, and putting it into one changes nothing.
 ghost use mathlib.Core.Path.{_≡_};
 ghost use Prim.Native.Nat.{_+_};

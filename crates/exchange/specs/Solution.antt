@@ -12,7 +12,7 @@ use Rattle.columns.specs.Counting.Counts.{some?}
 use Rattle.rank.specs.Layered.Model.{Model, Seat, out, constant, row, Assignment, placing, constants, Legal}
 use Rattle.rank.specs.Layered.Rank.{rank, placed, short}
 
--- the first parameter row below b that shows column x, or out
+-- a parameter row below b that shows column x, or out; where an answer is legal there is at most one
 unfoldable pub shown-row : (b : ℕ) (rows : List ℕ) (x : ℕ) → Dec (Some b (λ r. getD rows r 0 ≡ x)) → Seat
 shown-row b rows x (yes w) = row (w .0)
 shown-row b rows x (no nw) = out

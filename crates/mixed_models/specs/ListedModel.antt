@@ -8,7 +8,6 @@ use Rattle.residue.specs.Arithmetic.{Prime}
 use Rattle.residue.specs.Residues.{residues, res}
 use Rattle.columns.specs.Counting.Sets.{Set}
 use Rattle.columns.specs.Columns.{members}
-use Rattle.rank.specs.Modulus.{modulus}
 use Rattle.rank.specs.ModelModulo.{model-modulo}
 use Rattle.rank.specs.Layered.Model.{Model}
 
@@ -23,7 +22,3 @@ parameters ws r x = members (getD ws r 0) x
 -- the model modulo the prime q
 abbrev pub listed-at : (q : ℕ) → Prime q → (n a b : ℕ) → List ℕ → List ℕ → Set → Model
 listed-at q P n a b cs ws E = model-modulo q P n a b (entries q P n cs) (parameters ws) E
-
--- the model modulo p; where p is not prime it stands for 2
-abbrev pub listed-model : (p n a b : ℕ) → List ℕ → List ℕ → Set → Model
-listed-model p n a b cs ws E = listed-at (modulus p .0) (modulus p .1) n a b cs ws E

@@ -1,4 +1,4 @@
--- The reading of every refusal number: of a model handed over, and of a file that is judged, read into areas, written or looked up in.
+-- The reading of the refusal numbers 1 to 9: of a model handed over, and of a file that is judged, read into areas, written or looked up in.
 -- A number is given exactly where its cause holds and none that is judged before it. Assumes nothing.
 use Prim.Native.Nat.{ℕ, _*_}
 use mathlib.Core.Path.{_≡_}

@@ -1,4 +1,4 @@
--- What each test says, and what holds of a model handed over that is accepted. Assumes nothing.
+-- What each test of a model, a file, an area or a row says, and what holds of a model handed over that is accepted. Assumes nothing.
 use Prim.Native.Nat.{ℕ, _+_, _-_, _*_, _≤_, _<_}
 use mathlib.Core.Path.{_≡_, sym, ap, _∙_}
 use mathlib.Core.Logic.{_↔_}
@@ -115,8 +115,3 @@ module _ {p n a b : ℕ} {cs ws : List ℕ} (h : Accepted p n a b cs ws) where
   constant-below k l =
       let len = length-take-le (a * n) cs (h .constants-lent) in
       rw (getD-take (a * n) cs k 0 l) at (all-at (λ c. c < p) (take (a * n) cs) 0 (h .constants-below) k (omega arith))
-
-  pub parameter-within : (r : ℕ) → r < b → within n (getD ws r 0) ≡ true
-  parameter-within r l =
-      let len = length-take-le b ws (h .parameters-lent) in
-      sym (ap (within n) (getD-take b ws r 0 l)) ∙ all-at (λ w. within n w ≡ true) (take b ws) 0 (h .parameters-within) r (omega arith)

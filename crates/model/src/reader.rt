@@ -26,7 +26,7 @@ pub fn judge_field<'a>(reader: Reader<'a>, tag: u8, size: usize) -> u32
     judge_head(reader.rest, tag, size)
 }
 
-// The reader after a field with a body of that size, or at the end where there is less.
+// The reader after a field with a body of that size; its rest is empty where there is less.
 pub fn after_field<'a>(reader: Reader<'a>, size: usize) -> Reader<'a>
     ensures { λ r. ⌜ now (r .rest) ≡ drop size (drop 3 (now (reader .entry .rest))) ⌝ }
 {

@@ -17,10 +17,10 @@ module _ (q : ℕ) (P : Prime q) (a n : ℕ) (Q : ℕ → ℕ → residues q P .
   open Field (residues q P) using (F)
 
   -- the combination with the coefficients c is zero in each constant row
-  unfoldable pub kills : (ℕ → F) → Bool
-  kills c = all a (λ i. is-zero q P (dot (residues q P) n (Q i) c))
+  unfoldable pub in-kernel : (ℕ → F) → Bool
+  in-kernel c = all a (λ i. is-zero q P (dot (residues q P) n (Q i) c))
 
   -- every combination of the columns in S that is zero in each constant row has only zero coefficients. The coefficient of a column in S is one of
   -- 0 .. q - 1, that of any other column is 0.
   unfoldable pub independent : Set → Bool
-  independent S = every (res q P) (λ x. cond (S x) (q - 1) 0) n (λ c. not (kills c) || all n (λ j. is-zero q P (c j)))
+  independent S = every (res q P) (λ x. cond (S x) (q - 1) 0) n (λ c. not (in-kernel c) || all n (λ j. is-zero q P (c j)))

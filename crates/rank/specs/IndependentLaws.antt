@@ -12,9 +12,9 @@ use Rattle.columns.specs.Counting.Bools.{true?, implies, implied}
 use Rattle.columns.specs.Counting.Sets.{Set, all, choose}
 use Rattle.columns.specs.Counting.Counts.{all-iff}
 use Rattle.columns.specs.Counting.ChoiceLaws.{Chosen, every-iff, cond-true, cond-false}
-use Rattle.rank.specs.Linear.Independence.{dot, In, Kills, Indep}
+use Rattle.rank.specs.Linear.Independence.{dot, In, InKernel, Indep}
 use Rattle.rank.specs.Linear.Sums.{dot-cong}
-use Rattle.rank.specs.Independent.{is-zero, kills, independent}
+use Rattle.rank.specs.Independent.{is-zero, in-kernel, independent}
 
 module _ (q : ℕ) (P : Prime q) (n : ℕ) where
   open Field (residues q P) using (F)
@@ -38,9 +38,9 @@ module _ (q : ℕ) (P : Prime q) (a n : ℕ) (Q : ℕ → ℕ → residues q P .
   unfolding is-zero
   zero-iff x = decide-iff (residues q P .decide x 𝟘)
 
-  pub kills-iff : (c : ℕ → F) → (kills q P a n Q c ≡ true) ↔ Kills (residues q P) a n Q c
-  unfolding kills
-  kills-iff c = (
+  pub kernel-iff : (c : ℕ → F) → (in-kernel q P a n Q c ≡ true) ↔ InKernel (residues q P) a n Q c
+  unfolding in-kernel
+  kernel-iff c = (
     λ e i l. zero-iff _ .0 (all-iff a (λ i. is-zero q P (dot (residues q P) n (Q i) c)) .0 e i l),
     λ k. all-iff a (λ i. is-zero q P (dot (residues q P) n (Q i) c)) .1 (λ i l. zero-iff _ .1 (k i l)),
   )
@@ -79,13 +79,13 @@ module _ (q : ℕ) (P : Prime q) (a n : ℕ) (Q : ℕ → ℕ → residues q P .
     independent-iff = (
       λ e. record {
         only-zero = λ c h k j l.
-            let t : (not (kills q P a n Q (cut q P n c)) || all n (λ j. is-zero q P (cut q P n c j))) ≡ true
-            = every-iff (res q P) last-choice n (λ c. not (kills q P a n Q c) || all n (λ j. is-zero q P (c j))) .0 e (cut q P n c) (cut-chosen c h) in
-            let kc : kills q P a n Q (cut q P n c) ≡ true = kills-iff (cut q P n c) .1 (λ i li. dot-cong (residues q P) n (Q i) (cut q P n c) c (cut-below q P n c) ∙ k i li) in
+            let t : (not (in-kernel q P a n Q (cut q P n c)) || all n (λ j. is-zero q P (cut q P n c j))) ≡ true
+            = every-iff (res q P) last-choice n (λ c. not (in-kernel q P a n Q c) || all n (λ j. is-zero q P (c j))) .0 e (cut q P n c) (cut-chosen c h) in
+            let kc : in-kernel q P a n Q (cut q P n c) ≡ true = kernel-iff (cut q P n c) .1 (λ i li. dot-cong (residues q P) n (Q i) (cut q P n c) c (cut-below q P n c) ∙ k i li) in
             sym (cut-below q P n c j l) ∙ zero-iff _ .0 (all-iff n (λ j. is-zero q P (cut q P n c j)) .0
-            (implied (kills q P a n Q (cut q P n c)) (all n (λ j. is-zero q P (cut q P n c j))) t kc) j l);
+            (implied (in-kernel q P a n Q (cut q P n c)) (all n (λ j. is-zero q P (cut q P n c j))) t kc) j l);
       },
-      λ i. every-iff (res q P) last-choice n (λ c. not (kills q P a n Q c) || all n (λ j. is-zero q P (c j))) .1 (λ c h.
-          implies (kills q P a n Q c) (all n (λ j. is-zero q P (c j)))
-          (λ k. all-iff n (λ j. is-zero q P (c j)) .1 (λ j l. zero-iff _ .1 (i .only-zero c (chosen-in c h) (kills-iff c .0 k) j l)))),
+      λ i. every-iff (res q P) last-choice n (λ c. not (in-kernel q P a n Q c) || all n (λ j. is-zero q P (c j))) .1 (λ c h.
+          implies (in-kernel q P a n Q c) (all n (λ j. is-zero q P (c j)))
+          (λ k. all-iff n (λ j. is-zero q P (c j)) .1 (λ j l. zero-iff _ .1 (i .only-zero c (chosen-in c h) (kernel-iff c .0 k) j l)))),
     )

@@ -3,6 +3,7 @@ use Prim.Native.Nat.{ℕ}
 use mathlib.Core.Path.{_≡_}
 use mathlib.Core.Logic.{_≢_}
 use mathlib.Core.List.{List}
+use lib.ListN.{length}
 use Rattle.rank.specs.Layered.Model.{Model}
 use Rattle.model.specs.File.Format.{judge}
 use Rattle.layered.specs.Answers.{Answered}
@@ -17,6 +18,7 @@ pub record AnswerReported (M : Model) (out : List ℕ) (len : ℕ) (out′ : Lis
   pub the-side : ℕ
   pub the-short : ℕ
   pub rows : List ℕ
+  pub row-count : length rows ≡ 64
   pub is-answer : Answered M the-verdict the-rank the-placed the-side the-short rows
   pub reports-it : Reporting (answer-text the-verdict the-rank the-side the-short rows) out len out′
 

@@ -21,9 +21,9 @@ module _ (s : List ℕ) (bytes : AreBytes s) (out : List ℕ) (len : ℕ) (out�
       record { if-refused = λ _. reporting-as (ap refused-line j) w; if-accepted = λ z. absurd (h (j ∙ z)) }
 
   pub answer-reported : (p n a b : ℕ) (cs′ ws′ : List ℕ) → Reading s own-constants own-parameters 0 p n a b cs′ ws′
-      → (the-refusal the-verdict the-rank the-placed the-side the-short : ℕ) (rows : List ℕ) → LayeredAnswer p n a b cs′ ws′ the-refusal the-verdict the-rank the-placed the-side the-short rows
+      → (the-refusal the-verdict the-rank the-placed the-side the-short : ℕ) (rows : List ℕ) → length rows ≡ 64 → LayeredAnswer p n a b cs′ ws′ the-refusal the-verdict the-rank the-placed the-side the-short rows
       → Reporting (report-text the-refusal the-verdict the-rank the-side the-short rows) out len out′ → FileReport s out len out′
-  answer-reported p n a b cs′ ws′ r the-refusal the-verdict the-rank the-placed the-side the-short rows h w =
+  answer-reported p n a b cs′ ws′ r the-refusal the-verdict the-rank the-placed the-side the-short rows k h w =
       let ok = own-accepted s bytes p n a b cs′ ws′ r in
       record {
         if-refused = λ z. absurd (z (judged s bytes p n a b cs′ ws′ r));
@@ -34,6 +34,7 @@ module _ (s : List ℕ) (bytes : AreBytes s) (out : List ℕ) (len : ℕ) (out�
           the-side = the-side;
           the-short = the-short;
           rows = rows;
+          row-count = k;
           is-answer = subst (λ (M : Model). Answered M the-verdict the-rank the-placed the-side the-short rows) (own-model s bytes p n a b cs′ ws′ r) (h .if-accepted ok);
           reports-it = reporting-as (report-answer _ _ _ _ _ _ (h .is-refusal ∙ ok)) w;
         };

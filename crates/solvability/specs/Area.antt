@@ -1,26 +1,15 @@
 -- The rank calls for a caller that lends an area for the answer's bytes. Definitions only.
 use Prim.Native.Nat.{ℕ}
 use mathlib.Core.Path.{_≡_}
-use mathlib.Core.Logic.{_≢_}
 use mathlib.Core.List.{List, _∷_, _++_}
-use lib.ListN.{length}
 use Rattle.columns.specs.Bytes.{bytesOf}
 use Rattle.model.specs.Lists.{over}
 use Rattle.mixed_models.specs.Model.{model}
 use Rattle.mixed_models.specs.Mixed.{Mixed, mixed}
-use Rattle.model.specs.Refusals.{Tests, unless, _then_, firstRefusal, areaShort, areaTest, modelTests, mixedTests}
+use Rattle.model.specs.Refusals.{modelTests, mixedTests}
 use Rattle.mixed.specs.MixedAnswers.{MixedAnswered}
+use Rattle.solvability.specs.AreaCall.{AreaCall}
 use Rattle.solvability.specs.Host.{answer-length, AnswerWritten}
-
--- as the model is judged, then 8 for the area of at least so many bytes
-unfoldable pub area-refusal : Tests → ℕ → List ℕ → ℕ
-area-refusal tests least area = firstRefusal (tests then unless (areaTest least (length area)) areaShort)
-
--- a call that lends an area: the number; where it refuses, the area is as it was; where not, what is written
-pub record AreaCall (tests : Tests) (least : ℕ) (Written : List ℕ → List ℕ → Type 0) (area : List ℕ) (number : ℕ) (area′ : List ℕ) : Type 0 where
-  pub is-number : number ≡ area-refusal tests least area
-  pub if-refused : area-refusal tests least area ≢ 0 → area′ ≡ area
-  pub if-accepted : area-refusal tests least area ≡ 0 → Written area area′
 
 -- the layered call: the 90 bytes of the C call
 unfoldable pub LayeredBytes : (p n a b : ℕ) (cs ws area : List ℕ) (number : ℕ) (area′ : List ℕ) → Type 0

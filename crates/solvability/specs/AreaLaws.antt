@@ -9,7 +9,7 @@ use borrow.Author.Tests.{lt-leb}
 use Rattle.model.specs.Refusals.{Tests, firstRefusal, areaShort, areaTest}
 use Rattle.model.specs.RefusalLaws.{then-refused, then-passed, zero-then, zero-unless, first-fails}
 use Rattle.model.specs.TestLaws.{area-reads}
-use Rattle.solvability.specs.Area.{area-refusal, AreaCall}
+use Rattle.solvability.specs.AreaCall.{area-refusal, AreaCall}
 
 module _ (tests : Tests) (least : ℕ) (Written : List ℕ → List ℕ → Type 0) (area : List ℕ) where
   pub area-refused : (r : ℕ) → r ≡ firstRefusal tests → r ≢ 0 → AreaCall tests least Written area r area

@@ -1,17 +1,16 @@
 -- Document 01, "The host and the program": the C call. Definitions only.
 use Prim.Native.Nat.{ℕ}
 use mathlib.Core.Path.{_≡_}
-use mathlib.Core.Logic.{_≢_}
 use mathlib.Core.List.{List, _∷_, _++_}
 use lib.ListN.{length}
 use Rattle.columns.specs.Bytes.{bytesOf}
 use Rattle.rank.specs.Layered.Model.{Model}
 use Rattle.model.specs.Lists.{over}
-use Rattle.model.specs.Refusals.{unless, _then_, firstRefusal, areaShort, areaTest}
 use Rattle.layered.specs.Answers.{Answered}
 use Rattle.layered.specs.FileModel.{file-model}
 use Rattle.model.specs.File.Piece.{closed}
 use Rattle.model.specs.File.Format.{fields}
+use Rattle.solvability.specs.AreaCall.{AreaCall}
 
 -- the least answer area
 abbrev pub answer-length : ℕ
@@ -20,10 +19,6 @@ answer-length = 90
 -- verdict, rank, placed set, constant side, short set, and the 64 row columns
 unfoldable pub answer-bytes : (the-verdict the-rank the-placed the-side the-short : ℕ) → List ℕ → List ℕ
 answer-bytes the-verdict the-rank the-placed the-side the-short rows = the-verdict ∷ the-rank ∷ (bytesOf 8 the-placed ++ (bytesOf 8 the-side ++ (bytesOf 8 the-short ++ rows)))
-
--- 1 to 7 as the file is judged, then 8 for the area
-unfoldable pub host-refusal : (file area : List ℕ) → ℕ
-host-refusal file area = firstRefusal (closed fields file then unless (areaTest answer-length (length area)) areaShort)
 
 -- the answer written over the front of the area: its numbers, sets and rows are those of the layered rank call for the model in the file, with
 -- demand 3 of the rank and the short set among them (`Answered`)
@@ -38,8 +33,6 @@ pub record AnswerWritten (M : Model) (area area′ : List ℕ) : Type 0 where
   pub is-answer : Answered M the-verdict the-rank the-placed the-side the-short rows
   pub bytes-are : area′ ≡ over (answer-bytes the-verdict the-rank the-placed the-side the-short rows) area
 
--- the call: the number; where it refuses, the area is as it was
-pub record HostAnswer (file area : List ℕ) (number : ℕ) (area′ : List ℕ) : Type 0 where
-  pub is-number : number ≡ host-refusal file area
-  pub if-refused : host-refusal file area ≢ 0 → area′ ≡ area
-  pub if-accepted : host-refusal file area ≡ 0 → AnswerWritten (file-model file) area area′
+-- the call: 1 to 7 as the file is judged, then 8 for the area; where it refuses, the area is as it was
+unfoldable pub HostAnswer : (file area : List ℕ) (number : ℕ) (area′ : List ℕ) → Type 0
+HostAnswer file area number area′ = AreaCall (closed fields file) answer-length (AnswerWritten (file-model file)) area number area′

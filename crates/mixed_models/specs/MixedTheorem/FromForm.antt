@@ -15,7 +15,7 @@ use Rattle.columns.specs.Counting.Beside.{beside}
 use Rattle.columns.specs.Counting.Blocks.{#-plus, beside-low, beside-high, low-or-high}
 use Rattle.columns.specs.Counting.Choices.{Part, largest-part}
 use Rattle.columns.specs.Counting.ChoiceLaws.{part-le}
-use Rattle.rank.specs.Linear.Independence.{dot, Kills}
+use Rattle.rank.specs.Linear.Independence.{dot, InKernel}
 use Rattle.rank.specs.Linear.Kernels.{Same, hits, hits-iff, indep-sub, indep-count}
 use Rattle.rank.specs.Layered.Model.{Seat, out, constant, row, Assignment, is-placed, is-constant, placing, constants, Legal, size}
 use Rattle.rank.specs.Layered.Rank.{constant-rank}
@@ -139,7 +139,7 @@ module _ (X : Mixed) where
       unfolding stacked
       stacked-high i = beside-high m P (rows-in K displaced Q) i
 
-      module _ (c : ℕ → F) (s : (x : ℕ) → J x ≢ true → c x ≡ 𝟘) (z : Kills K (m + m) n stacked c) where
+      module _ (c : ℕ → F) (s : (x : ℕ) → J x ≢ true → c x ≡ 𝟘) (z : InKernel K (m + m) n stacked c) where
         -- c as coefficients of the form: what row i leaves of it goes on unit i
         lifted : ℕ → F
         lifted = beside m (λ i. neg (dot K n (Q i) c)) c
@@ -169,7 +169,7 @@ module _ (X : Mixed) where
             ]) ∙ neg-zero K)
             (λ x e. ap lifted e ∙ lifted-high x ∙ s x (λ t. nc (ap (λ (k : ℕ). is-constant (A k)) e ∙ t)))
 
-        lifted-killed : Kills K m (m + n) (form-constants X) lifted
+        lifted-killed : InKernel K m (m + n) (form-constants X) lifted
         lifted-killed i l = form-dot X i lifted l
             ∙ ap (λ (v : F). K ._+_ v (dot K n (Q i) (λ x. lifted (m + x)))) (lifted-low i l)
             ∙ ap (λ (f : ℕ → F). K ._+_ (neg (dot K n (Q i) c)) (dot K n (Q i) f)) (fun-ext lifted-high)

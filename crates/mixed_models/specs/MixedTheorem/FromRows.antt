@@ -14,7 +14,7 @@ use Rattle.columns.specs.Counting.Beside.{beside}
 use Rattle.columns.specs.Counting.Blocks.{#-plus, beside-low, beside-high, low-or-high}
 use Rattle.columns.specs.Counting.Choices.{Part, largest-part}
 use Rattle.columns.specs.Counting.ChoiceLaws.{part-at}
-use Rattle.rank.specs.Linear.Independence.{dot, Kills, Indep}
+use Rattle.rank.specs.Linear.Independence.{dot, InKernel, Indep}
 use Rattle.rank.specs.Linear.Sums.{dot-zero}
 use Rattle.rank.specs.Layered.Model.{Seat, constant, row, Assignment, is-placed, is-constant, placing, constants, Legal, size}
 use Rattle.rank.specs.Layered.Rank.{rank}
@@ -56,7 +56,7 @@ module _ (X : Mixed) where
       | no ni ↦ absurd (true≢false (ap is-constant (sym (raised-out j l (not-true (I j) ni)) ∙ e)))
     ]
 
-    module _ (c : ℕ → F) (s : (j : ℕ) → constants raised j ≢ true → c j ≡ 𝟘) (z : Kills K m (m + n) (form-constants X) c) where
+    module _ (c : ℕ → F) (s : (j : ℕ) → constants raised j ≢ true → c j ≡ 𝟘) (z : InKernel K m (m + n) (form-constants X) c) where
       -- the coefficients of the original columns
       abbrev up : ℕ → F
       up x = c (m + x)
@@ -64,7 +64,7 @@ module _ (X : Mixed) where
       row-zero : (i : ℕ) → i < m → K ._+_ (c i) (dot K n (Q i) up) ≡ 𝟘
       row-zero i l = sym (form-dot X i c l) ∙ z i l
 
-      up-killed : Kills K m n (rows-in K I Q) up
+      up-killed : InKernel K m n (rows-in K I Q) up
       up-killed i l = elim (true? (I i)) [
         | yes e ↦ ap (λ (r : ℕ → F). dot K n r up) (rows-yes K I Q i e) ∙ sym (zero-add K (dot K n (Q i) up)) ∙ ap (λ (v : F). K ._+_ v (dot K n (Q i) up)) (sym (s i (λ t. false≢true (sym (ap is-constant (raised-in i l e)) ∙ t)))) ∙ row-zero i l
         | no ne ↦ rows-no-dot K n I Q i up (not-true (I i) ne)

@@ -1,4 +1,4 @@
--- What the private functions promise on the way: the parts of a file as they are written and read. Definitions only.
+-- What private functions of crates loader and writer promise on the way: the parts of a file as they are written and read. Definitions only.
 use Prim.Native.Nat.{ℕ, zero, suc, _+_, _*_, _≤_}
 use mathlib.Core.Path.{_≡_}
 use mathlib.Core.List.{List, [], _∷_, _++_}

@@ -81,15 +81,6 @@ module _ (M : Model) (s : StateOf M) (g : Good M s) where
       (λ e. elim (from-open x (reach-iff x .0 e .1)) [ inl k ↦ k | inr d ↦ absurd (true≢false (sym (reach-iff x .0 e .2) ∙ d)) ])
       (λ e. reach-iff x .1 (l, elim (layer-into s open-columns (unplaced s) (λ y. ⊥) (λ y o. inl (and-left (unplaced s y) (E y) o)) (λ y z d k. d) n x e) [ inl k ↦ k | inr d ↦ absurd d ], open-offered x l e))
 
-  pub closed-open : Closed s (layer s open-columns n) → Closed s (layer s (unplaced s) n)
-  closed-open c = record {
-    no-terminal = λ x l e t. elim (from-open x e) [
-      | inl k ↦ c .no-terminal x l k t
-      | inr d ↦ true≢false (sym (touches-offered (t .0) x (t .2 .1)) ∙ d)
-    ];
-    closed = stable s (unplaced s);
-  }
-
   -- where that search meets no terminal column
   module _ (c : Closed s (layer s (unplaced s) n)) where
     sum-le : sum M reach ≤ # n (placed-of s)

@@ -23,10 +23,10 @@ module _ (K : Field) where
   In S c = (j : ℕ) → S j ≢ true → c j ≡ 𝟘
 
   module _ (a n : ℕ) where
-    -- each of the a rows of P, times c, is zero
-    abbrev pub Kills : (ℕ → ℕ → F) → (ℕ → F) → Type 0
-    Kills P c = (i : ℕ) → i < a → dot n (P i) c ≡ 𝟘
+    -- c is in the kernel: each of the a rows of P, times c, is zero
+    abbrev pub InKernel : (ℕ → ℕ → F) → (ℕ → F) → Type 0
+    InKernel P c = (i : ℕ) → i < a → dot n (P i) c ≡ 𝟘
 
     -- the columns of P in S are independent
     pub record Indep (P : ℕ → ℕ → F) (S : Set) : Type 0 where
-      pub only-zero : (c : ℕ → F) → In S c → Kills P c → (j : ℕ) → j < n → c j ≡ 𝟘
+      pub only-zero : (c : ℕ → F) → In S c → InKernel P c → (j : ℕ) → j < n → c j ≡ 𝟘

@@ -8,7 +8,7 @@ use native.Mathlib.Omega.{arith}
 use Rattle.residue.specs.Fields.{Field}
 use Rattle.columns.specs.Counting.Sets.{#, _⊆_, touching}
 use Rattle.columns.specs.Counting.Counts.{touching-iff}
-use Rattle.rank.specs.Linear.Independence.{Indep, Kills}
+use Rattle.rank.specs.Linear.Independence.{Indep, InKernel}
 use Rattle.rank.specs.Linear.Systems.{Touches, solve, touches?, untouched}
 
 module _ (K : Field) (a n : ℕ) where
@@ -16,7 +16,7 @@ module _ (K : Field) (a n : ℕ) where
 
   -- P and Q have one kernel
   pub record Same (P Q : ℕ → ℕ → F) : Type 0 where
-    pub kernel : (c : ℕ → F) → Kills K a n P c ↔ Kills K a n Q c
+    pub kernel : (c : ℕ → F) → InKernel K a n P c ↔ InKernel K a n Q c
 
 -- row h of P has an entry in column x that is not zero
 unfoldable pub hits : (K : Field) → (ℕ → ℕ → K .F) → ℕ → ℕ → Bool

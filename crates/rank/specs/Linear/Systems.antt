@@ -34,7 +34,7 @@ module _ (K : Field) (n : ℕ) where
     pub solves : (i : ℕ) → i < N → R i ≡ true → dot K n (A i) c ≡ 𝟘
 
   module _ (R : ℕ → Bool) where
-    -- a solution that one more row kills, if that row is in R
+    -- a solution that one more row in-kernel, if that row is in R
     more : (N : ℕ) (A : ℕ → ℕ → F) (S : ℕ → Bool) (s : Solution R N A S) → (R N ≡ true → dot K n (A N) (s .c) ≡ 𝟘) → Solution R (suc N) A S
     more N A S s h = record {
       c = s .c;

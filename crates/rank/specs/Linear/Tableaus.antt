@@ -9,7 +9,7 @@ use native.Mathlib.Omega.{arith}
 use Rattle.residue.specs.Fields.{Field, ring, mul-zero, zero-mul, one-mul, unmul}
 use Rattle.columns.specs.Counting.Sets.{Some, _⊆_, set}
 use Rattle.columns.specs.Counting.Counts.{set-other, set-same, some?}
-use Rattle.rank.specs.Linear.Independence.{Indep, Kills, dot}
+use Rattle.rank.specs.Linear.Independence.{Indep, InKernel, dot}
 use Rattle.rank.specs.Linear.Sums.{dot-one, dot-plus, dot-scale}
 use Rattle.rank.specs.Linear.Kernels.{Same}
 
@@ -59,12 +59,12 @@ module _ {K : Field} {a n : ℕ} where
   pub pivot-same : (P : ℕ → ℕ → F) (h x : ℕ) → h < a → P h x ≢ 𝟘 → Same K a n P (pivot K P h x)
   pivot-same P h x l nz = record { kernel = λ c. (to c, from c) }
     where
-      to : (c : ℕ → F) → Kills K a n P c → Kills K a n (pivot K P h x) c
+      to : (c : ℕ → F) → InKernel K a n P c → InKernel K a n (pivot K P h x) c
       to c z i m = by-cases (ℕ-discrete i h)
           (λ e. rw (e, pivot-row-dot, z h l) (mul-zero K _))
           (λ ne. rw (pivot-other-dot K P h x n c i ne, z h l, z i m) (simp ring))
 
-      from : (c : ℕ → F) → Kills K a n (pivot K P h x) c → Kills K a n P c
+      from : (c : ℕ → F) → InKernel K a n (pivot K P h x) c → InKernel K a n P c
       from c z i m =
           let p : F = P h x in let d : F = dot K n (P h) c in
           let zh : d ≡ 𝟘 = cc (z h l, pivot-row-dot K P h x n c, K .mul-assoc p (inv p) d, K .mul-inv p nz, one-mul K d, mul-zero K p) in
