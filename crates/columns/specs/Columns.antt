@@ -2,7 +2,7 @@
 use Prim.Native.Nat.{ℕ, zero, suc, _+_, _-_, _*_, _/_, _%_, _^_}
 use mathlib.Core.Bool.{Bool, false, not, _&&_, _||_, cond}
 use lib.Dec.{eqb, leb, ltb}
-use Rattle.columns.specs.Counting.Sets.{Set, indicator, all}
+use Rattle.counting.specs.Sets.{Set, indicator, all}
 
 -- how many columns a word has room for
 abbrev pub width : ℕ

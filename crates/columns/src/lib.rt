@@ -4,8 +4,8 @@ ghost use mathlib.Core.Path.{_≡_};
 ghost use Prim.Native.Nat.{_+_};
 ghost use lib.Dec.{eqb};
 ghost use lib.ListN.{getD, take};
-ghost use Rattle.columns.specs.Counting.Sets.{_∪_, _∩_, ∁, #};
-ghost use Rattle.columns.specs.Bytes.{number, bytesOf};
+ghost use Rattle.counting.specs.Sets.{_∪_, _∩_, ∁, #};
+ghost use Rattle.columns.specs.Bytes.{number, bytes-of};
 ghost use Rattle.columns.specs.Columns.{width, members, none, upto, inserted, removed, moved-up, moved-down, least, within};
 
 // The word with no column, and that with all.
@@ -156,7 +156,7 @@ fn widened(x: u8) -> u64
 
 // Byte k of the eight bytes that show the set, and 0 from the eighth on.
 pub fn byte(set: u64, k: usize) -> u8
-    ensures { λ r. ⌜ r ≡ getD (bytesOf 8 set) k 0 ⌝ }
+    ensures { λ r. ⌜ r ≡ getD (bytes-of 8 set) k 0 ⌝ }
 {
     if k < 8 {
         return ((set >> (8 * k)) % 256) as u8;

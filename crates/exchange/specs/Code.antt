@@ -1,6 +1,6 @@
 -- What the code's arrays mean, and what its functions do to them.
 pub mod Cells
-pub mod Reading
+pub mod Scanning
 pub mod Searching
 pub mod Held
 pub mod Placing

@@ -7,8 +7,8 @@ use mathlib.Core.List.{List}
 use native.Mathlib.Decide.{ℕ-discrete}
 use lib.ListN.{getD}
 use lib.Dec.{ltb}
-use Rattle.columns.specs.Counting.Sets.{Set, Some}
-use Rattle.columns.specs.Counting.Counts.{some?}
+use Rattle.counting.specs.Sets.{Set, Some}
+use Rattle.counting.specs.Counts.{some?}
 use Rattle.rank.specs.Layered.Model.{Model, Seat, out, constant, row, Assignment, placing, constants, Legal}
 use Rattle.rank.specs.Layered.Rank.{rank, placed, short}
 

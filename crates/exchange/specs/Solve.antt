@@ -5,8 +5,8 @@ use mathlib.Core.Bool.{Bool, true, false, _&&_}
 use mathlib.Core.List.{List}
 use lib.ListN.{length, getD, replicate}
 use lib.Dec.{leb, ltb}
-use Rattle.residue.specs.Arithmetic.{isPrime}
-use Rattle.columns.specs.Counting.Sets.{Set, all}
+use Rattle.residue.specs.Arithmetic.{is-prime}
+use Rattle.counting.specs.Sets.{Set, all}
 use Rattle.columns.specs.Columns.{width, members, within}
 use Rattle.rank.specs.Modulus.{modulus, field-of, residue-of}
 use Rattle.rank.specs.ModelModulo.{model-modulo}
@@ -22,7 +22,7 @@ fitting n a b c w = leb n width && leb a 64 && leb b 64 && leb (a * n) c && leb 
 
 -- the call takes the model: the sizes fit, no offered column is n or more, p is a prime of 16 bits, and the constants are below p
 unfoldable pub admissible : (p n a b offered : ℕ) (cs ws : List ℕ) → Bool
-admissible p n a b offered cs ws = fitting n a b (length cs) (length ws) && within n offered && ltb p 65536 && isPrime p && all-below p (a * n) cs
+admissible p n a b offered cs ws = fitting n a b (length cs) (length ws) && within n offered && ltb p 65536 && is-prime p && all-below p (a * n) cs
 
 -- a model modulo p that the numbers show: its constants, its parameters and its offered columns are theirs, in its rows and columns
 pub record Shown (p n a b offered : ℕ) (cs ws : List ℕ) (Q : ℕ → ℕ → field-of p .F) (T : ℕ → ℕ → Bool) (E : Set) : Type 0 where

@@ -9,10 +9,10 @@ use native.Mathlib.Decide.{decLt}
 use lib.ListN.{length, getD}
 use lib.Dec.{leb, ltb}
 use borrow.Author.Tests.{leb-true, lt-ltb, ltb-true}
-use Rattle.residue.specs.Arithmetic.{isPrime}
-use Rattle.columns.specs.Counting.Bools.{iff-eq, and-left, and-right}
-use Rattle.columns.specs.Counting.Sets.{Some, all}
-use Rattle.columns.specs.Counting.Counts.{all-iff}
+use Rattle.residue.specs.Arithmetic.{is-prime}
+use Rattle.counting.specs.Bools.{iff-eq, and-left, and-right}
+use Rattle.counting.specs.Sets.{Some, all}
+use Rattle.counting.specs.Counts.{all-iff}
 use Rattle.columns.specs.Columns.{width, within}
 use Rattle.exchange.specs.Solve.{all-below, fitting, admissible}
 
@@ -68,11 +68,11 @@ module _ (p n a b offered : ℕ) (cs ws : List ℕ) where
       at-short e = rw (f, i, e) refl
 
       module _ (s : ltb p 65536 ≡ true) where
-        pub at-prime : isPrime p ≡ false → false ≡ admissible p n a b offered cs ws
+        pub at-prime : is-prime p ≡ false → false ≡ admissible p n a b offered cs ws
         unfolding admissible
         at-prime e = rw (f, i, s, e) refl
 
-        pub at-last : isPrime p ≡ true → all-below p (a * n) cs ≡ admissible p n a b offered cs ws
+        pub at-last : is-prime p ≡ true → all-below p (a * n) cs ≡ admissible p n a b offered cs ws
         unfolding admissible
         at-last e = rw (f, i, s, e) refl
 
@@ -82,20 +82,20 @@ module _ (p n a b offered : ℕ) (cs ws : List ℕ) (e : admissible p n a b offe
     pub fits : fitting n a b (length cs) (length ws) ≡ true
     pub inside : within n offered ≡ true
     pub short-prime : p < 65536
-    pub prime : isPrime p ≡ true
+    pub prime : is-prime p ≡ true
     pub low : all-below p (a * n) cs ≡ true
 
   pub admissible-reads : Admissible
   unfolding admissible
   admissible-reads =
       let f = fitting n a b (length cs) (length ws) in
-      let s1 : (f && within n offered && ltb p 65536 && isPrime p) ≡ true = and-left (f && within n offered && ltb p 65536 && isPrime p) (all-below p (a * n) cs) e in
-      let s2 : (f && within n offered && ltb p 65536) ≡ true = and-left (f && within n offered && ltb p 65536) (isPrime p) s1 in
+      let s1 : (f && within n offered && ltb p 65536 && is-prime p) ≡ true = and-left (f && within n offered && ltb p 65536 && is-prime p) (all-below p (a * n) cs) e in
+      let s2 : (f && within n offered && ltb p 65536) ≡ true = and-left (f && within n offered && ltb p 65536) (is-prime p) s1 in
       let s3 : (f && within n offered) ≡ true = and-left (f && within n offered) (ltb p 65536) s2 in
       record {
         fits = and-left f (within n offered) s3;
         inside = and-right f (within n offered) s3;
         short-prime = ltb-true p 65536 (and-right (f && within n offered) (ltb p 65536) s2);
-        prime = and-right (f && within n offered && ltb p 65536) (isPrime p) s1;
-        low = and-right (f && within n offered && ltb p 65536 && isPrime p) (all-below p (a * n) cs) e;
+        prime = and-right (f && within n offered && ltb p 65536) (is-prime p) s1;
+        low = and-right (f && within n offered && ltb p 65536 && is-prime p) (all-below p (a * n) cs) e;
       }

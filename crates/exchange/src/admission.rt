@@ -3,7 +3,7 @@ ghost use mathlib.Core.Path.{_≡_};
 ghost use mathlib.Core.Logic.{_⊎_};
 ghost use Prim.Native.Nat.{ℕ, _*_, _<_, _≤_};
 ghost use lib.ListN.{length, getD};
-ghost use Rattle.columns.specs.Counting.Sets.{Some};
+ghost use Rattle.counting.specs.Sets.{Some};
 ghost use Rattle.exchange.specs.Solve.{all-below, fitting, admissible};
 
 // The largest of the first k constants, and 0 of none. A loop with no way out but its end, which runs on vectors.

@@ -6,8 +6,8 @@ ghost use mathlib.Core.Logic.{_↔_};
 ghost use mathlib.Core.Bool.{true, false};
 ghost use Prim.Native.Nat.{ℕ, _<_, _≤_};
 ghost use lib.ListN.{length, replicate};
-ghost use Rattle.residue.specs.Arithmetic.{isPrime};
-ghost use Rattle.columns.specs.Counting.Sets.{_∈_};
+ghost use Rattle.residue.specs.Arithmetic.{is-prime};
+ghost use Rattle.counting.specs.Sets.{_∈_};
 ghost use Rattle.columns.specs.Columns.{members, within};
 ghost use Rattle.exchange.specs.Solution.{Solved};
 ghost use Rattle.exchange.specs.Solve.{Solves};
@@ -54,7 +54,7 @@ fn answer(
     b: usize,
     offered: u64,
 ) -> Solution
-    requires { ⌜ (length (now t) ≡ 4096) × (n ≤ 64) × (a ≤ 64) × (b ≤ 64) × (b ≤ length (now parameters)) × (within n offered ≡ true) × (isPrime p ≡ true) × Below p (now t) ⌝ }
+    requires { ⌜ (length (now t) ≡ 4096) × (n ≤ 64) × (a ≤ 64) × (b ≤ 64) × (b ≤ length (now parameters)) × (within n offered ≡ true) × (is-prime p ≡ true) × Below p (now t) ⌝ }
     ensures { λ r. ⌜ (r .valid ≡ true) × ((G : Given p n b (now (parameters .entry))) → ShowsConstants p n a b (now (parameters .entry)) G (now (t .entry)) → ((x : ℕ) → (x ∈ members offered) ↔ ((x < n) × (x ∈ G .E))) → Solved (model-of p n a b (now (parameters .entry)) G) (r .rank) (members (r .placed)) (members (r .constants)) (members (r .short)) (r .rows)) ⌝ }
 {
     let mut owner = [n as u8; 128];

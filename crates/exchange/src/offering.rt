@@ -5,12 +5,12 @@ ghost use mathlib.Core.Bool.{true, cond};
 ghost use Prim.Native.Nat.{ℕ, _+_, _<_, _≤_};
 ghost use lib.ListN.{length, getD};
 ghost use lib.Dec.{ltb};
-ghost use Rattle.residue.specs.Arithmetic.{isPrime};
-ghost use Rattle.columns.specs.Counting.Sets.{_∈_, Some};
+ghost use Rattle.residue.specs.Arithmetic.{is-prime};
+ghost use Rattle.counting.specs.Sets.{_∈_, Some};
 ghost use Rattle.columns.specs.Columns.{members};
 ghost use Rattle.rank.specs.Layered.Offers.{Offered};
 ghost use Rattle.exchange.specs.Code.Cells.{Below};
-ghost use Rattle.exchange.specs.Code.Reading.{owned};
+ghost use Rattle.exchange.specs.Code.Scanning.{owned};
 ghost use Rattle.exchange.specs.Code.Held.{Given, model-of, Held};
 ghost use Rattle.exchange.specs.Code.Offering.{Offers, Offered-all};
 ghost use Rattle.exchange.specs.Code.Answer.{Side, shown-column};
@@ -28,7 +28,7 @@ pub fn offer_all(
     b: usize,
     offered: u64,
 ) -> u64
-    requires { ⌜ (length (now t) ≡ 4096) × (length (now owner) ≡ 128) × (n ≤ 64) × (a ≤ 64) × (b ≤ 64) × (b ≤ length (now parameters)) × (isPrime p ≡ true) × Below p (now t) × ((G : Given p n b (now parameters)) × Offers p n a b (now parameters) (members offered) (now t) (now owner) G) ⌝ }
+    requires { ⌜ (length (now t) ≡ 4096) × (length (now owner) ≡ 128) × (n ≤ 64) × (a ≤ 64) × (b ≤ 64) × (b ≤ length (now parameters)) × (is-prime p ≡ true) × Below p (now t) × ((G : Given p n b (now parameters)) × Offers p n a b (now parameters) (members offered) (now t) (now owner) G) ⌝ }
     ensures { λ r. ⌜ (length (now (t .exit)) ≡ 4096) × (length (now (owner .exit)) ≡ 128) × Below p (now (t .exit)) × ((G : Given p n b (now (parameters .entry))) → Offers p n a b (now (parameters .entry)) (members offered) (now (t .entry)) (now (owner .entry)) G → Offered-all p n a b (now (parameters .entry)) G (now (t .exit)) (now (owner .exit)) (members r)) ⌝ }
 {
     let mut rest = offered;

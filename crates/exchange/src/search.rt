@@ -3,10 +3,10 @@
 ghost use mathlib.Core.Path.{_≡_};
 ghost use Prim.Native.Nat.{ℕ, _+_, _<_, _≤_};
 ghost use lib.ListN.{length};
-ghost use Rattle.columns.specs.Counting.Sets.{Set, _∈_};
+ghost use Rattle.counting.specs.Sets.{Set, _∈_};
 ghost use Rattle.columns.specs.Columns.{members};
 ghost use Rattle.rank.specs.Graph.States.{State};
-ghost use Rattle.exchange.specs.Code.Reading.{touched, owned, Scanned};
+ghost use Rattle.exchange.specs.Code.Scanning.{touched, owned, Scanned};
 ghost use Rattle.exchange.specs.Code.Searching.{Shows, Searched};
 
 // Whether row q touches the column x.

@@ -3,10 +3,10 @@ ghost use mathlib.Core.Path.{_≡_};
 ghost use mathlib.Core.Bool.{true};
 ghost use Prim.Native.Nat.{ℕ, _+_, _<_, _≤_};
 ghost use lib.ListN.{length};
-ghost use Rattle.residue.specs.Arithmetic.{isPrime};
+ghost use Rattle.residue.specs.Arithmetic.{is-prime};
 ghost use Rattle.rank.specs.Graph.States.{Placed};
 ghost use Rattle.exchange.specs.Code.Cells.{Below};
-ghost use Rattle.exchange.specs.Code.Reading.{owned};
+ghost use Rattle.exchange.specs.Code.Scanning.{owned};
 ghost use Rattle.exchange.specs.Code.Held.{Given, Held, Vacated, Sat};
 ghost use Rattle.exchange.specs.Code.Placing.{Placing};
 use crate::search;
@@ -68,7 +68,7 @@ pub fn place(
     b: usize,
     j: usize,
 ) -> bool
-    requires { ⌜ (length (now t) ≡ 4096) × (length (now owner) ≡ 128) × (n ≤ 64) × (a ≤ 64) × (b ≤ 64) × (b ≤ length (now parameters)) × (j < n) × (isPrime p ≡ true) × Below p (now t) × ((M : Given p n b (now parameters)) × (M .E j ≡ true) × Held p n a b (now parameters) M (now t) (now owner)) ⌝ }
+    requires { ⌜ (length (now t) ≡ 4096) × (length (now owner) ≡ 128) × (n ≤ 64) × (a ≤ 64) × (b ≤ 64) × (b ≤ length (now parameters)) × (j < n) × (is-prime p ≡ true) × Below p (now t) × ((M : Given p n b (now parameters)) × (M .E j ≡ true) × Held p n a b (now parameters) M (now t) (now owner)) ⌝ }
     ensures { λ r. ⌜ (length (now (t .exit)) ≡ 4096) × (length (now (owner .exit)) ≡ 128) × Below p (now (t .exit)) × ((M : Given p n b (now (parameters .entry))) (h : Held p n a b (now (parameters .entry)) M (now (t .entry)) (now (owner .entry))) → M .E j ≡ true → (Placed (h .s) j → ⊥) → Placing p n a b (now (parameters .entry)) M (now (t .entry)) (now (owner .entry)) (now (t .exit)) (now (owner .exit)) j r h) ⌝ }
 {
     let rows = a + b;

@@ -1,7 +1,7 @@
 // The calls for models handed over without a file, exported to C for the tests that hold the compiled library against a
 // reference, and for measuring. The product's archive has none of them.
 ghost use Prim.Native.Nat.{ℕ};
-ghost use Rattle.model.specs.File.Format.{Writing};
+ghost use Rattle.format.specs.File.Format.{WriteCall};
 ghost use Rattle.solvability.specs.Area.{LayeredBytes, MixedBytes};
 
 // The 90 bytes of the layered answer.
@@ -47,7 +47,7 @@ pub extern "C" fn harness_write(
     parameters: &[u64],
     out: &mut [u8],
 ) -> u32
-    ensures { λ r. ⌜ ((written : ℕ) × Writing p n a b (now (constants .entry)) (now (parameters .entry)) (now (out .entry)) r written (now (out .exit))) ⌝ }
+    ensures { λ r. ⌜ ((written : ℕ) × WriteCall p n a b (now (constants .entry)) (now (parameters .entry)) (now (out .entry)) r written (now (out .exit))) ⌝ }
 {
     let w = solvability::write_file(p, n, a, b, constants, parameters, out);
     w.refusal

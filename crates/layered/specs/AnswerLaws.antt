@@ -10,11 +10,11 @@ use native.Mathlib.Decide.{ℕ-discrete}
 use lib.ListN.{length, getD, take}
 use lib.Dec.{eqb, leb, ltb}
 use borrow.Author.Tests.{le-leb, lt-ltb, leb-true, eq-eqb, ne-eqb}
-use Rattle.residue.specs.Arithmetic.{isPrime}
+use Rattle.residue.specs.Arithmetic.{is-prime}
 use Rattle.residue.specs.Primes.{prime→test}
-use Rattle.columns.specs.Counting.Bools.{and-in, and-left, and-right}
-use Rattle.columns.specs.Counting.Sets.{Set, _∈_, indicator, #}
-use Rattle.columns.specs.Counting.Counts.{#-le, #-all}
+use Rattle.counting.specs.Bools.{and-in, and-left, and-right}
+use Rattle.counting.specs.Sets.{Set, _∈_, indicator, #}
+use Rattle.counting.specs.Counts.{#-le, #-all}
 use Rattle.columns.specs.Columns.{width, members, upto, word-of, within}
 use Rattle.columns.specs.Words.Operations.{within-iff, word-members}
 use Rattle.columns.specs.Words.SetLaws.{upto-iff}
@@ -24,17 +24,17 @@ use Rattle.rank.specs.Layered.ColumnOrder.{placed-size}
 use Rattle.exchange.specs.Solution.{Solved}
 use Rattle.exchange.specs.Solve.{all-below, fitting, admissible, Shown}
 use Rattle.exchange.specs.SolveLaws.{all-below-iff, fitting-reads, admissible-reads}
-use Rattle.mixed_models.specs.Model.{model}
+use Rattle.rank.specs.ListedModel.{listed-model}
 use Rattle.rank.specs.Demand.{demand3-reported}
-use Rattle.model.specs.Lists.{All}
-use Rattle.model.specs.Refusals.{largestPrime, mostColumns, mostRows, primeTest, sizeTest, areaTest, constantTest, parameterTest, modelTests, refusal, firstRefusal}
-use Rattle.model.specs.RefusalLaws.{acceptance-reads}
-use Rattle.model.specs.TestLaws.{prime-reads, size-reads, constant-reads, area-reads, Accepted, model-accepted, constant-below}
+use Rattle.format.specs.Lists.{All}
+use Rattle.format.specs.Refusals.{largest-prime, most-columns, most-rows, prime-test, size-test, area-test, constant-test, parameter-test, model-tests, refusal, first-refusal}
+use Rattle.format.specs.RefusalLaws.{acceptance-reads}
+use Rattle.format.specs.TestLaws.{prime-reads, size-reads, constant-reads, area-reads, Accepted, model-accepted, constant-below}
 use Rattle.layered.specs.Answers.{Answered}
 
 -- the tests that the solver does not make
 unfoldable pub beforehand : (p n b : ℕ) → List ℕ → Bool
-beforehand p n b ws = leb p largestPrime && leb 1 n && parameterTest n (take b ws)
+beforehand p n b ws = leb p largest-prime && leb 1 n && parameter-test n (take b ws)
 
 -- what holds of the first k elements
 all-taken : (Is : ℕ → Type 0) (k : ℕ) (xs : List ℕ) (d : ℕ) → k ≤ length xs → ((i : ℕ) → i < k → Is (getD xs i d)) → All Is (take k xs)
@@ -43,10 +43,10 @@ all-taken Is (suc k) [] d l h = absurd (omega arith)
 all-taken Is (suc k) (x ∷ xs) d l h = (h 0 (omega arith), all-taken Is k xs d (omega arith) (λ i m. h (suc i) (omega arith)))
 
 pub accepted-beforehand : (p n a b : ℕ) (cs ws : List ℕ) → refusal p n a b cs ws ≡ 0 → beforehand p n b ws ≡ true
-unfolding beforehand refusal modelTests
+unfolding beforehand refusal model-tests
 accepted-beforehand p n a b cs ws e =
     let h = model-accepted p n a b cs ws e in
-    and-in (and-in (le-leb p largestPrime (h .p-most)) (le-leb 1 n (h .n-least))) (acceptance-reads (modelTests p n a b cs ws) .0 e .1 .1 .1 .1 .1 .0)
+    and-in (and-in (le-leb p largest-prime (h .p-most)) (le-leb 1 n (h .n-least))) (acceptance-reads (model-tests p n a b cs ws) .0 e .1 .1 .1 .1 .1 .0)
 
 module _ (p n a b : ℕ) (cs ws : List ℕ) (offered : ℕ) (m : members offered ≡ upto n) where
   -- all columns below n are offered
@@ -57,7 +57,7 @@ module _ (p n a b : ℕ) (cs ws : List ℕ) (offered : ℕ) (m : members offered
   offered-all h x l = sym (ap (λ (S : Set). S x) m ∙ upto-iff n x h .1 l)
 
   -- the model is the one that the numbers show
-  pub shows-model : n ≤ width → Shown p n a b offered cs ws (model p n a b cs ws .Q) (model p n a b cs ws .T) (λ x. true)
+  pub shows-model : n ≤ width → Shown p n a b offered cs ws (listed-model p n a b cs ws .Q) (listed-model p n a b cs ws .T) (λ x. true)
   shows-model h = record { constants = λ i x li lx. refl; parameters = λ r x lr lx. refl; columns = offered-all h }
 
   pub accepted-taken : refusal p n a b cs ws ≡ 0 → admissible p n a b offered cs ws ≡ true
@@ -75,22 +75,22 @@ module _ (p n a b : ℕ) (cs ws : List ℕ) (offered : ℕ) (m : members offered
       (all-below-iff p (a * n) cs .1 (constant-below h))
 
   pub taken-accepted : beforehand p n b ws ≡ true → admissible p n a b offered cs ws ≡ true → refusal p n a b cs ws ≡ 0
-  unfolding beforehand primeTest refusal modelTests
+  unfolding beforehand prime-test refusal model-tests
   taken-accepted e f =
       let g = admissible-reads p n a b offered cs ws f in
       let z = fitting-reads n a b (length cs) (length ws) (g .fits) in
-      let low : (leb p largestPrime && leb 1 n) ≡ true = and-left (leb p largestPrime && leb 1 n) (parameterTest n (take b ws)) e in
-      acceptance-reads (modelTests p n a b cs ws) .1 (
-        and-in (and-left (leb p largestPrime) (leb 1 n) low) (g .prime),
+      let low : (leb p largest-prime && leb 1 n) ≡ true = and-left (leb p largest-prime && leb 1 n) (parameter-test n (take b ws)) e in
+      acceptance-reads (model-tests p n a b cs ws) .1 (
+        and-in (and-left (leb p largest-prime) (leb 1 n) low) (g .prime),
         (
-          size-reads n a b .1 (leb-true 1 n (and-right (leb p largestPrime) (leb 1 n) low), z .columns, z .constant-rows, z .parameter-rows),
+          size-reads n a b .1 (leb-true 1 n (and-right (leb p largest-prime) (leb 1 n) low), z .columns, z .constant-rows, z .parameter-rows),
           (
             area-reads (a * n) (length cs) .1 (z .constants-lent),
             (
               area-reads b (length ws) .1 (z .parameters-lent),
               (
                 constant-reads p (take (a * n) cs) .1 (all-taken (λ c. c < p) (a * n) cs 0 (z .constants-lent) (all-below-iff p (a * n) cs .0 (g .low))),
-                (and-right (leb p largestPrime && leb 1 n) (parameterTest n (take b ws)) e, tt),
+                (and-right (leb p largest-prime && leb 1 n) (parameter-test n (take b ws)) e, tt),
               ),
             ),
           ),
@@ -104,16 +104,16 @@ pub rank-small : (M : Model) → rank M ≤ M .n
 rank-small M = omega (arith, placed-size M, #-le (M .n) (placed M))
 
 pub answered : (p n a b : ℕ) (cs ws : List ℕ) (the-verdict the-rank the-placed the-side the-short : ℕ) (rows : List ℕ) → the-placed < 2 ^ width → the-short < 2 ^ width
-    → the-verdict ≡ cond (eqb the-rank n) 1 0 → Solved (model p n a b cs ws) the-rank (members the-placed) (members the-side) (members the-short) rows
-    → Answered (model p n a b cs ws) the-verdict the-rank the-placed the-side the-short rows
+    → the-verdict ≡ cond (eqb the-rank n) 1 0 → Solved (listed-model p n a b cs ws) the-rank (members the-placed) (members the-side) (members the-short) rows
+    → Answered (listed-model p n a b cs ws) the-verdict the-rank the-placed the-side the-short rows
 unfolding verdict indicator decide
 answered p n a b cs ws the-verdict the-rank the-placed the-side the-short rows hp hs hv s =
-    let M = model p n a b cs ws in
-    let every : # n (M .E) ≡ n = #-all n (M .E) (λ x l. refl) in
+    let M = listed-model p n a b cs ws in
+    let all-pass : # n (M .E) ≡ n = #-all n (M .E) (λ x l. refl) in
     record {
       is-verdict = hv ∙ elim (ℕ-discrete (rank M) (# n (M .E))) as (λ z. cond (eqb the-rank n) 1 0 ≡ indicator (decide z)) [
-        | yes e ↦ ap (λ t. cond t 1 0) (eq-eqb the-rank n (s .is-rank ∙ e ∙ every))
-        | no ne ↦ ap (λ t. cond t 1 0) (ne-eqb the-rank n (λ z. ne (sym (s .is-rank) ∙ z ∙ sym every)))
+        | yes e ↦ ap (λ t. cond t 1 0) (eq-eqb the-rank n (s .is-rank ∙ e ∙ all-pass))
+        | no ne ↦ ap (λ t. cond t 1 0) (ne-eqb the-rank n (λ z. ne (sym (s .is-rank) ∙ z ∙ sym all-pass)))
       ];
       placed-word = word-members width the-placed hp ∙ ap (word-of width) (fun-ext (s .is-placed));
       short-word = word-members width the-short hs ∙ ap (word-of width) (fun-ext (s .is-short));

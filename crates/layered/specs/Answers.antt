@@ -10,9 +10,9 @@ use Rattle.columns.specs.Columns.{width, members, word-of}
 use Rattle.rank.specs.Layered.Model.{Model}
 use Rattle.rank.specs.Layered.Rank.{placed, short, verdict}
 use Rattle.exchange.specs.Solution.{Solved}
-use Rattle.mixed_models.specs.Model.{model}
+use Rattle.rank.specs.ListedModel.{listed-model}
 use Rattle.rank.specs.Steps.{Demand3}
-use Rattle.model.specs.Refusals.{refusal}
+use Rattle.format.specs.Refusals.{refusal}
 
 -- the verdict's number: 1, "determined", where the rank is the number of columns; 0, "open", where it is not
 abbrev pub verdict-number : (the-rank n : ℕ) → ℕ
@@ -40,4 +40,4 @@ pub record Answered (M : Model) (the-verdict the-rank the-placed the-side the-sh
 pub record LayeredAnswer (p n a b : ℕ) (cs ws : List ℕ) (the-refusal the-verdict the-rank the-placed the-side the-short : ℕ) (rows : List ℕ) : Type 0 where
   pub is-refusal : the-refusal ≡ refusal p n a b cs ws
   pub if-refused : refusal p n a b cs ws ≢ 0 → Refused the-verdict the-rank the-placed the-side the-short rows
-  pub if-accepted : refusal p n a b cs ws ≡ 0 → Answered (model p n a b cs ws) the-verdict the-rank the-placed the-side the-short rows
+  pub if-accepted : refusal p n a b cs ws ≡ 0 → Answered (listed-model p n a b cs ws) the-verdict the-rank the-placed the-side the-short rows

@@ -14,21 +14,21 @@ use Rattle.columns.specs.Words.Bytes.{AreBytes}
 use Rattle.rank.specs.Modulus.{modulus}
 use Rattle.rank.specs.ModelModulo.{model-modulo}
 use Rattle.rank.specs.Layered.Model.{Model}
-use Rattle.mixed_models.specs.Model.{model}
-use Rattle.model.specs.Lists.{All, over}
-use Rattle.model.specs.OverLaws.{over-length}
-use Rattle.model.specs.Refusals.{whereAccepted, mostColumns, mostRows, modelTests, refusal}
-use Rattle.model.specs.RefusalLaws.{acceptance-reads, then-refused, zero-then, zero-unless}
-use Rattle.model.specs.TestLaws.{prime-reads, size-reads, constant-reads, parameter-reads, area-reads}
-use Rattle.model.specs.File.Piece.{closed}
-use Rattle.model.specs.File.Format.{FileModel, Valid, fields, judge, decode, noModel, readRefusal, modelRead, Reading}
-use Rattle.model.specs.File.FormatLaws.{decoded-valid}
+use Rattle.rank.specs.ListedModel.{listed-model}
+use Rattle.format.specs.Lists.{All, over}
+use Rattle.format.specs.OverLaws.{over-length}
+use Rattle.format.specs.Refusals.{where-accepted, most-columns, most-rows, model-tests, refusal}
+use Rattle.format.specs.RefusalLaws.{acceptance-reads, then-refused, zero-then, zero-unless}
+use Rattle.format.specs.TestLaws.{prime-reads, size-reads, constant-reads, parameter-reads, area-reads}
+use Rattle.format.specs.File.Piece.{closed}
+use Rattle.format.specs.File.Format.{FileModel, ValidModel, fields, judge, decode, no-model, read-refusal, model-read, ReadCall}
+use Rattle.format.specs.File.FormatLaws.{decoded-valid}
 use Rattle.layered.specs.FileModel.{file-model}
 
 -- ---- models that agree in every number
 
 -- a model depends on its lists by their elements alone, 0 past the end
-pub same-model : (p n a b : ℕ) (cs cs′ ws ws′ : List ℕ) → ((k : ℕ) → getD cs k 0 ≡ getD cs′ k 0) → ((k : ℕ) → getD ws k 0 ≡ getD ws′ k 0) → model p n a b cs ws ≡ model p n a b cs′ ws′
+pub same-model : (p n a b : ℕ) (cs cs′ ws ws′ : List ℕ) → ((k : ℕ) → getD cs k 0 ≡ getD cs′ k 0) → ((k : ℕ) → getD ws k 0 ≡ getD ws′ k 0) → listed-model p n a b cs ws ≡ listed-model p n a b cs′ ws′
 same-model p n a b cs cs′ ws ws′ e f = ap₂ by-elements (fun-ext e) (fun-ext f)
   where
     by-elements : (ℕ → ℕ) → (ℕ → ℕ) → Model
@@ -82,19 +82,19 @@ all-left Is Also (x ∷ xs) h = (h .0 .1, all-left Is Also xs (h .1))
 -- ---- a file that is accepted
 
 module _ (s : List ℕ) (bytes : AreBytes s) (ok : judge s ≡ 0) where
-  valid : Valid (decode s)
+  valid : ValidModel (decode s)
   valid = decoded-valid s bytes ok
 
   constants-length : length (flatten (decode s .constants)) ≡ decode s .a * decode s .n
   constants-length = flat-length (decode s .p) (decode s .n) (decode s .constants) (valid .constants-below) ∙ ap (λ (k : ℕ). k * decode s .n) (valid .constant-rows)
 
-  few-constants : decode s .a * decode s .n ≤ mostRows * mostColumns
+  few-constants : decode s .a * decode s .n ≤ most-rows * most-columns
   few-constants = mul-le-mul (valid .a-most) (valid .n-most)
 
   -- its model is accepted from areas that it was read into
-  file-accepted : (cs ws : List ℕ) → mostRows * mostColumns ≤ length cs → mostRows ≤ length ws
+  file-accepted : (cs ws : List ℕ) → most-rows * most-columns ≤ length cs → most-rows ≤ length ws
       → refusal (decode s .p) (decode s .n) (decode s .a) (decode s .b) (over (flatten (decode s .constants)) cs) (over (decode s .parameters) ws) ≡ 0
-  unfolding refusal modelTests
+  unfolding refusal model-tests
   file-accepted cs ws l m =
       let few = few-constants in
       let some = valid .b-most in
@@ -124,54 +124,54 @@ module _ (s : List ℕ) (bytes : AreBytes s) (ok : judge s ≡ 0) where
 
 -- ---- a file read
 
-module _ (s : List ℕ) (bytes : AreBytes s) (cs ws : List ℕ) (l : mostRows * mostColumns ≤ length cs) (m : mostRows ≤ length ws) where
+module _ (s : List ℕ) (bytes : AreBytes s) (cs ws : List ℕ) (l : most-rows * most-columns ≤ length cs) (m : most-rows ≤ length ws) where
   -- areas of the largest size hold every model
-  read-accepted : judge s ≡ 0 → readRefusal s cs ws ≡ 0
-  unfolding readRefusal judge
+  read-accepted : judge s ≡ 0 → read-refusal s cs ws ≡ 0
+  unfolding read-refusal judge
   read-accepted ok =
       let few = few-constants s bytes ok in
       let some = valid s bytes ok .b-most in
       zero-then _ _ ok (zero-then _ _ (zero-unless _ _ (area-reads _ _ .1 (omega arith))) (zero-unless _ _ (area-reads _ _ .1 (omega arith))))
 
-  pub read-judged : readRefusal s cs ws ≡ judge s
-  unfolding readRefusal judge
+  pub read-judged : read-refusal s cs ws ≡ judge s
+  unfolding read-refusal judge
   read-judged = at (judge s) refl
     where
-      at : (k : ℕ) → judge s ≡ k → readRefusal s cs ws ≡ judge s
+      at : (k : ℕ) → judge s ≡ k → read-refusal s cs ws ≡ judge s
       at zero e = read-accepted e ∙ sym e
       at (suc k) e = sym (then-refused (closed fields s) _ (judge s) refl (λ z. omega (arith, e, z)))
 
   -- what was read is the file's model
-  read-all : readRefusal s cs ws ≡ 0 → modelRead s cs ws ≡ decode s
-  unfolding modelRead
-  read-all ok = ap (λ (k : ℕ). whereAccepted k (decode s) noModel) ok
+  read-all : read-refusal s cs ws ≡ 0 → model-read s cs ws ≡ decode s
+  unfolding model-read
+  read-all ok = ap (λ (k : ℕ). where-accepted k (decode s) no-model) ok
 
 -- ---- an accepted file
 
 -- the call's own areas, before the reading
 abbrev pub own-constants : List ℕ
-own-constants = replicate (mostRows * mostColumns) 0
+own-constants = replicate (most-rows * most-columns) 0
 
 abbrev pub own-parameters : List ℕ
-own-parameters = replicate mostRows 0
+own-parameters = replicate most-rows 0
 
-pub own-length : mostRows * mostColumns ≤ length own-constants
-own-length = le-of-eq (sym (length-replicate {A = ℕ} (mostRows * mostColumns) 0))
+pub own-length : most-rows * most-columns ≤ length own-constants
+own-length = le-of-eq (sym (length-replicate {A = ℕ} (most-rows * most-columns) 0))
 
-pub own-count : mostRows ≤ length own-parameters
-own-count = le-of-eq (sym (length-replicate {A = ℕ} mostRows 0))
+pub own-count : most-rows ≤ length own-parameters
+own-count = le-of-eq (sym (length-replicate {A = ℕ} most-rows 0))
 
-module _ (s : List ℕ) (bytes : AreBytes s) (p n a b : ℕ) (cs′ ws′ : List ℕ) (r : Reading s own-constants own-parameters 0 p n a b cs′ ws′) where
+module _ (s : List ℕ) (bytes : AreBytes s) (p n a b : ℕ) (cs′ ws′ : List ℕ) (r : ReadCall s own-constants own-parameters 0 p n a b cs′ ws′) where
   pub judged : judge s ≡ 0
   judged = sym (read-judged s bytes own-constants own-parameters own-length own-count) ∙ sym (r .refusal-is)
 
-  all : modelRead s own-constants own-parameters ≡ decode s
+  all : model-read s own-constants own-parameters ≡ decode s
   all = read-all s bytes own-constants own-parameters own-length own-count (sym (r .refusal-is))
 
-  pub own-model : model p n a b cs′ ws′ ≡ file-model s
+  pub own-model : listed-model p n a b cs′ ws′ ≡ file-model s
   own-model =
       rw (r .p-is, r .n-is, r .a-is, r .b-is, r .constants-are, r .parameters-are, all)
-      (same-model (decode s .p) (decode s .n) (decode s .a) (decode s .b) (over (flatten (decode s .constants)) own-constants) (flatten (decode s .constants)) (over (decode s .parameters) own-parameters) (decode s .parameters) (over-zeros (flatten (decode s .constants)) (mostRows * mostColumns)) (over-zeros (decode s .parameters) mostRows))
+      (same-model (decode s .p) (decode s .n) (decode s .a) (decode s .b) (over (flatten (decode s .constants)) own-constants) (flatten (decode s .constants)) (over (decode s .parameters) own-parameters) (decode s .parameters) (over-zeros (flatten (decode s .constants)) (most-rows * most-columns)) (over-zeros (decode s .parameters) most-rows))
 
   pub own-accepted : refusal p n a b cs′ ws′ ≡ 0
   own-accepted =

@@ -1,12 +1,12 @@
 // The layered rank call: the answer to a model handed over without a file.
 ghost use mathlib.Core.Path.{_≡_};
 ghost use lib.ListN.{take};
-ghost use Rattle.model.specs.Refusals.{parameterTest};
+ghost use Rattle.format.specs.Refusals.{parameter-test};
 ghost use Rattle.layered.specs.Answers.{verdict-number, Refused, LayeredAnswer};
 ghost use Rattle.layered.specs.AnswerLaws.{beforehand};
-use model::LARGEST_PRIME;
-use model::judge_model;
-use model::parameters_within;
+use format::LARGEST_PRIME;
+use format::judge_model;
+use format::parameters_within;
 
 // The refusal or 0; the verdict, 1 "determined" or 0 "open"; the rank; the placed columns, those of them on the constant side, and
 // the short set, as words; and the column of each parameter row, 255 for none.
@@ -46,7 +46,7 @@ pub fn verdict_of(rank: usize, n: usize) -> u8
 
 // Whether the first b parameter rows, or all there are, lie below column n.
 fn rows_within(parameters: &[u64], b: usize, n: usize) -> bool
-    ensures { λ r. ⌜ r ≡ parameterTest n (take b (now (parameters .entry))) ⌝ }
+    ensures { λ r. ⌜ r ≡ parameter-test n (take b (now (parameters .entry))) ⌝ }
 {
     if b < parameters.len() {
         return parameters_within(&parameters[..b], n);

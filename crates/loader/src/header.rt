@@ -1,8 +1,8 @@
 // The numbers of a file that is accepted.
 ghost use mathlib.Core.Path.{_≡_};
-ghost use Rattle.model.specs.File.Format.{judge};
-ghost use Rattle.model.specs.File.Steps.{Header};
-use model::two;
+ghost use Rattle.format.specs.File.Format.{judge};
+ghost use Rattle.format.specs.File.Steps.{Header};
+use format::two;
 
 // What a file says before its rows; all are 0 but the refusal where the file is refused.
 pub struct Sizes {

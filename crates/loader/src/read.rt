@@ -2,20 +2,20 @@
 ghost use mathlib.Core.Path.{_≡_};
 ghost use Prim.Native.Nat.{_+_, _*_, _≤_};
 ghost use lib.ListN.{length};
-ghost use Rattle.model.specs.Lists.{over};
-ghost use Rattle.model.specs.Refusals.{mostColumns};
-ghost use Rattle.model.specs.File.Format.{entries, Reading};
-ghost use Rattle.model.specs.File.Steps.{constantsOf, parametersOf};
+ghost use Rattle.format.specs.Lists.{over};
+ghost use Rattle.format.specs.Refusals.{most-columns};
+ghost use Rattle.format.specs.File.Format.{entries, ReadCall};
+ghost use Rattle.format.specs.File.Steps.{constants-of, parameters-of};
 use crate::header::Sizes;
 use crate::header::no_sizes;
 use crate::header::sizes_of;
-use model::judge_file;
-use model::refusals;
-use model::two;
+use format::judge_file;
+use format::refusals;
+use format::two;
 
 // The model of a file: its constants row after row over the front of their area, its parameter rows over the front of theirs.
 pub fn read_file(file: &[u8], constants: &mut [u16], parameters: &mut [u64]) -> Sizes
-    ensures { λ r. ⌜ Reading (now (file .entry)) (now (constants .entry)) (now (parameters .entry)) (r .refusal) (r .p) (r .n) (r .a) (r .b) (now (constants .exit)) (now (parameters .exit)) ⌝ }
+    ensures { λ r. ⌜ ReadCall (now (file .entry)) (now (constants .entry)) (now (parameters .entry)) (r .refusal) (r .p) (r .n) (r .a) (r .b) (now (constants .exit)) (now (parameters .exit)) ⌝ }
 {
     let r = judge_file(file);
     if r != 0 {
@@ -53,8 +53,8 @@ fn read_entries(out: &mut [u16], body: &[u8])
 
 // The constants of the rows that stand first in the file's rest.
 fn read_constants(out: &mut [u16], file: &[u8], n: usize, a: usize)
-    requires { ⌜ (n ≤ mostColumns) × (a * (3 + 2 * n) ≤ length (now file)) × (a * n ≤ length (now out)) ⌝ }
-    ensures { λ _. ⌜ now (out .exit) ≡ over (constantsOf n a (now (file .entry))) (now (out .entry)) ⌝ }
+    requires { ⌜ (n ≤ most-columns) × (a * (3 + 2 * n) ≤ length (now file)) × (a * n ≤ length (now out)) ⌝ }
+    ensures { λ _. ⌜ now (out .exit) ≡ over (constants-of n a (now (file .entry))) (now (out .entry)) ⌝ }
 {
     let size = 3 + 2 * n;
     let mut rest = file;
@@ -71,7 +71,7 @@ fn read_constants(out: &mut [u16], file: &[u8], n: usize, a: usize)
 // The parameter rows that stand first in the file's rest.
 fn read_parameters(out: &mut [u64], file: &[u8], b: usize)
     requires { ⌜ (11 * b ≤ length (now file)) × (b ≤ length (now out)) ⌝ }
-    ensures { λ _. ⌜ now (out .exit) ≡ over (parametersOf b (now (file .entry))) (now (out .entry)) ⌝ }
+    ensures { λ _. ⌜ now (out .exit) ≡ over (parameters-of b (now (file .entry))) (now (out .entry)) ⌝ }
 {
     let mut rest = file;
     let mut at = 0;

@@ -10,15 +10,15 @@ use native.Mathlib.Nat.{mul-add-div-right, mul-add-mod-self-right, mod-lt, mod-e
 use lib.ListN.{length, getD}
 use lib.Dec.{eqb, leb, ltb}
 use borrow.Author.Tests.{eq-eqb, ne-eqb, eqb-true, le-leb, lt-leb, leb-true, lt-ltb}
-use Rattle.residue.specs.Arithmetic.{Prime, isPrime}
+use Rattle.residue.specs.Arithmetic.{Prime, is-prime}
 use Rattle.residue.specs.Fields.{Field}
 use Rattle.residue.specs.Primes.{prime→test}
 use Rattle.residue.specs.Residues.{res-zero, res-one}
-use Rattle.columns.specs.Counting.Bools.{true?, not-true, iff-eq, and-in, and-left, and-right, not-of, not-both, not-in}
-use Rattle.columns.specs.Counting.Sets.{Set, _∈_, indicator, #}
-use Rattle.columns.specs.Counting.Counts.{#-ext}
-use Rattle.columns.specs.Counting.Beside.{beside}
-use Rattle.columns.specs.Counting.Blocks.{beside-low, beside-high, low-or-high}
+use Rattle.counting.specs.Bools.{true?, not-true, iff-eq, and-in, and-left, and-right, not-of, not-both, not-in}
+use Rattle.counting.specs.Sets.{Set, _∈_, indicator, #}
+use Rattle.counting.specs.Counts.{#-ext}
+use Rattle.counting.specs.Beside.{beside}
+use Rattle.counting.specs.Blocks.{beside-low, beside-high, low-or-high}
 use Rattle.columns.specs.Columns.{width, members, upto, inserted, moved-up, word-of, within}
 use Rattle.columns.specs.Words.Operations.{within-iff, word-members}
 use Rattle.columns.specs.Words.SetLaws.{upto-iff, inserted-same, inserted-old, inserted-split}
@@ -34,9 +34,9 @@ use Rattle.mixed_models.specs.Mixed.{Mixed, unit, mixed-sum, mixed-rank, mixed-
 use Rattle.mixed_models.specs.MixedTheorem.{form-rank, shown-reach}
 use Rattle.mixed_models.specs.MixedTheorem.Form.{served-iff, shown-I-iff}
 use Rattle.mixed.specs.MixedForm.{form-entry, form-row, serves}
-use Rattle.model.specs.Refusals.{unless, notMixed, mostColumns, mixedTest, mixedTests, mixedRefusal, modelTests, refusal, firstRefusal}
-use Rattle.model.specs.RefusalLaws.{first-fails, then-refused, then-passed, then-zero, zero-then, unless-zero, zero-unless}
-use Rattle.model.specs.TestLaws.{Accepted, model-accepted, constant-below}
+use Rattle.format.specs.Refusals.{unless, not-mixed, most-columns, mixed-test, mixed-tests, mixed-refusal, model-tests, refusal, first-refusal}
+use Rattle.format.specs.RefusalLaws.{first-fails, then-refused, then-passed, then-zero, zero-then, unless-zero, zero-unless}
+use Rattle.format.specs.TestLaws.{Accepted, model-accepted, constant-below}
 use Rattle.mixed.specs.MixedAnswers.{MixedAnswered}
 
 one-at-most : (b : Bool) → indicator b ≤ 1
@@ -210,29 +210,29 @@ module _ (X : Mixed) (the-rank : ℕ) (placed-set side short-set : Set) (rows : 
 -- ---- the judgement
 
 module _ (p n a b : ℕ) (cs ws : List ℕ) where
-  pub at-model : (r : ℕ) → r ≡ refusal p n a b cs ws → r ≢ 0 → r ≡ mixedRefusal p n a b cs ws
-  unfolding refusal mixedRefusal mixedTests
-  at-model r e h = then-refused (modelTests p n a b cs ws) (unless (mixedTest n a b) notMixed) r e h
+  pub at-model : (r : ℕ) → r ≡ refusal p n a b cs ws → r ≢ 0 → r ≡ mixed-refusal p n a b cs ws
+  unfolding refusal mixed-refusal mixed-tests
+  at-model r e h = then-refused (model-tests p n a b cs ws) (unless (mixed-test n a b) not-mixed) r e h
 
-  pub at-mixed : refusal p n a b cs ws ≡ 0 → mixedTest n a b ≡ false → 10 ≡ mixedRefusal p n a b cs ws
-  unfolding refusal mixedRefusal mixedTests
-  at-mixed z e = then-passed (modelTests p n a b cs ws) (unless (mixedTest n a b) notMixed) 10 z (first-fails (mixedTest n a b) notMixed [] e)
+  pub at-mixed : refusal p n a b cs ws ≡ 0 → mixed-test n a b ≡ false → 10 ≡ mixed-refusal p n a b cs ws
+  unfolding refusal mixed-refusal mixed-tests
+  at-mixed z e = then-passed (model-tests p n a b cs ws) (unless (mixed-test n a b) not-mixed) 10 z (first-fails (mixed-test n a b) not-mixed [] e)
 
-  pub at-none : refusal p n a b cs ws ≡ 0 → mixedTest n a b ≡ true → 0 ≡ mixedRefusal p n a b cs ws
-  unfolding refusal mixedRefusal mixedTests
-  at-none z e = sym (zero-then (modelTests p n a b cs ws) (unless (mixedTest n a b) notMixed) z (zero-unless (mixedTest n a b) notMixed e))
+  pub at-none : refusal p n a b cs ws ≡ 0 → mixed-test n a b ≡ true → 0 ≡ mixed-refusal p n a b cs ws
+  unfolding refusal mixed-refusal mixed-tests
+  at-none z e = sym (zero-then (model-tests p n a b cs ws) (unless (mixed-test n a b) not-mixed) z (zero-unless (mixed-test n a b) not-mixed e))
 
-  pub mixed-reads : (mixedTest n a b ≡ true) ↔ ((a ≡ b) × (a + n ≤ mostColumns))
-  unfolding mixedTest
+  pub mixed-reads : (mixed-test n a b ≡ true) ↔ ((a ≡ b) × (a + n ≤ most-columns))
+  unfolding mixed-test
   mixed-reads = (
-    (λ e. (eqb-true a b (and-left (eqb a b) (leb (a + n) mostColumns) e), leb-true (a + n) mostColumns (and-right (eqb a b) (leb (a + n) mostColumns) e))),
-    λ w. and-in (eq-eqb a b (w .0)) (le-leb (a + n) mostColumns (w .1)),
+    (λ e. (eqb-true a b (and-left (eqb a b) (leb (a + n) most-columns) e), leb-true (a + n) most-columns (and-right (eqb a b) (leb (a + n) most-columns) e))),
+    λ w. and-in (eq-eqb a b (w .0)) (le-leb (a + n) most-columns (w .1)),
   )
 
-  pub mixed-accepted : mixedRefusal p n a b cs ws ≡ 0 → Accepted p n a a cs ws × (a + n ≤ mostColumns)
-  unfolding refusal mixedRefusal mixedTests
+  pub mixed-accepted : mixed-refusal p n a b cs ws ≡ 0 → Accepted p n a a cs ws × (a + n ≤ most-columns)
+  unfolding refusal mixed-refusal mixed-tests
   mixed-accepted e =
-      let z = then-zero (modelTests p n a b cs ws) (unless (mixedTest n a b) notMixed) e in
-      let w = mixed-reads .0 (unless-zero (mixedTest n a b) notMixed (z .1)) in
+      let z = then-zero (model-tests p n a b cs ws) (unless (mixed-test n a b) not-mixed) e in
+      let w = mixed-reads .0 (unless-zero (mixed-test n a b) not-mixed (z .1)) in
       let h : Accepted p n a b cs ws = model-accepted p n a b cs ws (z .0) in
       (rw (sym (w .0)) at h, w .1)

@@ -3,11 +3,11 @@ use Prim.Native.Nat.{ℕ, _<_}
 use mathlib.Core.Path.{_≡_}
 use mathlib.Core.Logic.{_≢_}
 use mathlib.Core.List.{List}
-use Rattle.columns.specs.Counting.Sets.{_∈_}
+use Rattle.counting.specs.Sets.{_∈_}
 use Rattle.columns.specs.Columns.{width, members, word-of}
 use Rattle.rank.specs.Layered.Rank.{short}
 use Rattle.mixed_models.specs.Mixed.{Mixed, mixed-sum, mixed-rank, mixed-verdict, layered-form, mixed}
-use Rattle.model.specs.Refusals.{mixedRefusal}
+use Rattle.format.specs.Refusals.{mixed-refusal}
 
 -- a refusal has every other number 0 and every set empty
 pub record MixedRefused (the-verdict the-rank the-rows the-columns the-short : ℕ) : Type 0 where
@@ -29,6 +29,6 @@ pub record MixedAnswered (X : Mixed) (the-verdict the-rank the-rows the-columns 
 
 -- the mixed rank call
 pub record MixedAnswer (p n a b : ℕ) (cs ws : List ℕ) (the-refusal the-verdict the-rank the-rows the-columns the-short : ℕ) : Type 0 where
-  pub is-refusal : the-refusal ≡ mixedRefusal p n a b cs ws
-  pub if-refused : mixedRefusal p n a b cs ws ≢ 0 → MixedRefused the-verdict the-rank the-rows the-columns the-short
-  pub if-accepted : mixedRefusal p n a b cs ws ≡ 0 → MixedAnswered (mixed p a n cs ws) the-verdict the-rank the-rows the-columns the-short
+  pub is-refusal : the-refusal ≡ mixed-refusal p n a b cs ws
+  pub if-refused : mixed-refusal p n a b cs ws ≢ 0 → MixedRefused the-verdict the-rank the-rows the-columns the-short
+  pub if-accepted : mixed-refusal p n a b cs ws ≡ 0 → MixedAnswered (mixed p a n cs ws) the-verdict the-rank the-rows the-columns the-short

@@ -3,8 +3,8 @@ use Prim.Native.Nat.{ℕ, _+_, _*_, _/_, _%_, _<_, _≤_}
 use mathlib.Core.List.{List}
 use lib.ListN.{getD}
 use lib.Dec.{eqb}
-use Rattle.columns.specs.Counting.Sets.{Set, indicator}
-use Rattle.columns.specs.Counting.Beside.{beside}
+use Rattle.counting.specs.Sets.{Set, indicator}
+use Rattle.counting.specs.Beside.{beside}
 use Rattle.columns.specs.Columns.{inserted, moved-up}
 
 -- entry k of the form's m rows of m + n constants: the unit matrix, and behind it the constants

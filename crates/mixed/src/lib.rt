@@ -4,15 +4,15 @@ ghost use mathlib.Core.Logic.{_↔_};
 ghost use mathlib.Core.Bool.{true, false};
 ghost use Prim.Native.Nat.{ℕ, _+_, _*_, _<_, _≤_};
 ghost use lib.ListN.{length, getD};
-ghost use Rattle.columns.specs.Counting.Sets.{_∈_};
+ghost use Rattle.counting.specs.Sets.{_∈_};
 ghost use Rattle.columns.specs.Columns.{members};
-ghost use Rattle.model.specs.Refusals.{mixedRefusal};
+ghost use Rattle.format.specs.Refusals.{mixed-refusal};
 ghost use Rattle.mixed.specs.MixedForm.{form-entry, form-row, serves};
 ghost use Rattle.mixed.specs.MixedAnswers.{MixedRefused, MixedAnswer};
+use format::MOST_COLUMNS;
+use format::judge_model;
+use format::refusals::NOT_MIXED;
 use layered::verdict_of;
-use model::MOST_COLUMNS;
-use model::judge_model;
-use model::refusals::NOT_MIXED;
 
 // The refusal or 0; the verdict, 1 where the rank equals n; the rank; rows I and columns J that reach it; and the short set of the
 // layered form.
@@ -47,7 +47,7 @@ pub fn judge_mixed(
     constants: &[u16],
     parameters: &[u64],
 ) -> u32
-    ensures { λ r. ⌜ r ≡ mixedRefusal p n a b (now (constants .entry)) (now (parameters .entry)) ⌝ }
+    ensures { λ r. ⌜ r ≡ mixed-refusal p n a b (now (constants .entry)) (now (parameters .entry)) ⌝ }
 {
     let number = judge_model(p, n, a, b, constants, parameters);
     if number != 0 {

@@ -5,12 +5,12 @@ use mathlib.Core.Path.{_≡_, refl}
 use mathlib.Core.Bool.{true, false, decide}
 use mathlib.Core.List.{List, [], _∷_}
 use native.Mathlib.Decide.{ℕ-discrete, decLe, decLt}
-use Rattle.residue.specs.Arithmetic.{Prime, isPrime, undivided}
+use Rattle.residue.specs.Arithmetic.{Prime, is-prime, undivided}
 use Rattle.residue.specs.Residues.{residues, res, mk, plus, times}
-use Rattle.columns.specs.Counting.Bools.{true?}
-use Rattle.columns.specs.Counting.Sets.{indicator, #, all, any, choose, set, touching}
-use Rattle.columns.specs.Counting.Beside.{beside}
-use Rattle.columns.specs.Counting.Choices.{greatest, largest, some, every, membership, largest-part, every-part}
+use Rattle.counting.specs.Bools.{true?}
+use Rattle.counting.specs.Sets.{indicator, #, all, any, choose, set, touching}
+use Rattle.counting.specs.Beside.{beside}
+use Rattle.counting.specs.Choices.{greatest, largest, some, every, membership, largest-part, every-part}
 use Rattle.columns.specs.Columns.{members}
 use Rattle.rank.specs.Modulus.{modulus, modulus-at}
 use Rattle.rank.specs.Linear.Independence.{Σ, dot}
@@ -30,12 +30,12 @@ run = 0
 
 -- S1, at its prime 1,021
 s1 : (rank S1 ≡ 0) × (placed S1 0 ≡ false) × (short S1 0 ≡ true) × (verdict S1 ≡ 0)
-unfolding run modulus modulus-at true? isPrime undivided
+unfolding run modulus modulus-at true? is-prime undivided
 s1 = (refl, refl, refl, refl)
 
 -- S5, at its prime 3
 s5 : (rank S5 ≡ 1) × (placed S5 0 ≡ true) × (placed S5 1 ≡ false) × (short S5 0 ≡ true) × (short S5 1 ≡ true) × (verdict S5 ≡ 0)
-unfolding run modulus modulus-at true? isPrime undivided
+unfolding run modulus modulus-at true? is-prime undivided
 s5 = (refl, refl, refl, refl, refl, refl)
 
 -- ---- mixed models

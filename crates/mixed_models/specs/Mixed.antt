@@ -8,16 +8,16 @@ use native.Mathlib.Decide.{ℕ-discrete, decLt}
 use Rattle.residue.specs.Arithmetic.{Prime}
 use Rattle.residue.specs.Fields.{Field}
 use Rattle.residue.specs.Residues.{residues}
-use Rattle.columns.specs.Counting.Sets.{Set, indicator, any}
-use Rattle.columns.specs.Counting.Beside.{beside}
-use Rattle.columns.specs.Counting.Choices.{largest-part}
+use Rattle.counting.specs.Sets.{Set, indicator, any}
+use Rattle.counting.specs.Beside.{beside}
+use Rattle.counting.specs.Choices.{largest-part}
 use Rattle.rank.specs.Linear.Independence.{Indep}
 use Rattle.rank.specs.Modulus.{modulus}
 use Rattle.rank.specs.Layered.Model.{Model, row, Assignment, is-constant, same-row}
 use Rattle.rank.specs.Layered.Rank.{constant-rank, matching}
 use Rattle.rank.specs.Independent.{independent}
 use Rattle.rank.specs.IndependentLaws.{independent-iff}
-use Rattle.mixed_models.specs.ListedModel.{entries, parameters}
+use Rattle.rank.specs.ListedModel.{constant-at, parameter-at}
 
 -- A mixed model: m rows and n columns. Row i is the sum of a constant row, with the constant Q i x at column x, and a parameter row, with a parameter at
 -- column x where T i x; a place may hold both. With a test for independent columns, true of them and of no others.
@@ -91,8 +91,8 @@ mixed-at q P m n cs ws = record {
   K = residues q P;
   m = m;
   n = n;
-  Q = entries q P n cs;
-  T = parameters ws;
+  Q = constant-at q P n cs;
+  T = parameter-at ws;
   indep = λ a n Q. independent q P a n Q;
   indep-iff = λ a n Q. independent-iff q P a n Q;
 }

@@ -8,8 +8,8 @@ use native.Mathlib.Decide.{ℕ-discrete, decLe, decLt}
 use lib.ListN.{getD}
 use Rattle.residue.specs.Arithmetic.{Prime}
 use Rattle.residue.specs.Residues.{residues, res, mk, plus, times}
-use Rattle.columns.specs.Counting.Sets.{Set, indicator, #, all, any, choose, set, touching}
-use Rattle.columns.specs.Counting.Choices.{greatest, largest, some, every, membership, largest-part, every-part}
+use Rattle.counting.specs.Sets.{Set, indicator, #, all, any, choose, set, touching}
+use Rattle.counting.specs.Choices.{greatest, largest, some, every, membership, largest-part, every-part}
 use Rattle.columns.specs.Columns.{members}
 use Rattle.rank.specs.Linear.Independence.{Σ, dot}
 use Rattle.rank.specs.Layered.Model.{Model, same-row, has-parameter, legal}

@@ -1,10 +1,10 @@
 -- Demand 3 holds of the rank and the short set, over every list of steps. Assumes nothing.
 use Prim.Native.Nat.{ℕ}
 use mathlib.Core.Path.{_≡_, fun-ext}
-use Rattle.columns.specs.Counting.Sets.{Set}
+use Rattle.counting.specs.Sets.{Set}
 use Rattle.rank.specs.Layered.Model.{Model}
 use Rattle.rank.specs.Layered.Rank.{rank, short}
-use Rattle.rank.specs.Layered.Reading.{short-iff}
+use Rattle.rank.specs.Layered.Meaning.{short-iff}
 use Rattle.rank.specs.Layered.Duality.{size-le-rank}
 use Rattle.rank.specs.Layered.Minimax.{short-of-E, sum-short, rank-le-sum, extends}
 use Rattle.rank.specs.Steps.{result, Demand3}

@@ -4,8 +4,8 @@ use mathlib.Core.Bool.{Bool, not, _||_, cond, decide}
 use Rattle.residue.specs.Arithmetic.{Prime}
 use Rattle.residue.specs.Fields.{Field}
 use Rattle.residue.specs.Residues.{residues, res}
-use Rattle.columns.specs.Counting.Sets.{Set, all}
-use Rattle.columns.specs.Counting.Choices.{every}
+use Rattle.counting.specs.Sets.{Set, all}
+use Rattle.counting.specs.Choices.{every}
 use Rattle.rank.specs.Linear.Independence.{dot}
 
 -- a residue modulo the prime q is zero

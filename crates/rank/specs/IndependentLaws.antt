@@ -7,11 +7,11 @@ use native.Mathlib.Omega.{arith}
 use native.Mathlib.Decide.{decLt}
 use Rattle.residue.specs.Arithmetic.{Prime}
 use Rattle.residue.specs.Fields.{Field}
-use Rattle.residue.specs.Residues.{residues, res, numOf, numOf-below, res-numOf, res-zero}
-use Rattle.columns.specs.Counting.Bools.{true?, implies, implied}
-use Rattle.columns.specs.Counting.Sets.{Set, all, choose}
-use Rattle.columns.specs.Counting.Counts.{all-iff}
-use Rattle.columns.specs.Counting.ChoiceLaws.{Chosen, every-iff, cond-true, cond-false}
+use Rattle.residue.specs.Residues.{residues, res, num-of, num-of-below, res-num-of, res-zero}
+use Rattle.counting.specs.Bools.{true?, implies, implied}
+use Rattle.counting.specs.Sets.{Set, all, choose}
+use Rattle.counting.specs.Counts.{all-iff}
+use Rattle.counting.specs.ChoiceLaws.{Chosen, every-iff, cond-true, cond-false}
 use Rattle.rank.specs.Linear.Independence.{dot, In, InKernel, Indep}
 use Rattle.rank.specs.Linear.Sums.{dot-cong}
 use Rattle.rank.specs.Independent.{is-zero, in-kernel, independent}
@@ -55,9 +55,9 @@ module _ (q : ℕ) (P : Prime q) (a n : ℕ) (Q : ℕ → ℕ → residues q P .
     cut-chosen c h = record {
       inside = λ x l. elim (true? (S x)) [
         | yes s ↦ (
-          numOf q P (c x),
-          omega (arith, cond-true (S x) (q - 1) 0 s, numOf-below q P (c x)),
-          cut-below q P n c x l ∙ sym (res-numOf q P (c x)),
+          num-of q P (c x),
+          omega (arith, cond-true (S x) (q - 1) 0 s, num-of-below q P (c x)),
+          cut-below q P n c x l ∙ sym (res-num-of q P (c x)),
         )
         | no ns ↦ (0, omega arith, cut-below q P n c x l ∙ h x ns ∙ sym (res-zero _ P))
       ];

@@ -1,7 +1,7 @@
 -- Layered models: `Model` and `Rank` are document 01 as definitions; the other files prove what they say of each other.
 pub mod Model
 pub mod Rank
-pub mod Reading
+pub mod Meaning
 pub mod Restricting
 pub mod Duality
 pub mod Valid

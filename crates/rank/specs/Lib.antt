@@ -7,6 +7,8 @@ pub mod Layered
 pub mod Independent
 pub mod IndependentLaws
 pub mod ModelModulo
+pub mod ListedModel
+pub mod ListedModelLaws
 pub mod Computed
 pub mod Steps
 pub mod StepsLaws

@@ -3,7 +3,7 @@ use Prim.Native.Nat.{ℕ}
 use mathlib.Core.Bool.{Bool}
 use Rattle.residue.specs.Arithmetic.{Prime}
 use Rattle.residue.specs.Residues.{residues}
-use Rattle.columns.specs.Counting.Sets.{Set}
+use Rattle.counting.specs.Sets.{Set}
 use Rattle.rank.specs.Layered.Model.{Model}
 use Rattle.rank.specs.Independent.{independent}
 use Rattle.rank.specs.IndependentLaws.{independent-iff}

@@ -3,11 +3,11 @@
 use Prim.Native.Nat.{ℕ}
 use mathlib.Core.Path.{_≡_}
 use mathlib.Core.Bool.{true}
-use Rattle.residue.specs.Arithmetic.{Prime, isPrime, undivided}
-use Rattle.residue.specs.Primes.{isPrime-reads, prime-by}
+use Rattle.residue.specs.Arithmetic.{Prime, is-prime, undivided}
+use Rattle.residue.specs.Primes.{is-prime-reads, prime-by}
 use Rattle.residue.specs.Fields.{Field}
 use Rattle.residue.specs.Residues.{residues, res}
-use Rattle.columns.specs.Counting.Bools.{true?}
+use Rattle.counting.specs.Bools.{true?}
 
 -- 2 is prime
 pub two-prime : Prime 2
@@ -15,13 +15,13 @@ unfolding undivided
 two-prime = prime-by 2 0 tt tt tt
 
 -- p itself where it is prime, and else 2; with the evidence
-unfoldable pub modulus-at : (p : ℕ) → Dec (isPrime p ≡ true) → (q : ℕ) × Prime q
-modulus-at p (yes e) = (p, isPrime-reads p .0 e)
+unfoldable pub modulus-at : (p : ℕ) → Dec (is-prime p ≡ true) → (q : ℕ) × Prime q
+modulus-at p (yes e) = (p, is-prime-reads p .0 e)
 modulus-at p (no ne) = (2, two-prime)
 
 -- the prime that p stands for
 unfoldable pub modulus : ℕ → (q : ℕ) × Prime q
-modulus p = modulus-at p (true? (isPrime p))
+modulus p = modulus-at p (true? (is-prime p))
 
 -- the field of residues modulo p
 abbrev pub field-of : ℕ → Field

@@ -4,8 +4,8 @@ use mathlib.Core.Path.{_≡_}
 use mathlib.Core.Bool.{Bool, true, false, not, _&&_, cond, decide}
 use mathlib.Core.List.{List, [], _∷_}
 use native.Mathlib.Decide.{decLt}
-use Rattle.columns.specs.Counting.Sets.{Set, _⊆_, set}
-use Rattle.columns.specs.Counting.Choices.{Part}
+use Rattle.counting.specs.Sets.{Set, _⊆_, set}
+use Rattle.counting.specs.Choices.{Part}
 use Rattle.rank.specs.Layered.Model.{Model, Seat, out, constant, row, Assignment, placing, Legal, size, OneMoreThan}
 use Rattle.rank.specs.Layered.Rank.{sum}
 

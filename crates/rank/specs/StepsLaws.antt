@@ -4,7 +4,7 @@ use mathlib.Core.Path.{_≡_, refl, ap}
 use mathlib.Core.Bool.{true, false, not, _&&_, decide, decide-iff, false≢true}
 use mathlib.Core.Logic.{_↔_, _⊎_, inl, inr}
 use native.Mathlib.Decide.{decLt}
-use Rattle.columns.specs.Counting.Bools.{and-in, and-left, and-right, not-in, in-not}
+use Rattle.counting.specs.Bools.{and-in, and-left, and-right, not-in, in-not}
 use Rattle.rank.specs.Layered.Model.{Model, Seat, out, constant, row, Assignment, is-placed, is-constant, placing}
 use Rattle.rank.specs.Steps.{place, remove, move, named, accepted}
 

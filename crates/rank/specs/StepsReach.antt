@@ -6,12 +6,12 @@ use mathlib.Core.List.{List, [], _∷_, _++_}
 use mathlib.Core.Logic.{inl, inr}
 use native.Mathlib.Omega.{arith}
 use native.Mathlib.Decide.{ℕ-discrete, decLt}
-use Rattle.columns.specs.Counting.Bools.{true?}
-use Rattle.columns.specs.Counting.Sets.{_∈_, set}
-use Rattle.columns.specs.Counting.Counts.{set-same, set-other}
-use Rattle.columns.specs.Counting.ChoiceLaws.{cond-true, cond-false}
+use Rattle.counting.specs.Bools.{true?}
+use Rattle.counting.specs.Sets.{_∈_, set}
+use Rattle.counting.specs.Counts.{set-same, set-other}
+use Rattle.counting.specs.ChoiceLaws.{cond-true, cond-false}
 use Rattle.rank.specs.Layered.Model.{Model, out, Assignment, is-placed, placing, Legal}
-use Rattle.rank.specs.Layered.Reading.{seat-cases}
+use Rattle.rank.specs.Layered.Meaning.{seat-cases}
 use Rattle.rank.specs.StepsLaws.{named-iff, place-iff}
 use Rattle.rank.specs.Steps.{Step, place, named, accepted, done, after, after-list, result}
 

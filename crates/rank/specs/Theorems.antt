@@ -4,14 +4,14 @@ use mathlib.Core.Path.{_≡_, fun-ext}
 use mathlib.Core.Bool.{cond}
 use mathlib.Core.List.{List}
 use mathlib.Core.Logic.{_↔_}
-use Rattle.columns.specs.Counting.Sets.{Set, _∈_, _⊆_, #}
-use Rattle.columns.specs.Counting.Choices.{Part}
+use Rattle.counting.specs.Sets.{Set, _∈_, _⊆_, #}
+use Rattle.counting.specs.Choices.{Part}
 use Rattle.rank.specs.Graph.States.{Placed, placed-of}
 use Rattle.rank.specs.Graph.Closed.{Closed}
 use Rattle.rank.specs.Graph.Layers.{layer, unplaced}
 use Rattle.rank.specs.Layered.Model.{Model, Assignment, placing, Legal, legal, size, OneMoreThan}
 use Rattle.rank.specs.Layered.Rank.{largest-assignment, sum, rank, placed, short, verdict}
-use Rattle.rank.specs.Layered.Reading.{short-iff, verdict-iff}
+use Rattle.rank.specs.Layered.Meaning.{short-iff, verdict-iff}
 use Rattle.rank.specs.Layered.Duality.{size-le-sum, size-le-rank, rank-reached, rank-largest}
 use Rattle.rank.specs.Layered.Seating.{Good}
 use Rattle.rank.specs.Layered.Assignments.{assignment, assignment-places, assignment-legal}

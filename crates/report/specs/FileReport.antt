@@ -5,7 +5,7 @@ use mathlib.Core.Logic.{_≢_}
 use mathlib.Core.List.{List}
 use lib.ListN.{length}
 use Rattle.rank.specs.Layered.Model.{Model}
-use Rattle.model.specs.File.Format.{judge}
+use Rattle.format.specs.File.Format.{judge}
 use Rattle.layered.specs.Answers.{Answered}
 use Rattle.layered.specs.FileModel.{file-model}
 use Rattle.report.specs.Report.{answer-text, refused-line, Reporting}

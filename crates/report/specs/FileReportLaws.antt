@@ -7,7 +7,7 @@ use lib.ListN.{length}
 use native.Mathlib.Decide.{ℕ-discrete}
 use Rattle.columns.specs.Words.Bytes.{AreBytes}
 use Rattle.rank.specs.Layered.Model.{Model}
-use Rattle.model.specs.File.Format.{judge, readRefusal, Reading}
+use Rattle.format.specs.File.Format.{judge, read-refusal, ReadCall}
 use Rattle.layered.specs.Answers.{Answered, LayeredAnswer}
 use Rattle.layered.specs.FileLaws.{read-judged, own-constants, own-parameters, own-length, own-count, judged, own-model, own-accepted}
 use Rattle.report.specs.Report.{refused-line, report-text, Reporting}
@@ -15,12 +15,12 @@ use Rattle.report.specs.ReportLaws.{reporting-as, reporting-within, repo
 use Rattle.report.specs.FileReport.{FileReport}
 
 module _ (s : List ℕ) (bytes : AreBytes s) (out : List ℕ) (len : ℕ) (out′ : List ℕ) where
-  pub refused-reported : (r : ℕ) → r ≡ readRefusal s own-constants own-parameters → r ≢ 0 → Reporting (refused-line r) out len out′ → FileReport s out len out′
+  pub refused-reported : (r : ℕ) → r ≡ read-refusal s own-constants own-parameters → r ≢ 0 → Reporting (refused-line r) out len out′ → FileReport s out len out′
   refused-reported r e h w =
       let j : r ≡ judge s = e ∙ read-judged s bytes own-constants own-parameters own-length own-count in
       record { if-refused = λ _. reporting-as (ap refused-line j) w; if-accepted = λ z. absurd (h (j ∙ z)) }
 
-  pub answer-reported : (p n a b : ℕ) (cs′ ws′ : List ℕ) → Reading s own-constants own-parameters 0 p n a b cs′ ws′
+  pub answer-reported : (p n a b : ℕ) (cs′ ws′ : List ℕ) → ReadCall s own-constants own-parameters 0 p n a b cs′ ws′
       → (the-refusal the-verdict the-rank the-placed the-side the-short : ℕ) (rows : List ℕ) → length rows ≡ 64 → LayeredAnswer p n a b cs′ ws′ the-refusal the-verdict the-rank the-placed the-side the-short rows
       → Reporting (report-text the-refusal the-verdict the-rank the-side the-short rows) out len out′ → FileReport s out len out′
   answer-reported p n a b cs′ ws′ r the-refusal the-verdict the-rank the-placed the-side the-short rows k h w =

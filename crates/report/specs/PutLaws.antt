@@ -4,8 +4,8 @@ use mathlib.Core.Path.{_≡_, refl, sym, ap, _∙_, subst}
 use mathlib.Core.List.{List, [], _∷_, _++_, append-assoc, append-nil}
 use native.Mathlib.Omega.{arith}
 use lib.ListN.{length, set, length-append, length-set}
-use Rattle.model.specs.Lists.{over}
-use Rattle.model.specs.OverLaws.{Wrote, wrote-none, wrote-set, wrote-all}
+use Rattle.format.specs.Lists.{over}
+use Rattle.format.specs.OverLaws.{Wrote, wrote-none, wrote-set, wrote-all}
 
 -- there is room for bs from `at` on
 pub record Room (bs : List ℕ) (at : ℕ) (d : List ℕ) : Type 0 where

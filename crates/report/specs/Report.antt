@@ -7,9 +7,9 @@ use mathlib.Core.Bool.{cond}
 use mathlib.Core.List.{List, [], _∷_, _++_, flatMap}
 use lib.Dec.{eqb, leb, ltb}
 use lib.ListN.{length}
-use Rattle.columns.specs.Counting.Sets.{Set}
+use Rattle.counting.specs.Sets.{Set}
 use Rattle.columns.specs.Columns.{width, members}
-use Rattle.model.specs.Lists.{over}
+use Rattle.format.specs.Lists.{over}
 
 -- ---- characters and numbers
 

@@ -11,13 +11,13 @@ use native.Mathlib.Numerals.{add-one}
 use lib.ListN.{length, getD, drop, length-append}
 use lib.Seq.{drop-cons}
 use borrow.Author.Tests.{lt-ltb, le-ltb, le-leb, lt-leb, eq-eqb, ne-eqb}
-use Rattle.columns.specs.Counting.Bools.{not-true, iff-eq}
-use Rattle.columns.specs.Counting.Sets.{Set, _∈_, #}
+use Rattle.counting.specs.Bools.{not-true, iff-eq}
+use Rattle.counting.specs.Sets.{Set, _∈_, #}
 use Rattle.columns.specs.Columns.{width, members, removed, least}
 use Rattle.columns.specs.Words.SetLaws.{removed-old, removed-gone, removed-other, least-there, nothing-in}
 use Rattle.columns.specs.Words.Operations.{least-first}
-use Rattle.model.specs.Lists.{over}
-use Rattle.model.specs.OverLaws.{over-none}
+use Rattle.format.specs.Lists.{over}
+use Rattle.format.specs.OverLaws.{over-none}
 use Rattle.report.specs.PutLaws.{Puts, puts-over}
 use Rattle.report.specs.Report.{ascii, digits, decimal, line, item, columns-from, column-items, row-item, row-items, verdict-line, answer-text, refused-line, report-text, report-area, reported, Reporting}
 

@@ -3,13 +3,13 @@ use Prim.Native.Nat.{ℕ}
 use mathlib.Core.Path.{_≡_}
 use mathlib.Core.List.{List, _∷_, _++_}
 use lib.ListN.{length}
-use Rattle.columns.specs.Bytes.{bytesOf}
+use Rattle.columns.specs.Bytes.{bytes-of}
 use Rattle.rank.specs.Layered.Model.{Model}
-use Rattle.model.specs.Lists.{over}
+use Rattle.format.specs.Lists.{over}
 use Rattle.layered.specs.Answers.{Answered}
 use Rattle.layered.specs.FileModel.{file-model}
-use Rattle.model.specs.File.Piece.{closed}
-use Rattle.model.specs.File.Format.{fields}
+use Rattle.format.specs.File.Piece.{closed}
+use Rattle.format.specs.File.Format.{fields}
 use Rattle.solvability.specs.AreaCall.{AreaCall}
 
 -- the least answer area
@@ -18,7 +18,7 @@ answer-length = 90
 
 -- verdict, rank, placed set, constant side, short set, and the 64 row columns
 unfoldable pub answer-bytes : (the-verdict the-rank the-placed the-side the-short : ℕ) → List ℕ → List ℕ
-answer-bytes the-verdict the-rank the-placed the-side the-short rows = the-verdict ∷ the-rank ∷ (bytesOf 8 the-placed ++ (bytesOf 8 the-side ++ (bytesOf 8 the-short ++ rows)))
+answer-bytes the-verdict the-rank the-placed the-side the-short rows = the-verdict ∷ the-rank ∷ (bytes-of 8 the-placed ++ (bytes-of 8 the-side ++ (bytes-of 8 the-short ++ rows)))
 
 -- the answer written over the front of the area: its numbers, sets and rows are those of the layered rank call for the model in the file, with
 -- demand 3 of the rank and the short set among them (`Answered`)

@@ -6,25 +6,25 @@ use mathlib.Core.List.{List}
 use lib.ListN.{length}
 use Rattle.columns.specs.Words.Bytes.{AreBytes}
 use Rattle.rank.specs.Layered.Model.{Model}
-use Rattle.model.specs.Lists.{over}
-use Rattle.model.specs.Refusals.{mostColumns, mostRows}
-use Rattle.model.specs.File.Piece.{closed}
-use Rattle.model.specs.File.Format.{fields, judge, readRefusal, Reading}
+use Rattle.format.specs.Lists.{over}
+use Rattle.format.specs.Refusals.{most-columns, most-rows}
+use Rattle.format.specs.File.Piece.{closed}
+use Rattle.format.specs.File.Format.{fields, judge, read-refusal, ReadCall}
 use Rattle.layered.specs.Answers.{Answered, LayeredAnswer}
 use Rattle.layered.specs.FileLaws.{read-judged, own-constants, own-parameters, judged, own-model, own-accepted}
-use Rattle.solvability.specs.AreaLaws.{area-refused, area-short, area-done}
+use Rattle.solvability.specs.AreaLaws.{area-refused, area-too-short, area-done}
 use Rattle.solvability.specs.Host.{answer-length, answer-bytes, HostAnswer}
 
-module _ (s : List ℕ) (bytes : AreBytes s) (cs ws : List ℕ) (l : mostRows * mostColumns ≤ length cs) (m : mostRows ≤ length ws) (area : List ℕ) where
-  pub host-refused : (r : ℕ) → r ≡ readRefusal s cs ws → r ≢ 0 → HostAnswer s area r area
+module _ (s : List ℕ) (bytes : AreBytes s) (cs ws : List ℕ) (l : most-rows * most-columns ≤ length cs) (m : most-rows ≤ length ws) (area : List ℕ) where
+  pub host-refused : (r : ℕ) → r ≡ read-refusal s cs ws → r ≢ 0 → HostAnswer s area r area
   unfolding HostAnswer judge
   host-refused r e h = area-refused (closed fields s) answer-length _ area r (e ∙ read-judged s bytes cs ws l m) h
 
-  pub host-short : readRefusal s cs ws ≡ 0 → length area < answer-length → HostAnswer s area 8 area
+  pub host-short : read-refusal s cs ws ≡ 0 → length area < answer-length → HostAnswer s area 8 area
   unfolding HostAnswer judge
-  host-short ok u = area-short (closed fields s) answer-length _ area (sym (read-judged s bytes cs ws l m) ∙ ok) u
+  host-short ok u = area-too-short (closed fields s) answer-length _ area (sym (read-judged s bytes cs ws l m) ∙ ok) u
 
-module _ (s : List ℕ) (bytes : AreBytes s) (area : List ℕ) (p n a b : ℕ) (cs′ ws′ : List ℕ) (r : Reading s own-constants own-parameters 0 p n a b cs′ ws′) where
+module _ (s : List ℕ) (bytes : AreBytes s) (area : List ℕ) (p n a b : ℕ) (cs′ ws′ : List ℕ) (r : ReadCall s own-constants own-parameters 0 p n a b cs′ ws′) where
   pub host-done : answer-length ≤ length area → (the-refusal the-verdict the-rank the-placed the-side the-short : ℕ) (rows : List ℕ) → length rows ≡ 64
       → LayeredAnswer p n a b cs′ ws′ the-refusal the-verdict the-rank the-placed the-side the-short rows
       → HostAnswer s area 0 (over (answer-bytes the-verdict the-rank the-placed the-side the-short rows) area)

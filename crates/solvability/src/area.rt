@@ -2,15 +2,15 @@
 ghost use mathlib.Core.Path.{_≡_};
 ghost use Prim.Native.Nat.{_≤_};
 ghost use lib.ListN.{length};
-ghost use Rattle.model.specs.Lists.{over};
+ghost use Rattle.format.specs.Lists.{over};
 ghost use Rattle.solvability.specs.Area.{mixed-length, mixed-bytes, LayeredBytes, MixedBytes};
 use crate::host::ANSWER_LENGTH;
 use crate::host::put_answer;
 use crate::host::put_numbers;
+use format::put_set;
+use format::refusals;
 use layered::layered_rank;
 use mixed::mixed_rank;
-use model::put_set;
-use model::refusals;
 
 // How many bytes a mixed answer takes.
 const MIXED_LENGTH: usize = 26;

@@ -3,12 +3,12 @@ ghost use mathlib.Core.List.{[], _∷_};
 ghost use mathlib.Core.Path.{_≡_};
 ghost use Prim.Native.Nat.{_≤_};
 ghost use lib.ListN.{length};
-ghost use Rattle.model.specs.Lists.{over};
+ghost use Rattle.format.specs.Lists.{over};
 ghost use Rattle.solvability.specs.Host.{answer-length, answer-bytes, HostAnswer};
+use format::put_set;
+use format::refusals;
 use layered::layered_rank;
 use loader::read_file;
-use model::put_set;
-use model::refusals;
 
 // How many bytes an answer takes.
 pub const ANSWER_LENGTH: usize = 90;

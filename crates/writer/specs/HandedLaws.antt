@@ -11,14 +11,14 @@ use lib.ListN.{length, getD, take, drop, length-drop}
 use lib.Seq.{length-take-le, take-add}
 use borrow.Author.Tests.{le-leb, lt-leb}
 use Rattle.columns.specs.Columns.{width, within}
-use Rattle.model.specs.Lists.{All, rowsOf, over}
-use Rattle.model.specs.OverLaws.{over-none}
-use Rattle.model.specs.Refusals.{areaTest, modelTests, refusal}
-use Rattle.model.specs.RefusalLaws.{first-fails, first-passes, first-none, then-refused, then-passed, where-refused, where-accepted}
-use Rattle.model.specs.TestLaws.{model-accepted}
-use Rattle.model.specs.File.Format.{Valid, judge, decode, encode, fileLength, handedOver, writeRefusal, bytesWritten, Writing}
-use Rattle.model.specs.File.FormatLaws.{decode-encode, encoded-accepted}
-use Rattle.model.specs.File.RowLaws.{handed-over-length}
+use Rattle.format.specs.Lists.{All, rows-of, over}
+use Rattle.format.specs.OverLaws.{over-none}
+use Rattle.format.specs.Refusals.{area-test, model-tests, refusal}
+use Rattle.format.specs.RefusalLaws.{first-fails, first-passes, first-none, then-refused, then-passed, where-refused, accepted-value}
+use Rattle.format.specs.TestLaws.{model-accepted}
+use Rattle.format.specs.File.Format.{ValidModel, judge, decode, encode, file-length, handed-over, write-refusal, bytes-written, WriteCall}
+use Rattle.format.specs.File.FormatLaws.{decode-encode, encoded-accepted}
+use Rattle.format.specs.File.RowLaws.{handed-over-length}
 
 -- ---- an accepted model is of the stated form
 
@@ -26,8 +26,8 @@ all-append : {A : Type 0} (Is : A → Type 0) (xs ys : List A) → All Is (xs ++
 all-append Is [] ys v = (tt, v)
 all-append Is (x ∷ xs) ys v = let i = all-append Is xs ys (v .1) in ((v .0, i .0), i .1)
 
-rows-all : (Is : ℕ → Type 0) (n k : ℕ) (s : List ℕ) → k * n ≤ length s → All Is (take (k * n) s) → (length (rowsOf n k s) ≡ k) × All (λ r. (length r ≡ n) × All Is r) (rowsOf n k s)
-unfolding rowsOf
+rows-all : (Is : ℕ → Type 0) (n k : ℕ) (s : List ℕ) → k * n ≤ length s → All Is (take (k * n) s) → (length (rows-of n k s) ≡ k) × All (λ r. (length r ≡ n) × All Is r) (rows-of n k s)
+unfolding rows-of
 rows-all Is n zero s h v = (refl, tt)
 rows-all Is n (suc k) s h v =
     let m : suc k * n ≡ n + k * n = suc-mul k n ∙ omega arith in
@@ -42,8 +42,8 @@ words-all n (suc k) [] h v = tt
 words-all n (suc k) (w ∷ s) h v = ((h 0, v .0), words-all n k s (λ i. h (suc i)) (v .1))
 
 module _ (p n a b : ℕ) (cs ws : List ℕ) (words : (i : ℕ) → getD ws i 0 < 2 ^ width) (e : refusal p n a b cs ws ≡ 0) where
-  pub handed-over-valid : Valid (handedOver p n a b cs ws)
-  unfolding handedOver
+  pub handed-over-valid : ValidModel (handed-over p n a b cs ws)
+  unfolding handed-over
   handed-over-valid =
       let h = model-accepted p n a b cs ws e in
       let r = rows-all (λ c. c < p) n a cs (h .constants-lent) (h .constants-below) in
@@ -61,36 +61,36 @@ module _ (p n a b : ℕ) (cs ws : List ℕ) (words : (i : ℕ) → getD ws i 0 <
       }
 
   -- what is written of it is accepted, and read back
-  pub written-accepted : judge (encode (handedOver p n a b cs ws)) ≡ 0
+  pub written-accepted : judge (encode (handed-over p n a b cs ws)) ≡ 0
   written-accepted = encoded-accepted _ handed-over-valid
 
-  pub written-read : decode (encode (handedOver p n a b cs ws)) ≡ handedOver p n a b cs ws
+  pub written-read : decode (encode (handed-over p n a b cs ws)) ≡ handed-over p n a b cs ws
   written-read = decode-encode _ handed-over-valid
 
 -- ---- written into an area
 
 module _ (p n a b : ℕ) (cs ws out : List ℕ) where
-  writing-nothing : (r : ℕ) → r ≡ writeRefusal p n a b cs ws out → r ≢ 0 → Writing p n a b cs ws out r 0 out
-  unfolding bytesWritten
+  writing-nothing : (r : ℕ) → r ≡ write-refusal p n a b cs ws out → r ≢ 0 → WriteCall p n a b cs ws out r 0 out
+  unfolding bytes-written
   writing-nothing r e h =
-      let none = where-refused r e h (encode (handedOver p n a b cs ws)) [] in
+      let none = where-refused r e h (encode (handed-over p n a b cs ws)) [] in
       record { refusal-is = e; length-is = sym (ap length none); bytes-are = over-none out ∙ ap (λ (bs : List ℕ). over bs out) (sym none) }
 
-  pub writing-refused : (r : ℕ) → r ≡ refusal p n a b cs ws → r ≢ 0 → Writing p n a b cs ws out r 0 out
-  unfolding writeRefusal refusal
-  writing-refused r e h = writing-nothing r (then-refused (modelTests p n a b cs ws) _ r e h) h
+  pub writing-refused : (r : ℕ) → r ≡ refusal p n a b cs ws → r ≢ 0 → WriteCall p n a b cs ws out r 0 out
+  unfolding write-refusal refusal
+  writing-refused r e h = writing-nothing r (then-refused (model-tests p n a b cs ws) _ r e h) h
 
   module _ (e : refusal p n a b cs ws ≡ 0) where
-    pub writing-short : length out < fileLength n a b → Writing p n a b cs ws out 8 0 out
-    unfolding writeRefusal refusal areaTest
-    writing-short l = writing-nothing 8 (then-passed (modelTests p n a b cs ws) _ 8 e (first-fails _ _ _ (lt-leb _ _ l))) (λ z. omega arith)
+    pub writing-short : length out < file-length n a b → WriteCall p n a b cs ws out 8 0 out
+    unfolding write-refusal refusal area-test
+    writing-short l = writing-nothing 8 (then-passed (model-tests p n a b cs ws) _ 8 e (first-fails _ _ _ (lt-leb _ _ l))) (λ z. omega arith)
 
-    pub writing-done : (out′ : List ℕ) → fileLength n a b ≤ length out → out′ ≡ over (encode (handedOver p n a b cs ws)) out → Writing p n a b cs ws out 0 (fileLength n a b) out′
-    unfolding writeRefusal refusal areaTest bytesWritten
+    pub writing-done : (out′ : List ℕ) → file-length n a b ≤ length out → out′ ≡ over (encode (handed-over p n a b cs ws)) out → WriteCall p n a b cs ws out 0 (file-length n a b) out′
+    unfolding write-refusal refusal area-test bytes-written
     writing-done out′ l q =
         let h = model-accepted p n a b cs ws e in
-        let z : 0 ≡ writeRefusal p n a b cs ws out = then-passed (modelTests p n a b cs ws) _ 0 e (first-passes _ _ _ _ (le-leb _ _ l) first-none) in
-        let all = where-accepted 0 z refl (encode (handedOver p n a b cs ws)) [] in
+        let z : 0 ≡ write-refusal p n a b cs ws out = then-passed (model-tests p n a b cs ws) _ 0 e (first-passes _ _ _ _ (le-leb _ _ l) first-none) in
+        let all = accepted-value 0 z refl (encode (handed-over p n a b cs ws)) [] in
         record {
           refusal-is = z;
           length-is = sym (ap length all ∙ handed-over-length p n a b cs ws (h .constants-lent) (h .parameters-lent));

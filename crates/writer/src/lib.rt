@@ -3,15 +3,15 @@ ghost use mathlib.Core.Path.{_≡_};
 ghost use mathlib.Core.List.{[], _∷_, flatMap};
 ghost use Prim.Native.Nat.{_+_, _*_, _/_, _%_, _≤_};
 ghost use lib.ListN.{length};
-ghost use Rattle.columns.specs.Bytes.{bytesOf};
-ghost use Rattle.model.specs.Lists.{over, rowsOf};
-ghost use Rattle.model.specs.Refusals.{mostColumns, mostRows};
-ghost use Rattle.model.specs.File.Piece.{fieldBytes};
-ghost use Rattle.model.specs.File.Format.{entryBytes, encode, handedOver, fileLength, Writing};
-ghost use Rattle.model.specs.File.Steps.{constantBytes, parameterBytes};
-use model::judge_model;
-use model::put_set;
-use model::refusals;
+ghost use Rattle.columns.specs.Bytes.{bytes-of};
+ghost use Rattle.format.specs.Lists.{over, rows-of};
+ghost use Rattle.format.specs.Refusals.{most-columns, most-rows};
+ghost use Rattle.format.specs.File.Piece.{field-bytes};
+ghost use Rattle.format.specs.File.Format.{entry-bytes, encode, handed-over, file-length, WriteCall};
+ghost use Rattle.format.specs.File.Steps.{constant-bytes, parameter-bytes};
+use format::judge_model;
+use format::put_set;
+use format::refusals;
 
 // How many bytes were written; 0 where the writing is refused.
 pub struct Written {
@@ -29,7 +29,7 @@ pub fn write_file(
     parameters: &[u64],
     out: &mut [u8],
 ) -> Written
-    ensures { λ r. ⌜ Writing p n a b (now (constants .entry)) (now (parameters .entry)) (now (out .entry)) (r .refusal) (r .length) (now (out .exit)) ⌝ }
+    ensures { λ r. ⌜ WriteCall p n a b (now (constants .entry)) (now (parameters .entry)) (now (out .entry)) (r .refusal) (r .length) (now (out .exit)) ⌝ }
 {
     let r = judge_model(p, n, a, b, constants, parameters);
     if r != 0 {
@@ -59,8 +59,8 @@ fn put_file(
     constants: &[u16],
     parameters: &[u64],
 )
-    requires { ⌜ (n ≤ mostColumns) × (a ≤ mostRows) × (b ≤ mostRows) × (a * n ≤ length (now constants)) × (b ≤ length (now parameters)) × (fileLength n a b ≤ length (now out)) ⌝ }
-    ensures { λ _. ⌜ now (out .exit) ≡ over (encode (handedOver p n a b (now (constants .entry)) (now (parameters .entry)))) (now (out .entry)) ⌝ }
+    requires { ⌜ (n ≤ most-columns) × (a ≤ most-rows) × (b ≤ most-rows) × (a * n ≤ length (now constants)) × (b ≤ length (now parameters)) × (file-length n a b ≤ length (now out)) ⌝ }
+    ensures { λ _. ⌜ now (out .exit) ≡ over (encode (handed-over p n a b (now (constants .entry)) (now (parameters .entry)))) (now (out .entry)) ⌝ }
 {
     put_prime(out, p);
     put_sizes(&mut out[5..], n as u8, a as u8, b as u8);
@@ -82,7 +82,7 @@ fn put_two(out: &mut [u8], c: u16)
 
 fn put_head(out: &mut [u8], tag: u8, size: u16)
     requires { ⌜ 3 ≤ length (now out) ⌝ }
-    ensures { λ _. ⌜ now (out .exit) ≡ over (fieldBytes tag size []) (now (out .entry)) ⌝ }
+    ensures { λ _. ⌜ now (out .exit) ≡ over (field-bytes tag size []) (now (out .entry)) ⌝ }
 {
     out[0] = tag;
     put_two(&mut out[1..], size);
@@ -90,7 +90,7 @@ fn put_head(out: &mut [u8], tag: u8, size: u16)
 
 fn put_prime(out: &mut [u8], p: u16)
     requires { ⌜ 5 ≤ length (now out) ⌝ }
-    ensures { λ _. ⌜ now (out .exit) ≡ over (fieldBytes 1 2 (bytesOf 2 p)) (now (out .entry)) ⌝ }
+    ensures { λ _. ⌜ now (out .exit) ≡ over (field-bytes 1 2 (bytes-of 2 p)) (now (out .entry)) ⌝ }
 {
     put_head(out, 1, 2);
     put_two(&mut out[3..], p);
@@ -98,7 +98,7 @@ fn put_prime(out: &mut [u8], p: u16)
 
 fn put_sizes(out: &mut [u8], n: u8, a: u8, b: u8)
     requires { ⌜ 6 ≤ length (now out) ⌝ }
-    ensures { λ _. ⌜ now (out .exit) ≡ over (fieldBytes 2 3 (n ∷ a ∷ b ∷ [])) (now (out .entry)) ⌝ }
+    ensures { λ _. ⌜ now (out .exit) ≡ over (field-bytes 2 3 (n ∷ a ∷ b ∷ [])) (now (out .entry)) ⌝ }
 {
     put_head(out, 2, 3);
     out[3] = n;
@@ -109,7 +109,7 @@ fn put_sizes(out: &mut [u8], n: u8, a: u8, b: u8)
 // The entries of a row: the row's unread rest, and the part after the last entry.
 fn put_entries(out: &mut [u8], row: &[u16])
     requires { ⌜ 2 * length (now row) ≤ length (now out) ⌝ }
-    ensures { λ _. ⌜ now (out .exit) ≡ over (entryBytes (now (row .entry))) (now (out .entry)) ⌝ }
+    ensures { λ _. ⌜ now (out .exit) ≡ over (entry-bytes (now (row .entry))) (now (out .entry)) ⌝ }
 {
     let mut rest = row;
     let mut at = 0;
@@ -121,8 +121,8 @@ fn put_entries(out: &mut [u8], row: &[u16])
 }
 
 fn put_constant_row(out: &mut [u8], row: &[u16])
-    requires { ⌜ (length (now row) ≤ mostColumns) × (3 + 2 * length (now row) ≤ length (now out)) ⌝ }
-    ensures { λ _. ⌜ now (out .exit) ≡ over (constantBytes (length (now (row .entry))) (now (row .entry))) (now (out .entry)) ⌝ }
+    requires { ⌜ (length (now row) ≤ most-columns) × (3 + 2 * length (now row) ≤ length (now out)) ⌝ }
+    ensures { λ _. ⌜ now (out .exit) ≡ over (constant-bytes (length (now (row .entry))) (now (row .entry))) (now (out .entry)) ⌝ }
 {
     let size = (2 * row.len()) as u16;
     put_head(out, 3, size);
@@ -131,8 +131,8 @@ fn put_constant_row(out: &mut [u8], row: &[u16])
 
 // The rows one after the other: what is left of the constants, and the part after the last row.
 fn put_constant_rows(out: &mut [u8], constants: &[u16], n: usize, a: usize)
-    requires { ⌜ (n ≤ mostColumns) × (a * n ≤ length (now constants)) × (a * (3 + 2 * n) ≤ length (now out)) ⌝ }
-    ensures { λ _. ⌜ now (out .exit) ≡ over (flatMap (constantBytes n) (rowsOf n a (now (constants .entry)))) (now (out .entry)) ⌝ }
+    requires { ⌜ (n ≤ most-columns) × (a * n ≤ length (now constants)) × (a * (3 + 2 * n) ≤ length (now out)) ⌝ }
+    ensures { λ _. ⌜ now (out .exit) ≡ over (flatMap (constant-bytes n) (rows-of n a (now (constants .entry)))) (now (out .entry)) ⌝ }
 {
     let size = 3 + 2 * n;
     let mut rest = constants;
@@ -148,7 +148,7 @@ fn put_constant_rows(out: &mut [u8], constants: &[u16], n: usize, a: usize)
 
 fn put_parameter_row(out: &mut [u8], set: u64)
     requires { ⌜ 11 ≤ length (now out) ⌝ }
-    ensures { λ _. ⌜ now (out .exit) ≡ over (parameterBytes set) (now (out .entry)) ⌝ }
+    ensures { λ _. ⌜ now (out .exit) ≡ over (parameter-bytes set) (now (out .entry)) ⌝ }
 {
     put_head(out, 4, 8);
     put_set(&mut out[3..], set);
@@ -156,7 +156,7 @@ fn put_parameter_row(out: &mut [u8], set: u64)
 
 fn put_parameter_rows(out: &mut [u8], parameters: &[u64])
     requires { ⌜ 11 * length (now parameters) ≤ length (now out) ⌝ }
-    ensures { λ _. ⌜ now (out .exit) ≡ over (flatMap parameterBytes (now (parameters .entry))) (now (out .entry)) ⌝ }
+    ensures { λ _. ⌜ now (out .exit) ≡ over (flatMap parameter-bytes (now (parameters .entry))) (now (out .entry)) ⌝ }
 {
     let mut rest = parameters;
     let mut at = 0;

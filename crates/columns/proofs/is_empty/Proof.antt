@@ -6,9 +6,9 @@ use native.Mathlib.Omega.{arith}
 use lib.Dec.{eqb}
 use borrow.Author.Tests.{eq-eqb, eqb-true}
 use borrow.Author.Needs.{needs}
-use Rattle.columns.specs.Counting.Bools.{iff-eq}
-use Rattle.columns.specs.Counting.Sets.{#}
-use Rattle.columns.specs.Counting.Counts.{#-none}
+use Rattle.counting.specs.Bools.{iff-eq}
+use Rattle.counting.specs.Sets.{#}
+use Rattle.counting.specs.Counts.{#-none}
 use Rattle.columns.specs.Columns.{width, members}
 use Rattle.columns.specs.Words.Operations.{members-zero, no-members}
 use Rattle.columns.proofs.is_empty.Statement.{statement}

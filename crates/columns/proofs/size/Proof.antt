@@ -1,7 +1,7 @@
 -- `columns::size` meets its contract: the count of ones is the number of members. Assumes nothing.
 use native.Mathlib.Omega.{arith}
 use borrow.Author.Needs.{needs}
-use Rattle.columns.specs.Counting.Counts.{#-le}
+use Rattle.counting.specs.Counts.{#-le}
 use Rattle.columns.specs.Columns.{width, members}
 use Rattle.columns.specs.Words.Operations.{size-ones}
 use Rattle.columns.proofs.size.Statement.{statement}

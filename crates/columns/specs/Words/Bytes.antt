@@ -8,7 +8,7 @@ use native.Mathlib.Omega.{arith}
 use lib.Dec.{eqb, lit<}
 use lib.ListN.{getD, take, drop}
 use lib.Pow.{pow-pos, pow-add, shr-shr}
-use Rattle.columns.specs.Bytes.{number, bytesOf}
+use Rattle.columns.specs.Bytes.{number, bytes-of}
 use Rattle.columns.specs.Columns.{bit, members}
 use Rattle.columns.specs.Words.Bits.{bit-mod, bit-of-zero}
 
@@ -78,14 +78,14 @@ number-front (suc k) m (x ∷ bs) = number-front k m bs
 
 -- ---- the bytes of a word
 
-pub byte-at : (k j w : ℕ) → j < k → getD (bytesOf k w) j 0 ≡ w / 2 ^ (8 * j) % 256
+pub byte-at : (k j w : ℕ) → j < k → getD (bytes-of k w) j 0 ≡ w / 2 ^ (8 * j) % 256
 byte-at zero j w l = absurd (omega arith)
 byte-at (suc k) zero w l = ap (λ (q : ℕ). q % 256) (sym (div-one w))
 byte-at (suc k) (suc j) w l =
     byte-at k j (w / 256) (omega arith)
     ∙ ap (λ (q : ℕ). q % 256) (shr-shr w 8 (8 * j) ∙ ap (λ (m : ℕ). w / 2 ^ m) (sym (eight-more j)))
 
-pub byte-past : (k j w : ℕ) → k ≤ j → getD (bytesOf k w) j 0 ≡ 0
+pub byte-past : (k j w : ℕ) → k ≤ j → getD (bytes-of k w) j 0 ≡ 0
 byte-past zero j w l = refl
 byte-past (suc k) zero w l = absurd (omega arith)
 byte-past (suc k) (suc j) w l = byte-past k j (w / 256) (omega arith)

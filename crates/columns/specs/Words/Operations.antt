@@ -13,9 +13,9 @@ use lib.Pow.{pow-pos, pow-mono, pow-add, pow-lt, mod-pow-add, shr-shr}
 use lib.Bits.{bitAnd, bitOr}
 use lib.Count.{ones, ones-cat, trailingZeros, under}
 use borrow.Author.Tests.{le-leb, lt-leb, eq-eqb, ne-eqb, eqb-true, lt-ltb, le-ltb, ltb-true}
-use Rattle.columns.specs.Counting.Bools.{true?, not-true, iff-eq, implies, implied}
-use Rattle.columns.specs.Counting.Sets.{Set, _∈_, _∩_, _∪_, ∁, indicator, #, all}
-use Rattle.columns.specs.Counting.Counts.{all-iff, #-⊖}
+use Rattle.counting.specs.Bools.{true?, not-true, iff-eq, implies, implied}
+use Rattle.counting.specs.Sets.{Set, _∈_, _∩_, _∪_, ∁, indicator, #, all}
+use Rattle.counting.specs.Counts.{all-iff, #-⊖}
 use Rattle.columns.specs.Columns.{width, bit, members, none, upto, inserted, removed, moved-up, moved-down, least, word-of, within}
 use Rattle.columns.specs.Words.Bits.{bit-lt, two-cases, bit-suc, bit-zero, bit-and, bit-or, bit-not, bit-pow-same, bit-pow-other, bit-of-zero, bit-mod, bits-ext}
 

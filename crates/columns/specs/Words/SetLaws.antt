@@ -7,10 +7,10 @@ use native.Mathlib.Omega.{arith}
 use native.Mathlib.Decide.{ℕ-discrete, decLt}
 use lib.Dec.{eqb, ltb}
 use borrow.Author.Tests.{eq-eqb, ne-eqb, eqb-true, lt-ltb, ltb-true}
-use Rattle.columns.specs.Counting.Bools.{true?, and-in, and-left, and-right, or-left, or-right, or-split, not-in, in-not, not-of, not-both}
-use Rattle.columns.specs.Counting.Sets.{Set, _∈_, _⊆_, _∩_, _∪_, ∁, #, Some}
-use Rattle.columns.specs.Counting.Counts.{#-⊖, #-pick}
-use Rattle.columns.specs.Counting.Injections.{#-strict}
+use Rattle.counting.specs.Bools.{true?, and-in, and-left, and-right, or-left, or-right, or-split, not-in, in-not, not-of, not-both}
+use Rattle.counting.specs.Sets.{Set, _∈_, _⊆_, _∩_, _∪_, ∁, #, Some}
+use Rattle.counting.specs.Counts.{#-⊖, #-pick}
+use Rattle.counting.specs.Injections.{#-strict}
 use Rattle.columns.specs.Columns.{width, upto, inserted, removed, least}
 use Rattle.columns.specs.Words.Operations.{least-in, least-first}
 

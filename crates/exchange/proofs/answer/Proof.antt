@@ -5,10 +5,10 @@ use mathlib.Core.Logic.{_↔_}
 use mathlib.Core.Bool.{true}
 use mathlib.Core.List.{List}
 use lib.ListN.{getD-replicate, replicate}
-use Rattle.columns.specs.Counting.Sets.{_∈_}
+use Rattle.counting.specs.Sets.{_∈_}
 use Rattle.columns.specs.Columns.{width, members, within}
 use Rattle.columns.specs.Words.Operations.{members-below, within-iff}
-use Rattle.exchange.specs.Code.Reading.{owned}
+use Rattle.exchange.specs.Code.Scanning.{owned}
 use Rattle.exchange.specs.Code.Held.{held-shows}
 use Rattle.exchange.specs.Code.Offering.{offers-start, offers-some}
 use Rattle.exchange.specs.Code.Answer.{missing-below, solved}

@@ -5,8 +5,8 @@ use mathlib.Core.Logic.{_↔_}
 use mathlib.Core.Bool.{Bool, true, false, true≢false, false≢true}
 use lib.ListN.{replicate}
 use borrow.Author.Tests.{not-true, not-false}
-use Rattle.residue.specs.Primes.{isPrime-reads}
-use Rattle.columns.specs.Counting.Sets.{Set, _∈_}
+use Rattle.residue.specs.Primes.{is-prime-reads}
+use Rattle.counting.specs.Sets.{Set, _∈_}
 use Rattle.columns.specs.Columns.{members}
 use Rattle.columns.specs.Words.Operations.{members-below, within-iff}
 use Rattle.rank.specs.Modulus.{residue-of}
@@ -53,7 +53,7 @@ answer-requires c κs =
     let g = admissible-reads (a .p) (a .n) (a .a) (a .b) (a .offered) (a .constants .now) (a .parameters .now) (sym (c .before .before .before .before .is-admissible .ensures) ∙ not-false _ (c .before .before .before .if1 .left)) in
     let f = fitting-reads (a .n) (a .a) (a .b) _ _ (g .fits) in
     let fl = c .before .fill .ensures in
-    let pos = isPrime-reads (a .p) .0 (g .prime) .least in
+    let pos = is-prime-reads (a .p) .0 (g .prime) .least in
     (fl .0, f .columns, f .constant-rows, f .parameter-rows, f .parameters-lent, g .inside, g .prime, filled-below (a .p) (a .n) (a .a) (a .constants .now) (replicate 4096 0) _ (f .columns) (f .constants-lent) (all-below-iff (a .p) (a .a * a .n) (a .constants .now) .0 (g .low)) (zeros-below (a .p) 4096 (omega arith)) (fl .1))
 
 returns-2 : tie.Need-returns-2

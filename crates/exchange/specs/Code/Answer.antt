@@ -9,10 +9,10 @@ use native.Mathlib.Decide.{ℕ-discrete, decLt}
 use lib.ListN.{getD}
 use lib.Dec.{ltb}
 use borrow.Author.Tests.{lt-ltb, le-ltb}
-use Rattle.columns.specs.Counting.Bools.{true?, not-true, iff-eq, and-in, and-left, and-right, not-of, not-both}
-use Rattle.columns.specs.Counting.Sets.{Set, _∈_, _∩_, ∁, Some, #}
-use Rattle.columns.specs.Counting.Counts.{some?, #-ext, #-none}
-use Rattle.columns.specs.Counting.Blocks.{#-plus}
+use Rattle.counting.specs.Bools.{true?, not-true, iff-eq, and-in, and-left, and-right, not-of, not-both}
+use Rattle.counting.specs.Sets.{Set, _∈_, _∩_, ∁, Some, #}
+use Rattle.counting.specs.Counts.{some?, #-ext, #-none}
+use Rattle.counting.specs.Blocks.{#-plus}
 use Rattle.columns.specs.Columns.{width, none, inserted}
 use Rattle.columns.specs.Words.SetLaws.{inserted-same, inserted-old, inserted-split}
 use Rattle.rank.specs.Graph.States.{State, Placed, placed-of, placed-iff, Terminal}
@@ -20,13 +20,13 @@ use Rattle.rank.specs.Graph.Closed.{Closed}
 use Rattle.rank.specs.Graph.Layers.{grow, grow-old, grow-arc, grow-split, layer, layer-start, layer-next, unplaced, unplaced-iff}
 use Rattle.rank.specs.Layered.Model.{Model, Seat, out, constant, row, Assignment, is-placed, is-constant, placing, constants, Legal}
 use Rattle.rank.specs.Layered.Rank.{rank, placed, short}
-use Rattle.rank.specs.Layered.Reading.{seat-cases}
+use Rattle.rank.specs.Layered.Meaning.{seat-cases}
 use Rattle.rank.specs.Layered.Assignments.{row-seat-low, row-seat-high, assignment, assignment-owned, assignment-places, constant-owner, row-owner}
 use Rattle.rank.specs.Layered.Optimal.{open-columns, open-columns-iff, reach-open, reach-iff}
 use Rattle.rank.specs.Layered.ColumnOrder.{placed-below}
-use Rattle.rank.specs.Layered.Offers.{finished, Answered, answered}
+use Rattle.rank.specs.Layered.Offers.{finished, StateAnswers, state-answers}
 use Rattle.exchange.specs.Solution.{shown-row, shown, ShowsRow, Solved}
-use Rattle.exchange.specs.Code.Reading.{owned}
+use Rattle.exchange.specs.Code.Scanning.{owned}
 use Rattle.exchange.specs.Code.Searching.{Ended, Final, Searched, in-last}
 use Rattle.exchange.specs.Code.Held.{Given, model-of, Held}
 use Rattle.exchange.specs.Code.Offering.{Offered-all}
@@ -96,8 +96,8 @@ module _ (p n a b : ℕ) (ws : List ℕ) (G : Given p n b ws) (t o : List ℕ) (
   abbrev s : State n (a + b)
   s = d .held .s
 
-  the-answer : Answered M (d .held .s) (d .held .good) (d .all-offered)
-  the-answer = answered M (d .held .s) (d .held .good) (d .all-offered)
+  the-answer : StateAnswers M (d .held .s) (d .held .good) (d .all-offered)
+  the-answer = state-answers M (d .held .s) (d .held .good) (d .all-offered)
 
   module _ (offered : Set) (m : (x : ℕ) → (x ∈ offered) ↔ ((x < n) × (x ∈ G .E))) where
     abbrev missing : Set

@@ -11,11 +11,11 @@ use lib.ListN as ListN
 use lib.Dec.{eqb}
 use lib.Seq.{getD-set-same, getD-set-other}
 use borrow.Author.Tests.{ne-eqb, eq-eqb}
-use Rattle.residue.specs.Arithmetic.{isPrime, mulOf, invOf}
+use Rattle.residue.specs.Arithmetic.{is-prime, mul-of, inv-of}
 use Rattle.residue.specs.Fields.{Field}
-use Rattle.columns.specs.Counting.Bools.{iff-eq}
-use Rattle.columns.specs.Counting.Sets.{Set, _∈_, set}
-use Rattle.columns.specs.Counting.Counts.{set-same, set-other}
+use Rattle.counting.specs.Bools.{iff-eq}
+use Rattle.counting.specs.Sets.{Set, _∈_, set}
+use Rattle.counting.specs.Counts.{set-same, set-other}
 use Rattle.columns.specs.Columns.{members}
 use Rattle.rank.specs.Modulus.{modulus, field-of, residue-of}
 use Rattle.rank.specs.ModulusLaws.{residue-mul, residue-add, residue-inv, residue-neg, residue-zero}
@@ -28,7 +28,7 @@ use Rattle.rank.specs.Layered.Valid.{touch, touch-constant, touch-row, Valid, s
 use Rattle.rank.specs.Layered.Seating.{Good, good-valid, freed, moved-valid, moved}
 use Rattle.rank.specs.Layered.Assignments.{offered-owner}
 use Rattle.exchange.specs.Code.Cells.{cell, Below, cleared, cleared-is, Pivoted}
-use Rattle.exchange.specs.Code.Reading.{touched, touched-constant, touched-parameter, owned}
+use Rattle.exchange.specs.Code.Scanning.{touched, touched-constant, touched-parameter, owned}
 use Rattle.exchange.specs.Code.Searching.{Shows}
 
 -- the row of x is free: o′ has n there
@@ -68,7 +68,7 @@ module _ (p n a b : ℕ) (ws : List ℕ) (G : Given p n b ws) where
     pub cells : (r c : ℕ) → r < a → c < n → residue-of p (cell t r c) ≡ good .P r c
     pub owners : (q : ℕ) → q < a + b → owned o q ≡ s .owner q
 
-  module _ (prime : isPrime p ≡ true) where
+  module _ (prime : is-prime p ≡ true) where
     open Field (field-of p) using (inv, _+_ as _⊕_, _·_ as _⊙_)
 
     nonzero : (v : ℕ) → v < p → (not (eqb v 0) ≡ true) ↔ (residue-of p v ≢ field-of p .𝟘)
@@ -108,11 +108,11 @@ module _ (p n a b : ℕ) (ws : List ℕ) (G : Given p n b ws) where
       | yes w ↦ rw w (ap (residue-of p) (d .row c lc) ∙ first ∙ sym (ap (λ f. f c) (pivot-row (field-of p) P k x)))
       | no nw ↦ ap (residue-of p) (d .others r c lr nw lc ∙ cleared-is p _ _ _)
           ∙ residue-add p prime _ _
-          ∙ ap (λ y. residue-of p (cell t r c) ⊕ y) (residue-mul p prime _ _ ∙ ap (λ y. y ⊙ residue-of p (mulOf p (invOf p (cell t k x)) (cell t k c))) (residue-neg p prime _ (omega (arith, bt (r * 64 + x)))))
+          ∙ ap (λ y. residue-of p (cell t r c) ⊕ y) (residue-mul p prime _ _ ∙ ap (λ y. y ⊙ residue-of p (mul-of p (inv-of p (cell t k x)) (cell t k c))) (residue-neg p prime _ (omega (arith, bt (r * 64 + x)))))
           ∙ rw (first, e r c lr lc, e r x lr lx) (sym (ap (λ f. f c) (pivot-other (field-of p) P k x r nw)))
     ]
       where
-        first : residue-of p (mulOf p (invOf p (cell t k x)) (cell t k c)) ≡ inv (P k x) ⊙ P k c
+        first : residue-of p (mul-of p (inv-of p (cell t k x)) (cell t k c)) ≡ inv (P k x) ⊙ P k c
         first = residue-mul p prime _ _ ∙ rw (residue-inv p prime (cell t k x), e k x lk lx, e k c lk lc) refl
 
     seated-cells : (t u : List ℕ) (P : ℕ → ℕ → field-of p .F) (q x : ℕ) → Below p t → ((r c : ℕ) → r < a → c < n → residue-of p (cell t r c) ≡ P r c)
@@ -130,12 +130,12 @@ module _ (p n a b : ℕ) (ws : List ℕ) (G : Given p n b ws) where
     ]
 
     -- what seating gives: a state held by the new lists, to which x moved from its row, or which it entered
-    abbrev pub Seats : (t o t′ o′ : List ℕ) (x q : ℕ) → Held t o → Type 0
-    Seats t o t′ o′ x q h = (h′ : Held t′ o′) × (((q′ : ℕ) × Moved (h .s) (h′ .s) x q q′) ⊎ ((Placed (h .s) x → ⊥) × Entered (h .s) (h′ .s) x q))
+    abbrev pub Seated : (t o t′ o′ : List ℕ) (x q : ℕ) → Held t o → Type 0
+    Seated t o t′ o′ x q h = (h′ : Held t′ o′) × (((q′ : ℕ) × Moved (h .s) (h′ .s) x q q′) ⊎ ((Placed (h .s) x → ⊥) × Entered (h .s) (h′ .s) x q))
 
     module _ (t o t′ o′ : List ℕ) (x q : ℕ) (bt : Below p t) (lo : length o ≡ 128) (lab : a + b ≤ 128) (h : Held t o)
         (lx : x < n) (lq : q < a + b) (fq : n ≤ h .s .owner q) (tq : h .s .touch q x ≡ true) (d : Sat p n a (a + b) x q t o t′ o′) where
-      moving : (q′ : ℕ) → q′ < a + b → owned o q′ ≡ x → d .middle ≡ ListN.set o q′ n → Seats t o t′ o′ x q h
+      moving : (q′ : ℕ) → q′ < a + b → owned o q′ ≡ x → d .middle ≡ ListN.set o q′ n → Seated t o t′ o′ x q h
       unfolding state freed
       moving q′ lq′ e m =
           let so : h .s .owner q′ ≡ x = sym (h .owners q′ lq′) ∙ e in
@@ -150,7 +150,7 @@ module _ (p n a b : ℕ) (ws : List ℕ) (G : Given p n b ws) where
             inl (q′, moved M (h .s) (h .good) x q q′ lx lq fq tq lq′ so),
           )
 
-      entering : ((r : ℕ) → r < a + b → owned o r ≢ x) → d .middle ≡ o → Seats t o t′ o′ x q h
+      entering : ((r : ℕ) → r < a + b → owned o r ≢ x) → d .middle ≡ o → Seated t o t′ o′ x q h
       unfolding state
       entering new m =
           let none : (r : ℕ) → r < a + b → h .s .owner r ≢ x = λ r lr e. new r lr (h .owners r lr ∙ e) in
@@ -168,5 +168,5 @@ module _ (p n a b : ℕ) (ws : List ℕ) (G : Given p n b ws) where
             ),
           )
 
-      pub seats : Seats t o t′ o′ x q h
-      seats = elim (d .vacated) [ inl v ↦ moving (v .0) (v .1) (v .2) (v .3) | inr v ↦ entering (v .0) (v .1) ]
+      pub seat-held : Seated t o t′ o′ x q h
+      seat-held = elim (d .vacated) [ inl v ↦ moving (v .0) (v .1) (v .2) (v .3) | inr v ↦ entering (v .0) (v .1) ]

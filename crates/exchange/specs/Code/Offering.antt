@@ -7,15 +7,15 @@ use mathlib.Core.List.{List}
 use lib.ListN.{getD}
 use native.Mathlib.Omega.{arith}
 use native.Mathlib.Decide.{ℕ-discrete, decLt}
-use Rattle.columns.specs.Counting.Bools.{not-true, iff-eq}
-use Rattle.columns.specs.Counting.Sets.{Set, _∈_, set}
-use Rattle.columns.specs.Counting.Counts.{set-same, set-other}
+use Rattle.counting.specs.Bools.{not-true, iff-eq}
+use Rattle.counting.specs.Sets.{Set, _∈_, set}
+use Rattle.counting.specs.Counts.{set-same, set-other}
 use Rattle.columns.specs.Columns.{width, members, none, inserted, removed}
 use Rattle.columns.specs.Words.SetLaws.{inserted-same, inserted-old, inserted-split, removed-old, removed-gone, removed-other}
 use Rattle.rank.specs.Graph.States.{State, Placed, SamePlaced, placed-of, placed-iff}
 use Rattle.rank.specs.Layered.Model.{Model, Assignment, placing, Legal}
 use Rattle.rank.specs.Layered.Rank.{taken, placeable}
-use Rattle.rank.specs.Layered.Reading.{placeable-iff}
+use Rattle.rank.specs.Layered.Meaning.{placeable-iff}
 use Rattle.rank.specs.Layered.Augmenting.{StateOf, OneMore}
 use Rattle.rank.specs.Layered.ColumnOrder.{taken-no}
 use Rattle.rank.specs.Layered.Offers.{Offered, offered-none, offered-same, offered-new, took, passed}
@@ -23,7 +23,7 @@ use Rattle.rank.specs.Modulus.{residue-of}
 use Rattle.rank.specs.Layered.Valid.{state}
 use Rattle.rank.specs.Layered.Seating.{empty-valid}
 use Rattle.exchange.specs.Code.Cells.{cell}
-use Rattle.exchange.specs.Code.Reading.{owned}
+use Rattle.exchange.specs.Code.Scanning.{owned}
 use Rattle.exchange.specs.Code.Held.{Given, model-of, ShowsConstants, Held}
 use Rattle.exchange.specs.Code.Placing.{Placing}
 

@@ -7,9 +7,9 @@ use mathlib.Core.List.{List}
 use native.Mathlib.Omega.{arith}
 use native.Mathlib.Decide.{decLt, decLe}
 use lib.ListN.{length}
-use Rattle.residue.specs.Arithmetic.{isPrime}
-use Rattle.columns.specs.Counting.Bools.{iff-eq}
-use Rattle.columns.specs.Counting.Sets.{Set, _∈_}
+use Rattle.residue.specs.Arithmetic.{is-prime}
+use Rattle.counting.specs.Bools.{iff-eq}
+use Rattle.counting.specs.Sets.{Set, _∈_}
 use Rattle.columns.specs.Columns.{width, none, inserted}
 use Rattle.columns.specs.Words.SetLaws.{inserted-same, inserted-split}
 use Rattle.rank.specs.Graph.States.{State, Placed, Terminal, Moved, SamePlaced, moved-placed, Entered}
@@ -18,9 +18,9 @@ use Rattle.rank.specs.Graph.Layers.{layer, layer-start, layer-placed}
 use Rattle.rank.specs.Graph.Search.{Hit, fall}
 use Rattle.rank.specs.Layered.Augmenting.{only, only-iff, OneMore, entered-more}
 use Rattle.exchange.specs.Code.Cells.{Below}
-use Rattle.exchange.specs.Code.Reading.{touched, owned}
+use Rattle.exchange.specs.Code.Scanning.{touched, owned}
 use Rattle.exchange.specs.Code.Searching.{Shows, Ended, Final, Searched, in-last}
-use Rattle.exchange.specs.Code.Held.{Given, Held, held-shows, Sat, Seats, seats}
+use Rattle.exchange.specs.Code.Held.{Given, Held, held-shows, Sat, Seated, seat-held}
 
 -- the set of column j alone, as the code makes it
 pub only-inserted : (j : ℕ) → j < width → inserted none j ≡ only j
@@ -41,12 +41,12 @@ nearer {n} {N} s S i column row depth reached t f = elim (decLt row N) [
   | no nl ↦ absurd (f .1 (omega arith) .is-closed .no-terminal (t .0) (t .1) (in-last s S i (t .0) (t .2 .0)) (t .2 .1))
 ]
 
-module _ (p n a b : ℕ) (ws : List ℕ) (G : Given p n b ws) (prime : isPrime p ≡ true) (S : Set) (t o t′ o′ : List ℕ) (bt : Below p t) (lo : length o ≡ 128) (lab : a + b ≤ 128) (h : Held p n a b ws G t o) where
+module _ (p n a b : ℕ) (ws : List ℕ) (G : Given p n b ws) (prime : is-prime p ≡ true) (S : Set) (t o t′ o′ : List ℕ) (bt : Below p t) (lo : length o ≡ 128) (lab : a + b ≤ 128) (h : Held p n a b ws G t o) where
   -- a column found in a later layer moves
   pub moves : (x q i : ℕ) → Ended (h .s) S x q (suc i) → Sat p n a (a + b) x q t o t′ o′ → (h′ : Held p n a b ws G t′ o′) × SamePlaced (h .s) (h′ .s) × Hit (h′ .s) S i
   moves x q i e d =
       let term : Terminal (h .s) x = (q, e .is-row, (e .is-free, e .touches)) in
-      let v : Seats p n a b ws G prime t o t′ o′ x q h = seats p n a b ws G prime t o t′ o′ x q bt lo lab h (e .below) (e .is-row) (e .is-free) (e .touches) d in
+      let v : Seated p n a b ws G prime t o t′ o′ x q h = seat-held p n a b ws G prime t o t′ o′ x q bt lo lab h (e .below) (e .is-row) (e .is-free) (e .touches) d in
       elim (v .1) [
         | inl m ↦ (v .0, moved-placed (h .s) (v .0 .s) x q (m .0) (m .1), fall (h .s) (v .0 .s) S i x q (m .0) (e .inside) term (λ k l. e .no-earlier k (omega arith)) (m .1))
         | inr u ↦ absurd (elim (layer-placed (h .s) S (suc i) x (e .inside)) [
@@ -61,7 +61,7 @@ module _ (p n a b : ℕ) (ws : List ℕ) (G : Given p n b ws) (prime : isPrime p
   -- a column found in the first layer is placed besides
   pub enters : (s₀ : State n (a + b)) (x q : ℕ) → SamePlaced s₀ (h .s) → (Placed s₀ x → ⊥) → Ended (h .s) S x q 0 → Sat p n a (a + b) x q t o t′ o′ → (h′ : Held p n a b ws G t′ o′) × OneMore s₀ (h′ .s) x
   enters s₀ x q same new e d =
-      let v : Seats p n a b ws G prime t o t′ o′ x q h = seats p n a b ws G prime t o t′ o′ x q bt lo lab h (e .below) (e .is-row) (e .is-free) (e .touches) d in
+      let v : Seated p n a b ws G prime t o t′ o′ x q h = seat-held p n a b ws G prime t o t′ o′ x q bt lo lab h (e .below) (e .is-row) (e .is-free) (e .touches) d in
       elim (v .1) [
         | inl m ↦ absurd (new (same x (e .below) .1 (m .0, m .1 .old-row, m .1 .old-owned)))
         | inr u ↦ (v .0, entered-more s₀ (h .s) (v .0 .s) x q same (u .1))
@@ -100,7 +100,7 @@ module _ (p n a b : ℕ) (ws : List ℕ) (j : ℕ) where
   pub holds-first : (t o : List ℕ) → Holds t o t o
   holds-first t o G h e = (h, same-placed-refl (h .s))
 
-  module _ (prime : isPrime p ≡ true) (t₀ o₀ t o : List ℕ) (bt : Below p t) (lo : length o ≡ 128) (lab : a + b ≤ 128) (x q depth : ℕ) (F : Finds t o x q depth) (H : Holds t₀ o₀ t o) where
+  module _ (prime : is-prime p ≡ true) (t₀ o₀ t o : List ℕ) (bt : Below p t) (lo : length o ≡ 128) (lab : a + b ≤ 128) (x q depth : ℕ) (F : Finds t o x q depth) (H : Holds t₀ o₀ t o) where
     found-at : (G : Given p n b ws) (h : Held p n a b ws G t₀ o₀) (e : j ∈ G .E) → Ended (H G h e .0 .s) (only j) x q depth
     found-at G h e = F (G .E) (H G h e .0 .s) (held-shows p n a b ws G prime t o bt (H G h e .0)) e
 

@@ -3,13 +3,13 @@ use Prim.Native.Nat.{ℕ, _<_, _≤_}
 use mathlib.Core.Path.{_≡_, sym, ap, _∙_}
 use mathlib.Core.Bool.{true, true≢false}
 use borrow.Author.Tests.{not-true, not-false}
-use Rattle.columns.specs.Counting.Sets.{Set}
+use Rattle.counting.specs.Sets.{Set}
 use Rattle.columns.specs.Columns.{width, members, upto}
 use Rattle.exchange.specs.Solve.{admissible}
 use Rattle.exchange.specs.SolveLaws.{admissible-reads, fitting-reads}
 use Rattle.exchange.specs.Solution.{Solved}
-use Rattle.mixed_models.specs.Model.{model}
-use Rattle.model.specs.Refusals.{refusal}
+use Rattle.rank.specs.ListedModel.{listed-model}
+use Rattle.format.specs.Refusals.{refusal}
 use Rattle.layered.specs.AnswerLaws.{accepted-beforehand, shows-model, accepted-taken, taken-accepted, rank-small, answered}
 use borrow.Author.Needs.{needs}
 use native.Mathlib.Omega.{arith}
@@ -64,7 +64,7 @@ cast-rank c =
     let g : admissible (a .p) (a .n) (a .a) (a .b) _ (a .constants .now) (a .parameters .now) ≡ true = sym (c .before .before .before .before .solve .ensures .is-valid) ∙ not-false _ (c .before .before .if2 .left) in
     let small = fitting-reads _ _ _ _ _ (admissible-reads _ _ _ _ _ _ _ g .fits) .columns in
     let s = c .before .before .before .before .solve .ensures .if-valid g _ _ _ (shows-model (a .p) (a .n) (a .a) (a .b) (a .constants .now) (a .parameters .now) _ (c .before .before .before .before .before .below .ensures) small) in
-    omega (arith, s .is-rank, rank-small (model (a .p) (a .n) (a .a) (a .b) (a .constants .now) (a .parameters .now)))
+    omega (arith, s .is-rank, rank-small (listed-model (a .p) (a .n) (a .a) (a .b) (a .constants .now) (a .parameters .now)))
 
 returns-3 : tie.Need-returns-3
 returns-3 c =

@@ -1,7 +1,7 @@
 -- `layered::passes_beforehand` meets its contract. Assumes nothing.
 use mathlib.Core.Path.{_≡_, refl, _∙_}
 use borrow.Author.Tests.{le-leb, lt-leb}
-use Rattle.model.specs.Refusals.{largestPrime}
+use Rattle.format.specs.Refusals.{largest-prime}
 use Rattle.layered.specs.AnswerLaws.{beforehand}
 use borrow.Author.Needs.{needs}
 use Rattle.layered.proofs.passes_beforehand.Statement.{statement}
@@ -9,11 +9,11 @@ use Rattle.layered.proofs.passes_beforehand.Tie as tie
 
 returns : tie.Need-returns
 unfolding beforehand
-returns c = rw (lt-leb (c .before .before .args .p) largestPrime (c .if1 .taken)) refl
+returns c = rw (lt-leb (c .before .before .args .p) largest-prime (c .if1 .taken)) refl
 
 returns-2 : tie.Need-returns-2
 unfolding beforehand
-returns-2 c = rw (le-leb (c .before .before .before .args .p) largestPrime (c .before .if1 .left), lt-leb 1 (c .before .before .before .args .n) (c .if2 .taken)) refl
+returns-2 c = rw (le-leb (c .before .before .before .args .p) largest-prime (c .before .if1 .left), lt-leb 1 (c .before .before .before .args .n) (c .if2 .taken)) refl
 
 rows-within-requires : tie.Need-rows-within-requires
 rows-within-requires c κs = search needs
@@ -22,7 +22,7 @@ returns-3 : tie.Need-returns-3
 unfolding beforehand
 returns-3 c =
     let a = c .before .before .before .before .args in
-    rw (le-leb (a .p) largestPrime (c .before .before .if1 .left), le-leb 1 (a .n) (c .before .if2 .left)) (c .rows-within .ensures)
+    rw (le-leb (a .p) largest-prime (c .before .before .if1 .left), le-leb 1 (a .n) (c .before .if2 .left)) (c .rows-within .ensures)
 
 pub passes-beforehand-spec : {M : Type 1} → statement M
 passes-beforehand-spec = tie.close (tie.spec returns returns-2 rows-within-requires returns-3)

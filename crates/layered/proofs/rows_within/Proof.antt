@@ -3,7 +3,7 @@ use mathlib.Core.Path.{_≡_, sym, ap, _∙_}
 use native.Mathlib.Omega.{arith}
 use denote.Ref.{now}
 use lib.Seq.{take-all, length-take-le}
-use Rattle.model.specs.Refusals.{parameterTest}
+use Rattle.format.specs.Refusals.{parameter-test}
 use borrow.Author.Needs.{needs}
 use Rattle.layered.proofs.rows_within.Statement.{statement}
 use Rattle.layered.proofs.rows_within.Tie as tie
@@ -23,7 +23,7 @@ parameters-within-requires-2 c κs = search needs
 returns-2 : tie.Need-returns-2
 returns-2 c =
     let a = c .before .before .before .args in
-    c .parameters-within2 .ensures ∙ ap (parameterTest (a .n)) (sym (take-all (a .b) (now (a .parameters)) (c .before .if1 .left)))
+    c .parameters-within2 .ensures ∙ ap (parameter-test (a .n)) (sym (take-all (a .b) (now (a .parameters)) (c .before .if1 .left)))
 
 pub rows-within-spec : {M : Type 1} → statement M
 rows-within-spec =

@@ -4,7 +4,7 @@ use mathlib.Core.Path.{_≡_, ap, _∙_}
 use borrow.Author.Count.{below-more}
 use lib.ListN.{length, getD, set}
 use lib.Seq.{getD-set-same, getD-set-other}
-use Rattle.columns.specs.Counting.Sets.{Set}
+use Rattle.counting.specs.Sets.{Set}
 use Rattle.columns.specs.Columns.{members, inserted}
 use Rattle.mixed.specs.MixedForm.{form-row}
 use borrow.Author.Needs.{needs}

@@ -7,7 +7,7 @@ use mathlib.Core.List.{List}
 use native.Mathlib.Decide.{ℕ-discrete}
 use lib.ListN.{getD}
 use borrow.Author.Tests.{not-true, not-false}
-use Rattle.columns.specs.Counting.Sets.{Set, _∈_}
+use Rattle.counting.specs.Sets.{Set, _∈_}
 use Rattle.columns.specs.Columns.{width, members, none, inserted}
 use Rattle.columns.specs.Words.SetLaws.{inserted-same, inserted-old, inserted-split}
 use Rattle.mixed.specs.MixedForm.{serves}

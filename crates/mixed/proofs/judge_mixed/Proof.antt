@@ -1,7 +1,7 @@
 -- `mixed::judge_mixed` meets its contract. Assumes nothing.
 use mathlib.Core.Path.{_≡_, sym, _∙_}
-use Rattle.columns.specs.Counting.Bools.{not-true}
-use Rattle.model.specs.TestLaws.{model-accepted}
+use Rattle.counting.specs.Bools.{not-true}
+use Rattle.format.specs.TestLaws.{model-accepted}
 use Rattle.mixed.specs.MixedAnswerLaws.{at-model, at-mixed, at-none, mixed-reads}
 use borrow.Author.Needs.{needs}
 use native.Mathlib.Omega.{arith}

@@ -1,7 +1,7 @@
 -- `mixed::mixed_rank` meets its contract: the answer to the layered form, read as one to the mixed model. Assumes nothing.
 use Prim.Native.Nat.{ℕ, _+_, _-_, _*_, _<_, _≤_}
 use mathlib.Core.Path.{_≡_, refl, sym, ap, _∙_}
-use Rattle.columns.specs.Counting.Sets.{Set}
+use Rattle.counting.specs.Sets.{Set}
 use Rattle.columns.specs.Columns.{width, members, moved-down}
 use Rattle.exchange.specs.Solution.{Solved}
 use Rattle.mixed_models.specs.Mixed.{layered-form, mixed}

@@ -5,14 +5,14 @@ use mathlib.Core.Bool.{true, not, false, decide, decide-iff}
 use mathlib.Core.Logic.{_≢_, _↔_}
 use native.Mathlib.Decide.{ℕ-discrete, decLt}
 use Rattle.residue.specs.Fields.{Field, zero-mul, one-mul}
-use Rattle.columns.specs.Counting.Bools.{not-true, and-in, and-left, and-right, not-in, in-not}
-use Rattle.columns.specs.Counting.Sets.{Some, Set, _∈_}
-use Rattle.columns.specs.Counting.Counts.{any-iff}
-use Rattle.columns.specs.Counting.Blocks.{beside-low, beside-high}
+use Rattle.counting.specs.Bools.{not-true, and-in, and-left, and-right, not-in, in-not}
+use Rattle.counting.specs.Sets.{Some, Set, _∈_}
+use Rattle.counting.specs.Counts.{any-iff}
+use Rattle.counting.specs.Blocks.{beside-low, beside-high}
 use Rattle.rank.specs.Linear.Independence.{dot}
 use Rattle.rank.specs.Linear.Sums.{dot-zero, dot-one, dot-beside}
 use Rattle.rank.specs.Layered.Model.{Assignment, row, same-row}
-use Rattle.rank.specs.Layered.Reading.{same-row-iff}
+use Rattle.rank.specs.Layered.Meaning.{same-row-iff}
 use Rattle.mixed_models.specs.Mixed.{Mixed, served, shown-I, rows-in, unit, form-constants}
 
 module _ (K : Field) where

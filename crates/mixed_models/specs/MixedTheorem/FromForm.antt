@@ -7,19 +7,19 @@ use mathlib.Core.Logic.{_≢_}
 use native.Mathlib.Omega.{arith}
 use native.Mathlib.Decide.{ℕ-discrete}
 use Rattle.residue.specs.Fields.{Field, neg-zero}
-use Rattle.columns.specs.Counting.Bools.{true?, not-true, and-in, and-left, and-right, not-in, in-not, not-of}
-use Rattle.columns.specs.Counting.Sets.{Some, Set, _∈_, _∩_, ∁, #, touching}
-use Rattle.columns.specs.Counting.Counts.{#-split, #-∁, Touching, touching-iff}
-use Rattle.columns.specs.Counting.Injections.{#-mono}
-use Rattle.columns.specs.Counting.Beside.{beside}
-use Rattle.columns.specs.Counting.Blocks.{#-plus, beside-low, beside-high, low-or-high}
-use Rattle.columns.specs.Counting.Choices.{Part, largest-part}
-use Rattle.columns.specs.Counting.ChoiceLaws.{part-le}
+use Rattle.counting.specs.Bools.{true?, not-true, and-in, and-left, and-right, not-in, in-not, not-of}
+use Rattle.counting.specs.Sets.{Some, Set, _∈_, _∩_, ∁, #, touching}
+use Rattle.counting.specs.Counts.{#-split, #-∁, Touching, touching-iff}
+use Rattle.counting.specs.Injections.{#-mono}
+use Rattle.counting.specs.Beside.{beside}
+use Rattle.counting.specs.Blocks.{#-plus, beside-low, beside-high, low-or-high}
+use Rattle.counting.specs.Choices.{Part, largest-part}
+use Rattle.counting.specs.ChoiceLaws.{part-le}
 use Rattle.rank.specs.Linear.Independence.{dot, InKernel}
 use Rattle.rank.specs.Linear.Kernels.{Same, hits, hits-iff, indep-sub, indep-count}
 use Rattle.rank.specs.Layered.Model.{Seat, out, constant, row, Assignment, is-placed, is-constant, placing, constants, Legal, size}
 use Rattle.rank.specs.Layered.Rank.{constant-rank}
-use Rattle.rank.specs.Layered.Reading.{seat-cases, empty-indep, Outside, matching-le}
+use Rattle.rank.specs.Layered.Meaning.{seat-cases, empty-indep, Outside, matching-le}
 use Rattle.rank.specs.Layered.Restricting.{constant-placed}
 use Rattle.rank.specs.Layered.RankRows.{rank-tableau}
 use Rattle.mixed_models.specs.Mixed.{Mixed, rows-in, divided, mixed-sum, mixed-rank, form-constants, form-parameters, layered-form, served, shown-I, shown-J}

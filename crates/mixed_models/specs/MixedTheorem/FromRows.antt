@@ -7,13 +7,13 @@ use mathlib.Core.Logic.{_≢_}
 use native.Mathlib.Omega.{arith}
 use native.Mathlib.Decide.{ℕ-discrete}
 use Rattle.residue.specs.Fields.{Field, mul-zero, zero-add}
-use Rattle.columns.specs.Counting.Bools.{true?, not-true, and-left, and-right, not-both}
-use Rattle.columns.specs.Counting.Sets.{Set, _∈_, #}
-use Rattle.columns.specs.Counting.Counts.{#-ext, #-all}
-use Rattle.columns.specs.Counting.Beside.{beside}
-use Rattle.columns.specs.Counting.Blocks.{#-plus, beside-low, beside-high, low-or-high}
-use Rattle.columns.specs.Counting.Choices.{Part, largest-part}
-use Rattle.columns.specs.Counting.ChoiceLaws.{part-at}
+use Rattle.counting.specs.Bools.{true?, not-true, and-left, and-right, not-both}
+use Rattle.counting.specs.Sets.{Set, _∈_, #}
+use Rattle.counting.specs.Counts.{#-ext, #-all}
+use Rattle.counting.specs.Beside.{beside}
+use Rattle.counting.specs.Blocks.{#-plus, beside-low, beside-high, low-or-high}
+use Rattle.counting.specs.Choices.{Part, largest-part}
+use Rattle.counting.specs.ChoiceLaws.{part-at}
 use Rattle.rank.specs.Linear.Independence.{dot, InKernel, Indep}
 use Rattle.rank.specs.Linear.Sums.{dot-zero}
 use Rattle.rank.specs.Layered.Model.{Seat, constant, row, Assignment, is-placed, is-constant, placing, constants, Legal, size}

@@ -6,14 +6,14 @@ use mathlib.Core.List.{[]}
 use mathlib.Core.Logic.{inl, inr}
 use native.Mathlib.Omega.{arith}
 use native.Mathlib.Decide.{ℕ-discrete, decLe, decLt}
-use Rattle.columns.specs.Counting.Bools.{true?, not-true, iff-eq, and-in, and-left, and-right, or-split}
-use Rattle.columns.specs.Counting.Sets.{all, Set, _∈_, _∩_, ∁, #}
-use Rattle.columns.specs.Counting.Counts.{all-iff, #-ext}
-use Rattle.columns.specs.Counting.Injections.{#-mono}
-use Rattle.columns.specs.Counting.Choices.{Part}
+use Rattle.counting.specs.Bools.{true?, not-true, iff-eq, and-in, and-left, and-right, or-split}
+use Rattle.counting.specs.Sets.{all, Set, _∈_, _∩_, ∁, #}
+use Rattle.counting.specs.Counts.{all-iff, #-ext}
+use Rattle.counting.specs.Injections.{#-mono}
+use Rattle.counting.specs.Choices.{Part}
 use Rattle.rank.specs.Layered.Model.{Model, Assignment, placing, Legal, size}
 use Rattle.rank.specs.Layered.Rank.{sum, rank, short, placed}
-use Rattle.rank.specs.Layered.Reading.{short-iff}
+use Rattle.rank.specs.Layered.Meaning.{short-iff}
 use Rattle.rank.specs.Layered.Duality.{placed-in, size-lt-sum, size-le-rank}
 use Rattle.rank.specs.Layered.ColumnOrder.{placed-below, placed-legal, taken-if}
 use Rattle.rank.specs.Layered.Minimax.{rank-le-sum}

@@ -5,7 +5,7 @@ use Prim.Native.Nat.{ℕ, _+_}
 use mathlib.Core.Bool.{Bool, true, false, not, _&&_, _||_, decide, Bool-discrete}
 use mathlib.Core.List.{List, [], _∷_}
 use native.Mathlib.Decide.{ℕ-discrete, decLe, decLt}
-use Rattle.columns.specs.Counting.Sets.{all, Set, _∩_, ∁, #, touching}
+use Rattle.counting.specs.Sets.{all, Set, _∩_, ∁, #, touching}
 use Rattle.rank.specs.Linear.Kernels.{hits}
 use Rattle.rank.specs.Layered.Model.{Model, Seat, out, constant, row, Assignment, placing, same-row, size}
 use Rattle.mixed_models.specs.Starred.Lists.{among, seats, within}

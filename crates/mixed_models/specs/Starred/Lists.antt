@@ -5,7 +5,7 @@ use mathlib.Core.Bool.{Bool, true, false, _||_, decide, false≢true}
 use mathlib.Core.List.{List, [], _∷_}
 use native.Mathlib.Omega.{arith}
 use native.Mathlib.Decide.{ℕ-discrete}
-use Rattle.columns.specs.Counting.Sets.{Set}
+use Rattle.counting.specs.Sets.{Set}
 use Rattle.rank.specs.Layered.Model.{Seat, out, Assignment}
 
 -- the columns listed

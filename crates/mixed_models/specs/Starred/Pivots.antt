@@ -5,9 +5,9 @@ use mathlib.Core.Bool.{Bool, true, _&&_, decide, decide-iff}
 use mathlib.Core.List.{List, [], _∷_}
 use native.Mathlib.Decide.{ℕ-discrete, decLt}
 use Rattle.residue.specs.Fields.{Field}
-use Rattle.columns.specs.Counting.Bools.{and-left, and-right}
-use Rattle.columns.specs.Counting.Sets.{any, Some, Set, _∈_, set}
-use Rattle.columns.specs.Counting.Counts.{any-iff}
+use Rattle.counting.specs.Bools.{and-left, and-right}
+use Rattle.counting.specs.Sets.{any, Some, Set, _∈_, set}
+use Rattle.counting.specs.Counts.{any-iff}
 use Rattle.rank.specs.Linear.Kernels.{Same, hits, hits-iff, same-refl, same-trans}
 use Rattle.rank.specs.Linear.Tableaus.{Tableau, owned, owned-iff, pivot, pivot-same, pivot-tableau}
 

@@ -6,16 +6,16 @@ use mathlib.Core.List.{List, [], _∷_}
 use mathlib.Core.Logic.{_⊎_, inl, inr}
 use native.Mathlib.Omega.{arith}
 use native.Mathlib.Decide.{ℕ-discrete, decLt}
-use Rattle.columns.specs.Counting.Bools.{and-left, and-right, or-split, not-in, implied}
-use Rattle.columns.specs.Counting.Sets.{all, Set, _∈_, #, touching}
-use Rattle.columns.specs.Counting.Counts.{all-iff}
-use Rattle.columns.specs.Counting.Choices.{Part}
+use Rattle.counting.specs.Bools.{and-left, and-right, or-split, not-in, implied}
+use Rattle.counting.specs.Sets.{all, Set, _∈_, #, touching}
+use Rattle.counting.specs.Counts.{all-iff}
+use Rattle.counting.specs.Choices.{Part}
 use Rattle.rank.specs.Linear.Independence.{Indep}
 use Rattle.rank.specs.Linear.Kernels.{same-sym, same-indep}
 use Rattle.rank.specs.Linear.Tableaus.{owned-indep}
 use Rattle.rank.specs.Layered.Model.{Model, Seat, out, constant, row, Assignment, is-placed, is-constant, placing, constants, Legal, size, legal}
 use Rattle.rank.specs.Layered.Rank.{constant-rank}
-use Rattle.rank.specs.Layered.Reading.{true-legal, legal-from}
+use Rattle.rank.specs.Layered.Meaning.{true-legal, legal-from}
 use Rattle.rank.specs.Layered.Restricting.{constant-placed}
 use Rattle.rank.specs.Layered.RankRows.{constant-rank-rows}
 use Rattle.mixed_models.specs.Starred.Lists.{among, seats, within, seats-beyond}

@@ -7,18 +7,18 @@ use mathlib.Core.List.{List, [], _∷_}
 use mathlib.Core.Logic.{Dec·not}
 use native.Mathlib.Omega.{arith}
 use native.Mathlib.Decide.{ℕ-discrete, decLe, decLt}
-use Rattle.residue.specs.Arithmetic.{Prime, isPrime, undivided, invOf, last}
+use Rattle.residue.specs.Arithmetic.{Prime, is-prime, undivided, inv-of, last}
 use Rattle.residue.specs.Residues.{residues, res, mk, plus, times}
-use Rattle.columns.specs.Counting.Bools.{true?}
-use Rattle.columns.specs.Counting.Sets.{#, indicator, all, any, set, choose, touching}
-use Rattle.columns.specs.Counting.Beside.{beside}
+use Rattle.counting.specs.Bools.{true?}
+use Rattle.counting.specs.Sets.{#, indicator, all, any, set, choose, touching}
+use Rattle.counting.specs.Beside.{beside}
 use Rattle.columns.specs.Columns.{members}
 use Rattle.rank.specs.Modulus.{modulus, modulus-at}
 use Rattle.rank.specs.Linear.Kernels.{hits}
 use Rattle.rank.specs.Linear.Tableaus.{pivot}
 use Rattle.rank.specs.Layered.Model.{Model, same-row}
 use Rattle.rank.specs.Layered.Rank.{rank, placed, short, verdict}
-use Rattle.mixed_models.specs.Model.{model-at}
+use Rattle.rank.specs.ListedModel.{listed-modulo}
 use Rattle.mixed_models.specs.Mixed.{Mixed, mixed-at, unit, mixed-rank, mixed-verdict, layered-form}
 use Rattle.mixed_models.specs.MixedTheorem.{form-rank}
 use Rattle.mixed_models.specs.Starred.Lists.{among, seats, within}
@@ -77,38 +77,38 @@ mixed-answers X c v r e s f =
 
 -- all that has to be opened to test the evidence
 unfoldable run : ℕ
-unfolding residues res mk plus times invOf last members # indicator any all set choose touching beside unit pivot hits same-row among seats within pivoted owners proper owns sits apart sound rows-left spares spared earlier within-set refuses refused-by places-all below-all passes decide Dec·not ℕ-discrete decLe decLt
+unfolding residues res mk plus times inv-of last members # indicator any all set choose touching beside unit pivot hits same-row among seats within pivoted owners proper owns sits apart sound rows-left spares spared earlier within-set refuses refused-by places-all below-all passes decide Dec·not ℕ-discrete decLe decLt
 run = 0
 
-passes-S1 : (P : Prime 1021) → passes (model-at 1021 P 1 0 0 [] []) claim-S1 ≡ true
+passes-S1 : (P : Prime 1021) → passes (listed-modulo 1021 P 1 0 0 [] []) claim-S1 ≡ true
 unfolding run
 passes-S1 P = refl
 
-passes-S2 : (P : Prime 1021) → passes (model-at 1021 P 2 1 1 (1 ∷ 0 ∷ []) (2 ∷ [])) claim-S2 ≡ true
+passes-S2 : (P : Prime 1021) → passes (listed-modulo 1021 P 2 1 1 (1 ∷ 0 ∷ []) (2 ∷ [])) claim-S2 ≡ true
 unfolding run
 passes-S2 P = refl
 
-passes-S3 : (P : Prime 1021) → passes (model-at 1021 P 2 2 0 (1 ∷ 1 ∷ 1 ∷ 1 ∷ []) []) claim-S3 ≡ true
+passes-S3 : (P : Prime 1021) → passes (listed-modulo 1021 P 2 2 0 (1 ∷ 1 ∷ 1 ∷ 1 ∷ []) []) claim-S3 ≡ true
 unfolding run
 passes-S3 P = refl
 
-passes-S4 : (P : Prime 1021) → passes (model-at 1021 P 5 2 2 (1 ∷ 1 ∷ 1 ∷ 1 ∷ 0 ∷ 0 ∷ 2 ∷ 1 ∷ 1 ∷ 0 ∷ []) (17 ∷ 18 ∷ [])) claim-S4 ≡ true
+passes-S4 : (P : Prime 1021) → passes (listed-modulo 1021 P 5 2 2 (1 ∷ 1 ∷ 1 ∷ 1 ∷ 0 ∷ 0 ∷ 2 ∷ 1 ∷ 1 ∷ 0 ∷ []) (17 ∷ 18 ∷ [])) claim-S4 ≡ true
 unfolding run
 passes-S4 P = refl
 
-passes-S5 : (P : Prime 3) → passes (model-at 3 P 2 2 0 (1 ∷ 2 ∷ 2 ∷ 1 ∷ []) []) claim-S5 ≡ true
+passes-S5 : (P : Prime 3) → passes (listed-modulo 3 P 2 2 0 (1 ∷ 2 ∷ 2 ∷ 1 ∷ []) []) claim-S5 ≡ true
 unfolding run
 passes-S5 P = refl
 
-passes-S6 : (P : Prime 1021) → passes (model-at 1021 P 2 2 0 (1 ∷ 2 ∷ 2 ∷ 1 ∷ []) []) claim-S6 ≡ true
+passes-S6 : (P : Prime 1021) → passes (listed-modulo 1021 P 2 2 0 (1 ∷ 2 ∷ 2 ∷ 1 ∷ []) []) claim-S6 ≡ true
 unfolding run
 passes-S6 P = refl
 
-passes-S10 : (P : Prime 1021) → passes (model-at 1021 P 2 0 2 [] (1 ∷ 1 ∷ [])) claim-S10 ≡ true
+passes-S10 : (P : Prime 1021) → passes (listed-modulo 1021 P 2 0 2 [] (1 ∷ 1 ∷ [])) claim-S10 ≡ true
 unfolding run
 passes-S10 P = refl
 
-passes-S11 : (P : Prime 1021) → passes (model-at 1021 P 1 0 2 [] (1 ∷ 1 ∷ [])) claim-S11 ≡ true
+passes-S11 : (P : Prime 1021) → passes (listed-modulo 1021 P 1 0 2 [] (1 ∷ 1 ∷ [])) claim-S11 ≡ true
 unfolding run
 passes-S11 P = refl
 
@@ -125,7 +125,7 @@ unfolding run
 passes-S9 P = refl
 
 pub table : Table
-unfolding modulus modulus-at true? isPrime undivided # indicator decide ℕ-discrete
+unfolding modulus modulus-at true? is-prime undivided # indicator decide ℕ-discrete
 table = record {
   s1 = answers S1 claim-S1 0 (passes-S1 (modulus 1021 .1)) refl;
   s2 = answers S2 claim-S2 1 (passes-S2 (modulus 1021 .1)) refl;

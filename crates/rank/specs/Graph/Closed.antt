@@ -5,10 +5,10 @@ use mathlib.Core.Bool.{Bool, true, false, not, _&&_, false≢true}
 use mathlib.Core.Path.{_≡_, refl, sym, _∙_}
 use native.Mathlib.Decide.{decLt}
 use native.Mathlib.Omega.{arith}
-use Rattle.columns.specs.Counting.Bools.{and-in, and-left, and-right}
-use Rattle.columns.specs.Counting.Sets.{#, Set, Some, _∈_, _∩_, touching, ∁}
-use Rattle.columns.specs.Counting.Counts.{#-ext, #-split, #-∁, Touching, touching-iff}
-use Rattle.columns.specs.Counting.Injections.{Injects, inj-count}
+use Rattle.counting.specs.Bools.{and-in, and-left, and-right}
+use Rattle.counting.specs.Sets.{#, Set, Some, _∈_, _∩_, touching, ∁}
+use Rattle.counting.specs.Counts.{#-ext, #-split, #-∁, Touching, touching-iff}
+use Rattle.counting.specs.Injections.{Injects, inj-count}
 use Rattle.rank.specs.Linear.Tableaus.{owner}
 use Rattle.rank.specs.Graph.States.{Arc, Placed, State, Terminal, placed-iff, placed-of, placed?}
 use Rattle.rank.specs.Layered.Valid.{touch}

@@ -5,10 +5,10 @@ use mathlib.Core.Bool.{true, not, _||_, decide, decide-iff}
 use mathlib.Core.Logic.{_↔_, _⊎_, inl, inr}
 use mathlib.Core.Path.{_≡_, refl}
 use native.Mathlib.Omega.{arith}
-use Rattle.columns.specs.Counting.Bools.{not-both, not-of, or-left, or-right, or-split, true?}
-use Rattle.columns.specs.Counting.Sets.{#, Set, Some, _∈_}
-use Rattle.columns.specs.Counting.Counts.{#-∁, both?, not?, some?}
-use Rattle.columns.specs.Counting.Injections.{#-strict}
+use Rattle.counting.specs.Bools.{not-both, not-of, or-left, or-right, or-split, true?}
+use Rattle.counting.specs.Sets.{#, Set, Some, _∈_}
+use Rattle.counting.specs.Counts.{#-∁, both?, not?, some?}
+use Rattle.counting.specs.Injections.{#-strict}
 use Rattle.rank.specs.Graph.States.{Arc, Placed, State, arc?, placed-iff, placed-of}
 use Rattle.rank.specs.Graph.Closed.{Reached, UnplacedIn, along, start}
 

@@ -6,7 +6,7 @@ use mathlib.Core.Logic.{_≢_, _⊎_, inl, inr}
 use mathlib.Core.Path.{_≡_, refl, _∙_, ap}
 use native.Mathlib.Decide.{ℕ-discrete}
 use native.Mathlib.Omega.{arith}
-use Rattle.columns.specs.Counting.Bools.{not-true}
+use Rattle.counting.specs.Bools.{not-true}
 use Rattle.rank.specs.Linear.Systems.{untouched}
 use Rattle.rank.specs.Linear.Tableaus.{owner}
 use Rattle.rank.specs.Graph.States.{Arc, Moved, Placed, State, Terminal, terminal?}

@@ -4,9 +4,9 @@ use Prim.Native.Nat.{ℕ, zero, suc, _≤_, _<_}
 use mathlib.Core.Logic.{_⊎_, inl, inr}
 use native.Mathlib.Decide.{ℕ-discrete}
 use native.Mathlib.Omega.{arith}
-use Rattle.columns.specs.Counting.Bools.{true?}
-use Rattle.columns.specs.Counting.Sets.{Set, Some, _∈_}
-use Rattle.columns.specs.Counting.Counts.{both?, some?}
+use Rattle.counting.specs.Bools.{true?}
+use Rattle.counting.specs.Sets.{Set, Some, _∈_}
+use Rattle.counting.specs.Counts.{both?, some?}
 use Rattle.rank.specs.Graph.States.{Moved, State, Terminal, terminal?}
 use Rattle.rank.specs.Graph.Routes.{Route, arc-kept, arc-to-moved, end, step}
 use Rattle.rank.specs.Graph.Closed.{Closed}

@@ -5,9 +5,9 @@ use mathlib.Core.Logic.{_≢_, _↔_}
 use mathlib.Core.Path.{_≡_, sym, _∙_, ap}
 use native.Mathlib.Decide.{ℕ-discrete, decLe, decLt}
 use native.Mathlib.Omega.{arith}
-use Rattle.columns.specs.Counting.Bools.{true?}
-use Rattle.columns.specs.Counting.Sets.{Set, Some, _∈_}
-use Rattle.columns.specs.Counting.Counts.{both?, some?}
+use Rattle.counting.specs.Bools.{true?}
+use Rattle.counting.specs.Sets.{Set, Some, _∈_}
+use Rattle.counting.specs.Counts.{both?, some?}
 
 -- n columns, N rows; a row whose owner is not below n is free
 pub record State (n N : ℕ) : Type 0 where

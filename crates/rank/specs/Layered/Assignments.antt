@@ -4,16 +4,16 @@ use mathlib.Core.Bool.{true, _&&_, true≢false, false≢true}
 use mathlib.Core.Path.{_≡_, refl, sym, _∙_, ap, subst}
 use native.Mathlib.Decide.{decLt}
 use native.Mathlib.Omega.{arith}
-use Rattle.columns.specs.Counting.Bools.{and-in, and-left, and-right, iff-eq}
-use Rattle.columns.specs.Counting.Sets.{#, Set, Some, _∈_, _∩_, _⊆_, touching}
-use Rattle.columns.specs.Counting.Counts.{#-ext, Touching, both?, touching-iff}
-use Rattle.columns.specs.Counting.Injections.{#-mono}
-use Rattle.columns.specs.Counting.Blocks.{#-plus}
+use Rattle.counting.specs.Bools.{and-in, and-left, and-right, iff-eq}
+use Rattle.counting.specs.Sets.{#, Set, Some, _∈_, _∩_, _⊆_, touching}
+use Rattle.counting.specs.Counts.{#-ext, Touching, both?, touching-iff}
+use Rattle.counting.specs.Injections.{#-mono}
+use Rattle.counting.specs.Blocks.{#-plus}
 use Rattle.rank.specs.Linear.Kernels.{hits, indep-count, same-indep, same-sym}
 use Rattle.rank.specs.Linear.Tableaus.{owned-iff, owned-indep}
 use Rattle.rank.specs.Graph.States.{Placed, State, placed-iff, placed-of, placed?}
 use Rattle.rank.specs.Layered.Model.{Assignment, Legal, Model, Seat, constant, constants, is-constant, is-placed, out, placing, row, size}
-use Rattle.rank.specs.Layered.Reading.{seat-cases}
+use Rattle.rank.specs.Layered.Meaning.{seat-cases}
 use Rattle.rank.specs.Layered.Restricting.{constant-part, constant-part-indep, constant-part-part, parts, row-part-count}
 use Rattle.rank.specs.Layered.Valid.{touch, touch-constant, touch-offered, touch-parameter}
 use Rattle.rank.specs.Layered.Seating.{Good}

@@ -5,10 +5,10 @@ use mathlib.Core.Logic.{_≢_, _↔_, inl, inr}
 use mathlib.Core.Path.{_≡_, refl, sym, _∙_, ap}
 use native.Mathlib.Decide.{ℕ-discrete}
 use native.Mathlib.Omega.{arith}
-use Rattle.columns.specs.Counting.Bools.{and-in, and-left, and-right, iff-eq}
-use Rattle.columns.specs.Counting.Sets.{Set, _∈_, _∩_, set}
-use Rattle.columns.specs.Counting.Counts.{set-other, set-same}
-use Rattle.columns.specs.Counting.Injections.{#-mono, #-strict}
+use Rattle.counting.specs.Bools.{and-in, and-left, and-right, iff-eq}
+use Rattle.counting.specs.Sets.{Set, _∈_, _∩_, set}
+use Rattle.counting.specs.Counts.{set-other, set-same}
+use Rattle.counting.specs.Injections.{#-mono, #-strict}
 use Rattle.rank.specs.Graph.States.{Entered, Placed, SamePlaced, State, Terminal, placed-iff, placed-of}
 use Rattle.rank.specs.Graph.Routes.{Route}
 use Rattle.rank.specs.Graph.Closed.{Closed, closed-count}

@@ -5,15 +5,15 @@ use mathlib.Core.Logic.{_≢_, inl, inr}
 use mathlib.Core.Path.{_≡_, refl, sym, _∙_, ap}
 use native.Mathlib.Decide.{ℕ-discrete}
 use native.Mathlib.Omega.{arith}
-use Rattle.columns.specs.Counting.Bools.{not-true, true?}
-use Rattle.columns.specs.Counting.Sets.{#, Set, _∈_, set}
-use Rattle.columns.specs.Counting.Counts.{#-ext, set-other, set-same}
+use Rattle.counting.specs.Bools.{not-true, true?}
+use Rattle.counting.specs.Sets.{#, Set, _∈_, set}
+use Rattle.counting.specs.Counts.{#-ext, set-other, set-same}
 use Rattle.rank.specs.Graph.States.{Placed, placed-iff, placed-of}
 use Rattle.rank.specs.Graph.Layers.{unplaced, unplaced-iff}
 use Rattle.rank.specs.Graph.Search.{found}
 use Rattle.rank.specs.Layered.Model.{Assignment, Legal, Model, is-placed, out, placing}
 use Rattle.rank.specs.Layered.Rank.{placeable, placed, rank, taken}
-use Rattle.rank.specs.Layered.Reading.{empty-legal, placeable-iff}
+use Rattle.rank.specs.Layered.Meaning.{empty-legal, placeable-iff}
 use Rattle.rank.specs.Layered.Restricting.{legal-less, restrict, restrict-in, restrict-less, restrict-out}
 use Rattle.rank.specs.Layered.Seating.{Good}
 use Rattle.rank.specs.Layered.Assignments.{assignment, assignment-legal, assignment-places}

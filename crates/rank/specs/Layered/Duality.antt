@@ -3,17 +3,17 @@ use Prim.Native.Nat.{ℕ, _+_, _≤_, _<_}
 use mathlib.Core.Bool.{Bool, true, false, not, true≢false, false≢true, cond}
 use mathlib.Core.Path.{_≡_, refl, sym, _∙_, ap}
 use native.Mathlib.Omega.{arith}
-use Rattle.columns.specs.Counting.Bools.{and-in, and-left, and-right, in-not, not-in, not-true, true?}
-use Rattle.columns.specs.Counting.Sets.{#, Set, _∈_, _∩_, touching, ∁}
-use Rattle.columns.specs.Counting.Counts.{#-split}
-use Rattle.columns.specs.Counting.Injections.{#-mono, #-strict, touching-mono}
-use Rattle.columns.specs.Counting.Choices.{Part}
-use Rattle.columns.specs.Counting.ChoiceLaws.{Chosen, cond-false, cond-true, largest-at, largest-le}
+use Rattle.counting.specs.Bools.{and-in, and-left, and-right, in-not, not-in, not-true, true?}
+use Rattle.counting.specs.Sets.{#, Set, _∈_, _∩_, touching, ∁}
+use Rattle.counting.specs.Counts.{#-split}
+use Rattle.counting.specs.Injections.{#-mono, #-strict, touching-mono}
+use Rattle.counting.specs.Choices.{Part}
+use Rattle.counting.specs.ChoiceLaws.{Chosen, cond-false, cond-true, largest-at, largest-le}
 use Rattle.rank.specs.Linear.Independence.{Indep}
 use Rattle.rank.specs.Linear.Kernels.{indep-sub}
 use Rattle.rank.specs.Layered.Model.{Assignment, Legal, Model, Seat, constant, constants, is-constant, is-placed, legal, out, placing, row, size}
 use Rattle.rank.specs.Layered.Rank.{constant-rank, largest-assignment, last-seat, matching, rank, seat, sum}
-use Rattle.rank.specs.Layered.Reading.{Outside, chosen-seats, constant-rank-at, constant-rank-le, legal-seats, legal-true, matching-at, matching-le, rank-at, rank-le, seats-chosen, true-legal}
+use Rattle.rank.specs.Layered.Meaning.{Outside, chosen-seats, constant-rank-at, constant-rank-le, legal-seats, legal-true, matching-at, matching-le, rank-at, rank-le, seats-chosen, true-legal}
 use Rattle.rank.specs.Layered.Restricting.{constant-part, constant-part-indep, constant-part-part, constant-placed, legal-less, parts, restrict, restrict-in, restrict-less, restrict-placed, row-part-count}
 
 -- the constant side if the column is in the set, else s

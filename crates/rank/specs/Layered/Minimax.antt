@@ -5,10 +5,10 @@ use mathlib.Core.Logic.{inl, inr}
 use mathlib.Core.Path.{_≡_, sym, _∙_, fun-ext}
 use native.Mathlib.Decide.{ℕ-discrete, decLt}
 use native.Mathlib.Omega.{arith}
-use Rattle.columns.specs.Counting.Bools.{not-true}
-use Rattle.columns.specs.Counting.Sets.{Set}
-use Rattle.columns.specs.Counting.Counts.{#-ext, set-other, set-same}
-use Rattle.columns.specs.Counting.Choices.{Part}
+use Rattle.counting.specs.Bools.{not-true}
+use Rattle.counting.specs.Sets.{Set}
+use Rattle.counting.specs.Counts.{#-ext, set-other, set-same}
+use Rattle.counting.specs.Choices.{Part}
 use Rattle.rank.specs.Graph.States.{Placed, placed-iff, placed-of}
 use Rattle.rank.specs.Graph.Closed.{Closed}
 use Rattle.rank.specs.Graph.Layers.{layer, unplaced, unplaced-iff}

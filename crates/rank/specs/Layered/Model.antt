@@ -5,7 +5,7 @@ use mathlib.Core.Bool.{Bool, true, false, not, _&&_, decide}
 use mathlib.Core.Logic.{_↔_}
 use native.Mathlib.Decide.{ℕ-discrete}
 use Rattle.residue.specs.Fields.{Field}
-use Rattle.columns.specs.Counting.Sets.{Set, _∈_, #, all, set}
+use Rattle.counting.specs.Sets.{Set, _∈_, #, all, set}
 use Rattle.rank.specs.Linear.Independence.{Indep}
 
 -- A layered model: n columns, of which those in E are offered (document 01 offers all); a constant rows, with the constant Q i x in row i at column x;

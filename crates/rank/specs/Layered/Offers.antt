@@ -5,17 +5,17 @@ use mathlib.Core.Logic.{inl, inr}
 use mathlib.Core.Path.{_≡_, sym, _∙_, ap}
 use native.Mathlib.Decide.{ℕ-discrete}
 use native.Mathlib.Omega.{arith}
-use Rattle.columns.specs.Counting.Bools.{iff-eq, not-true}
-use Rattle.columns.specs.Counting.Sets.{#, Set, set}
-use Rattle.columns.specs.Counting.Counts.{#-ext, set-other, set-same}
-use Rattle.columns.specs.Counting.Injections.{#-strict}
+use Rattle.counting.specs.Bools.{iff-eq, not-true}
+use Rattle.counting.specs.Sets.{#, Set, set}
+use Rattle.counting.specs.Counts.{#-ext, set-other, set-same}
+use Rattle.counting.specs.Injections.{#-strict}
 use Rattle.rank.specs.Graph.States.{Placed, SamePlaced, placed-iff, placed-of}
 use Rattle.rank.specs.Graph.Closed.{Closed}
 use Rattle.rank.specs.Graph.Layers.{layer, unplaced, unplaced-iff}
 use Rattle.rank.specs.Graph.Search.{found}
 use Rattle.rank.specs.Layered.Model.{Assignment, Legal, Model, placing}
 use Rattle.rank.specs.Layered.Rank.{placeable, placed, rank, short, taken}
-use Rattle.rank.specs.Layered.Reading.{placeable-iff}
+use Rattle.rank.specs.Layered.Meaning.{placeable-iff}
 use Rattle.rank.specs.Layered.Duality.{size-le-rank}
 use Rattle.rank.specs.Layered.Valid.{state}
 use Rattle.rank.specs.Layered.Seating.{Good, empty-valid}
@@ -84,16 +84,16 @@ module _ (M : Model) where
     ]
 
     -- the answer, read off the state
-    pub record Answered : Type 0 where
+    pub record StateAnswers : Type 0 where
       pub is-rank : rank M ≡ # n (placed-of s)
       pub is-placed-set : (x : ℕ) → x < n → placed M x ≡ placed-of s x
       pub is-legal : Legal M (assignment M s)
       pub places-it : (x : ℕ) → x < n → placing (assignment M s) x ≡ placed M x
       pub is-short : (x : ℕ) → short M x ≡ reach M s g x
 
-    pub answered : Answered
+    pub state-answers : StateAnswers
     unfolding placed
-    answered = record {
+    state-answers = record {
       is-rank = rank-placed M s g finished;
       is-placed-set = λ x l. sym (o x l);
       is-legal = assignment-legal M s g;

@@ -7,12 +7,12 @@ use mathlib.Core.Path.{_≡_, sym, _∙_}
 use native.Mathlib.Decide.{decLt}
 use native.Mathlib.Omega.{arith}
 use Rattle.residue.specs.Fields.{Field}
-use Rattle.columns.specs.Counting.Bools.{and-in, and-left, and-right, iff-eq, in-not, not-in, not-true, true?}
-use Rattle.columns.specs.Counting.Sets.{#, Set, _∈_, _∩_, _⊆_, touching, ∁}
-use Rattle.columns.specs.Counting.Counts.{#-∁}
-use Rattle.columns.specs.Counting.Injections.{#-mono}
-use Rattle.columns.specs.Counting.Blocks.{#-plus}
-use Rattle.columns.specs.Counting.Choices.{Part}
+use Rattle.counting.specs.Bools.{and-in, and-left, and-right, iff-eq, in-not, not-in, not-true, true?}
+use Rattle.counting.specs.Sets.{#, Set, _∈_, _∩_, _⊆_, touching, ∁}
+use Rattle.counting.specs.Counts.{#-∁}
+use Rattle.counting.specs.Injections.{#-mono}
+use Rattle.counting.specs.Blocks.{#-plus}
+use Rattle.counting.specs.Choices.{Part}
 use Rattle.rank.specs.Linear.Independence.{Indep}
 use Rattle.rank.specs.Linear.Kernels.{indep-count, same-indep}
 use Rattle.rank.specs.Graph.States.{placed-of}
@@ -20,7 +20,7 @@ use Rattle.rank.specs.Graph.Closed.{Closed, closed-total}
 use Rattle.rank.specs.Graph.Layers.{layer, layer-into, layer-placed, layers-reached, layers-unplaced, stable, unplaced}
 use Rattle.rank.specs.Layered.Model.{Assignment, Legal, Model, size}
 use Rattle.rank.specs.Layered.Rank.{constant-rank, rank, short, sum}
-use Rattle.rank.specs.Layered.Reading.{constant-rank-at, short-iff}
+use Rattle.rank.specs.Layered.Meaning.{constant-rank-at, short-iff}
 use Rattle.rank.specs.Layered.Duality.{rank-reached, size-le-rank, size-le-sum}
 use Rattle.rank.specs.Layered.Valid.{touch, touch-offered}
 use Rattle.rank.specs.Layered.Seating.{Good}

@@ -2,8 +2,8 @@
 use Prim.Native.Nat.{ℕ, zero, suc, _+_}
 use mathlib.Core.Bool.{Bool, true, false, not, _&&_, _||_, cond, decide, Bool-discrete}
 use native.Mathlib.Decide.{ℕ-discrete}
-use Rattle.columns.specs.Counting.Sets.{Set, _∩_, ∁, indicator, #, all, set, touching}
-use Rattle.columns.specs.Counting.Choices.{largest, some, largest-part, every-part}
+use Rattle.counting.specs.Sets.{Set, _∩_, ∁, indicator, #, all, set, touching}
+use Rattle.counting.specs.Choices.{largest, some, largest-part, every-part}
 use Rattle.rank.specs.Layered.Model.{Model, Seat, out, constant, row, Assignment, placing, size, legal}
 
 -- the seats by number: out, the constant side, row 0, row 1, ..

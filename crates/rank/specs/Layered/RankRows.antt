@@ -6,17 +6,17 @@ use mathlib.Core.Path.{_≡_, refl, sym, _∙_, ap, subst}
 use native.Mathlib.Decide.{ℕ-discrete, decLt}
 use native.Mathlib.Omega.{arith}
 use Rattle.residue.specs.Fields.{Field}
-use Rattle.columns.specs.Counting.Bools.{true?}
-use Rattle.columns.specs.Counting.Sets.{#, Set, Some, _∈_, _⊆_, set, touching}
-use Rattle.columns.specs.Counting.Counts.{#-insert, Touching, set-other, touching-iff}
-use Rattle.columns.specs.Counting.Injections.{inj-count}
-use Rattle.columns.specs.Counting.Choices.{Part}
+use Rattle.counting.specs.Bools.{true?}
+use Rattle.counting.specs.Sets.{#, Set, Some, _∈_, _⊆_, set, touching}
+use Rattle.counting.specs.Counts.{#-insert, Touching, set-other, touching-iff}
+use Rattle.counting.specs.Injections.{inj-count}
+use Rattle.counting.specs.Choices.{Part}
 use Rattle.rank.specs.Linear.Independence.{Indep}
 use Rattle.rank.specs.Linear.Kernels.{Same, hits, hits-iff, indep-count, indep-sub, same-indep, same-sym}
 use Rattle.rank.specs.Linear.Tableaus.{exchange-indep, owned, owned-iff}
 use Rattle.rank.specs.Layered.Model.{Assignment, Legal, Model, constant, is-constant, is-placed, row}
 use Rattle.rank.specs.Layered.Rank.{constant-rank}
-use Rattle.rank.specs.Layered.Reading.{constant-rank-at, constant-rank-le}
+use Rattle.rank.specs.Layered.Meaning.{constant-rank-at, constant-rank-le}
 use Rattle.rank.specs.Layered.Restricting.{constant-placed, keep, keep-placed, keep-true}
 use Rattle.rank.specs.Layered.Seating.{Good}
 use Rattle.rank.specs.Layered.Assignments.{assignment, assignment-owned, constant-owner, row-seat-placed}

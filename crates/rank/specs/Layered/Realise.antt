@@ -6,15 +6,15 @@ use mathlib.Core.Path.{_≡_, refl, sym, _∙_, ap, subst}
 use native.Mathlib.Decide.{ℕ-discrete, decLe, decLt}
 use native.Mathlib.Omega.{arith}
 use Rattle.residue.specs.Fields.{Field}
-use Rattle.columns.specs.Counting.Bools.{and-in, and-left, and-right, true?}
-use Rattle.columns.specs.Counting.Sets.{Set, Some, _∈_, set, touching}
-use Rattle.columns.specs.Counting.Counts.{#-⊖, Touching, _⊖_, both?, set-other, set-same, some?, touching-iff, ⊖-other}
-use Rattle.columns.specs.Counting.Injections.{inj-count}
+use Rattle.counting.specs.Bools.{and-in, and-left, and-right, true?}
+use Rattle.counting.specs.Sets.{Set, Some, _∈_, set, touching}
+use Rattle.counting.specs.Counts.{#-⊖, Touching, _⊖_, both?, set-other, set-same, some?, touching-iff, ⊖-other}
+use Rattle.counting.specs.Injections.{inj-count}
 use Rattle.rank.specs.Linear.Independence.{Indep}
 use Rattle.rank.specs.Linear.Kernels.{hits, hits-iff, indep-count, indep-sub, same-indep}
 use Rattle.rank.specs.Graph.States.{placed-of}
 use Rattle.rank.specs.Layered.Model.{Assignment, Legal, Model, Seat, constant, constants, is-constant, is-placed, out, placing, row}
-use Rattle.rank.specs.Layered.Reading.{seat-cases}
+use Rattle.rank.specs.Layered.Meaning.{seat-cases}
 use Rattle.rank.specs.Layered.Restricting.{constant-placed}
 use Rattle.rank.specs.Layered.Valid.{Valid, seat-valid, seated, state, touch, touch-constant, touch-parameter}
 use Rattle.rank.specs.Layered.Seating.{Good, empty-valid, valid-good}

@@ -2,15 +2,15 @@
 use Prim.Native.Nat.{ℕ, _+_, _≤_, _<_}
 use mathlib.Core.Bool.{Bool, true, false, not, _&&_, true≢false, false≢true}
 use mathlib.Core.Path.{_≡_, refl, sym, _∙_, ap}
-use Rattle.columns.specs.Counting.Bools.{and-in, and-left, and-right, not-in}
-use Rattle.columns.specs.Counting.Sets.{#, Set, Some, _∈_, _∩_, _⊆_, touching, ∁}
-use Rattle.columns.specs.Counting.Counts.{#-split, touching-iff}
-use Rattle.columns.specs.Counting.Injections.{Injects, inj-count}
-use Rattle.columns.specs.Counting.Choices.{Part}
+use Rattle.counting.specs.Bools.{and-in, and-left, and-right, not-in}
+use Rattle.counting.specs.Sets.{#, Set, Some, _∈_, _∩_, _⊆_, touching, ∁}
+use Rattle.counting.specs.Counts.{#-split, touching-iff}
+use Rattle.counting.specs.Injections.{Injects, inj-count}
+use Rattle.counting.specs.Choices.{Part}
 use Rattle.rank.specs.Linear.Independence.{Indep}
 use Rattle.rank.specs.Linear.Kernels.{indep-sub}
 use Rattle.rank.specs.Layered.Model.{Assignment, Legal, Model, Seat, constant, constants, is-constant, is-placed, out, placing, row}
-use Rattle.rank.specs.Layered.Reading.{seat-cases}
+use Rattle.rank.specs.Layered.Meaning.{seat-cases}
 
 -- s if the column is in the set, else out
 pub keep : Bool → Seat → Seat

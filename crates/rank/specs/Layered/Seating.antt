@@ -6,8 +6,8 @@ use mathlib.Core.Path.{_≡_, refl, sym, _∙_, ap}
 use native.Mathlib.Decide.{ℕ-discrete}
 use native.Mathlib.Omega.{arith}
 use Rattle.residue.specs.Fields.{Field}
-use Rattle.columns.specs.Counting.Sets.{set}
-use Rattle.columns.specs.Counting.Counts.{set-other, set-same}
+use Rattle.counting.specs.Sets.{set}
+use Rattle.counting.specs.Counts.{set-other, set-same}
 use Rattle.rank.specs.Linear.Kernels.{Same, same-refl}
 use Rattle.rank.specs.Linear.Tableaus.{Tableau}
 use Rattle.rank.specs.Graph.States.{Moved, State}

@@ -6,18 +6,18 @@ use mathlib.Core.Path.{_≡_, sym, _∙_, ap, subst}
 use native.Mathlib.Decide.{ℕ-discrete, decLt}
 use native.Mathlib.Omega.{arith}
 use Rattle.residue.specs.Fields.{Field}
-use Rattle.columns.specs.Counting.Bools.{and-in, and-left, and-right, implied, implies, in-not, not-true, true?}
-use Rattle.columns.specs.Counting.Sets.{#, Set, Some, _∈_, _∩_, _⊆_, set, touching, ∁}
-use Rattle.columns.specs.Counting.Counts.{#-insert, #-split, set-other, touching-iff}
-use Rattle.columns.specs.Counting.Injections.{#-mono, #-strict, inj-miss, touching-mono}
-use Rattle.columns.specs.Counting.Choices.{Part}
+use Rattle.counting.specs.Bools.{and-in, and-left, and-right, implied, implies, in-not, not-true, true?}
+use Rattle.counting.specs.Sets.{#, Set, Some, _∈_, _∩_, _⊆_, set, touching, ∁}
+use Rattle.counting.specs.Counts.{#-insert, #-split, set-other, touching-iff}
+use Rattle.counting.specs.Injections.{#-mono, #-strict, inj-miss, touching-mono}
+use Rattle.counting.specs.Choices.{Part}
 use Rattle.rank.specs.Linear.Kernels.{hits, hits-iff, same-indep, same-sym}
 use Rattle.rank.specs.Linear.Tableaus.{exchange-indep, owned, owned-iff}
 use Rattle.rank.specs.Graph.States.{Arc, Placed, placed-iff, placed-of}
 use Rattle.rank.specs.Graph.Closed.{Reached, UnplacedIn, reached-in}
 use Rattle.rank.specs.Layered.Model.{Assignment, Legal, Model, constants, placing, row}
 use Rattle.rank.specs.Layered.Rank.{constant-rank, sum}
-use Rattle.rank.specs.Layered.Reading.{constant-rank-le}
+use Rattle.rank.specs.Layered.Meaning.{constant-rank-le}
 use Rattle.rank.specs.Layered.Restricting.{constant-part, constant-part-indep, constant-part-part, constant-part-sub, parts, row-part, row-part-count, row-part-injects}
 use Rattle.rank.specs.Layered.Duality.{rest-offered}
 use Rattle.rank.specs.Layered.Valid.{touch, touch-constant, touch-offered}

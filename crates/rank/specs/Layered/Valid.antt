@@ -6,9 +6,9 @@ use mathlib.Core.Path.{_≡_, refl, sym, _∙_, ap}
 use native.Mathlib.Decide.{ℕ-discrete, decLt}
 use native.Mathlib.Omega.{arith}
 use Rattle.residue.specs.Fields.{Field}
-use Rattle.columns.specs.Counting.Bools.{and-in, and-left, and-right, not-true, true?}
-use Rattle.columns.specs.Counting.Sets.{_∈_, set}
-use Rattle.columns.specs.Counting.Counts.{set-other, set-same}
+use Rattle.counting.specs.Bools.{and-in, and-left, and-right, not-true, true?}
+use Rattle.counting.specs.Sets.{_∈_, set}
+use Rattle.counting.specs.Counts.{set-other, set-same}
 use Rattle.rank.specs.Linear.Kernels.{Same, hits, hits-iff, hits-not, same-trans}
 use Rattle.rank.specs.Linear.Tableaus.{Tableau, pivot, pivot-keeps, pivot-same, pivot-tableau, tableau-less}
 use Rattle.rank.specs.Graph.States.{State}

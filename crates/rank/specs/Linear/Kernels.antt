@@ -6,8 +6,8 @@ use mathlib.Core.Path.{_≡_, sym, _∙_}
 use native.Mathlib.Decide.{decLe}
 use native.Mathlib.Omega.{arith}
 use Rattle.residue.specs.Fields.{Field}
-use Rattle.columns.specs.Counting.Sets.{#, _⊆_, touching}
-use Rattle.columns.specs.Counting.Counts.{touching-iff}
+use Rattle.counting.specs.Sets.{#, _⊆_, touching}
+use Rattle.counting.specs.Counts.{touching-iff}
 use Rattle.rank.specs.Linear.Independence.{Indep, InKernel}
 use Rattle.rank.specs.Linear.Systems.{Touches, solve, touches?, untouched}
 

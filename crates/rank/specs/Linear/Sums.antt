@@ -5,8 +5,8 @@ use mathlib.Core.Path.{_≡_, refl, sym, ap, _∙_}
 use native.Mathlib.Decide.{ℕ-discrete}
 use native.Mathlib.Omega.{arith}
 use Rattle.residue.specs.Fields.{Field, ring, zero-add, mul-zero, add-mul}
-use Rattle.columns.specs.Counting.Sets.{set}
-use Rattle.columns.specs.Counting.Counts.{set-other, set-same}
+use Rattle.counting.specs.Sets.{set}
+use Rattle.counting.specs.Counts.{set-other, set-same}
 use Rattle.rank.specs.Linear.Independence.{dot, Σ}
 
 module _ (K : Field) where

@@ -6,8 +6,8 @@ use mathlib.Core.Path.{_≡_, ap, _∙_}
 use native.Mathlib.Decide.{ℕ-discrete}
 use native.Mathlib.Omega.{arith}
 use Rattle.residue.specs.Fields.{Field, ring, mul-zero, zero-mul, mul-neg, one-mul}
-use Rattle.columns.specs.Counting.Sets.{#, Some, indicator, set}
-use Rattle.columns.specs.Counting.Counts.{#-pick, #-⊖, set-other, set-same, some?}
+use Rattle.counting.specs.Sets.{#, Some, indicator, set}
+use Rattle.counting.specs.Counts.{#-pick, #-⊖, set-other, set-same, some?}
 use Rattle.rank.specs.Linear.Independence.{In, dot}
 use Rattle.rank.specs.Linear.Sums.{dot-plus, dot-set, dot-zero}
 

@@ -7,8 +7,8 @@ use mathlib.Core.Path.{_≡_, sym, ap, subst, _∙_}
 use native.Mathlib.Decide.{ℕ-discrete}
 use native.Mathlib.Omega.{arith}
 use Rattle.residue.specs.Fields.{Field, ring, mul-zero, zero-mul, one-mul, unmul}
-use Rattle.columns.specs.Counting.Sets.{Some, _⊆_, set}
-use Rattle.columns.specs.Counting.Counts.{set-other, set-same, some?}
+use Rattle.counting.specs.Sets.{Some, _⊆_, set}
+use Rattle.counting.specs.Counts.{set-other, set-same, some?}
 use Rattle.rank.specs.Linear.Independence.{Indep, InKernel, dot}
 use Rattle.rank.specs.Linear.Sums.{dot-one, dot-plus, dot-scale}
 use Rattle.rank.specs.Linear.Kernels.{Same}

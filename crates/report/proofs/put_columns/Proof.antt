@@ -4,7 +4,7 @@ use mathlib.Core.Path.{_≡_, sym, ap, _∙_}
 use mathlib.Core.Logic.{_≢_}
 use mathlib.Core.List.{_++_}
 use borrow.Author.Tests.{eqb-true, eqb-false, not-true, not-false}
-use Rattle.columns.specs.Counting.Sets.{Set, #}
+use Rattle.counting.specs.Sets.{Set, #}
 use Rattle.columns.specs.Columns.{width, members, removed}
 use Rattle.columns.specs.Words.SetLaws.{removed-less, least-there}
 use Rattle.report.specs.Report.{item, column-items}

@@ -2,7 +2,7 @@
 use Prim.Native.Nat.{ℕ}
 use mathlib.Core.Path.{_≡_}
 use Rattle.columns.specs.Words.Bytes.{AreBytes}
-use Rattle.model.specs.File.Format.{Reading}
+use Rattle.format.specs.File.Format.{ReadCall}
 use Rattle.layered.specs.FileLaws.{own-constants, own-parameters}
 use Rattle.report.specs.FileReportLaws.{refused-reported, answer-reported}
 use borrow.Author.Needs.{needs}
@@ -51,7 +51,7 @@ returns-2 : tie.Need-returns-2
 returns-2 c =
     let a = c .before .before .before .before .before .before .before .before .before .before .before .before .before .before .before .before .args in
     let zero = c .before .before .before .before .before .before .before .if1 .left in
-    let r : Reading (a .file .now) own-constants own-parameters 0 _ _ _ _ _ _ = rw zero at (c .before .before .before .before .before .before .before .before .before .before .before .read-file .ensures) in
+    let r : ReadCall (a .file .now) own-constants own-parameters 0 _ _ _ _ _ _ = rw zero at (c .before .before .before .before .before .before .before .before .before .before .before .read-file .ensures) in
     answer-reported (a .file .now) (bytes (c .before .before .before .before .before .before .before .before .before .before .before .before .before .before .before)) (a .out .now) _ _ _ _ _ _ _ _ r _ _ _ _ _ _ _ (search needs) (c .before .before .before .before .layered-rank .ensures) (c .before .before .write-report .ensures)
 
 pub report-file-spec : {M : Type 1} → statement M

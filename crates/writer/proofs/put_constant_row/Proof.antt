@@ -4,11 +4,11 @@ use mathlib.Core.List.{List, []}
 use mathlib.Core.Path.{refl, ap, _∙_}
 use lib.ListN.{length}
 use borrow.Author.Needs.{needs}
-use Rattle.model.specs.File.Format.{entryBytes}
-use Rattle.model.specs.File.Piece.{fieldBytes}
-use Rattle.model.specs.File.RowLaws.{constant-bytes}
-use Rattle.model.specs.Lists.{over}
-use Rattle.model.specs.OverLaws.{lend-next}
+use Rattle.format.specs.File.Format.{entry-bytes}
+use Rattle.format.specs.File.Piece.{field-bytes}
+use Rattle.format.specs.File.RowLaws.{constant-bytes-field}
+use Rattle.format.specs.Lists.{over}
+use Rattle.format.specs.OverLaws.{lend-next}
 use Rattle.writer.proofs.put_constant_row.Statement.{statement}
 use Rattle.writer.proofs.put_constant_row.Tie as tie
 
@@ -40,8 +40,8 @@ returns : tie.Need-returns
 returns c =
     let a = c .before .before .before .before .before .before .before .before .before .before .args in
     let r = a .row .now in
-    lend-next (fieldBytes 3 (2 * length r) []) (entryBytes r) (a .out .now) _ _ 3 refl (c .before .before .before .before .before .before .put-head .ensures) (c .before .before .put-entries .ensures)
-    ∙ ap (λ (s : List ℕ). over s (a .out .now)) (constant-bytes r)
+    lend-next (field-bytes 3 (2 * length r) []) (entry-bytes r) (a .out .now) _ _ 3 refl (c .before .before .before .before .before .before .put-head .ensures) (c .before .before .put-entries .ensures)
+    ∙ ap (λ (s : List ℕ). over s (a .out .now)) (constant-bytes-field r)
 
 pub put-constant-row-spec : {M : Type 1} → statement M
 put-constant-row-spec =

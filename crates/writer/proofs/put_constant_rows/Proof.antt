@@ -6,16 +6,16 @@ use mathlib.Core.Path.{_≡_, sym, ap, _∙_}
 use native.Mathlib.Omega.{arith}
 use lib.ListN.{length, take, drop, length-take, length-drop}
 use lib.Seq.{length-take-le}
-use Rattle.model.specs.File.RowLaws.{constant-bytes-cut, constant-bytes-length, constant-rows-next, constant-rows-done, constant-rows-length, constant-rows-room}
-use Rattle.model.specs.File.Steps.{constantBytes}
-use Rattle.model.specs.ListLaws.{tail-part}
-use Rattle.model.specs.Lists.{over, rowsOf}
-use Rattle.model.specs.OverLaws.{Wrote, wrote-none, wrote-run, wrote-all}
+use Rattle.format.specs.File.RowLaws.{constant-bytes-cut, constant-bytes-length, constant-rows-next, constant-rows-done, constant-rows-length, constant-rows-room}
+use Rattle.format.specs.File.Steps.{constant-bytes}
+use Rattle.format.specs.ListLaws.{tail-part}
+use Rattle.format.specs.Lists.{over, rows-of}
+use Rattle.format.specs.OverLaws.{Wrote, wrote-none, wrote-run, wrote-all}
 use Rattle.writer.proofs.put_constant_rows.Statement.{statement}
 use Rattle.writer.proofs.put_constant_rows.Tie as tie
 
 abbrev Inv-loop : tie.InvT-loop
-Inv-loop out₀ constants n a size rest₀ at₀ left₀ out rest at left = Wrote (flatMap (constantBytes n) (rowsOf n a constants)) (flatMap (constantBytes n) (rowsOf n left rest)) out₀ out at × (left * n ≤ length rest)
+Inv-loop out₀ constants n a size rest₀ at₀ left₀ out rest at left = Wrote (flatMap (constant-bytes n) (rows-of n a constants)) (flatMap (constant-bytes n) (rows-of n left rest)) out₀ out at × (left * n ≤ length rest)
 
 abbrev μ-loop : tie.MeasureT-loop
 μ-loop out₀ constants n a size rest₀ at₀ left₀ out rest at left = left
@@ -81,10 +81,10 @@ loop-again c =
     let n = c .before .before .before .before .before .before .before .before .before .before .args .n in
     let r = l .rest .now in
     let f = room (c .before .before .before .before .before .before) in
-    let row = constantBytes n (take n r) in
+    let row = constant-bytes n (take n r) in
     let left = take (length (l .out) - l .at) (drop (l .at) (l .out)) in
     let t : take (length r - n) (drop n r) ≡ drop n r = tail-part n r in
-    let next = constant-rows-next n (l .left) r (c .before .before .before .before .before .before .loop-test .taken) ∙ ap (λ (s : List ℕ). row ++ flatMap (constantBytes n) (rowsOf n (l .left - 1) s)) (sym t) in
+    let next = constant-rows-next n (l .left) r (c .before .before .before .before .before .before .loop-test .taken) ∙ ap (λ (s : List ℕ). row ++ flatMap (constant-bytes n) (rows-of n (l .left - 1) s)) (sym t) in
     let written = c .before .before .before .put-constant-row .ensures ∙ ap (λ (s : List ℕ). over s left) (constant-bytes-cut n r (f .0)) in
     (wrote-run row _ _ (3 + 2 * n) (l .inv .0) next written (constant-bytes-length n r (f .0)), rw (t, length-drop) (f .1))
 

@@ -5,16 +5,16 @@ use mathlib.Core.List.{List, [], _∷_}
 use mathlib.Core.Path.{sym, ap, _∙_}
 use native.Mathlib.Omega.{arith}
 use lib.ListN.{length, getD, length-take, length-drop}
-use Rattle.model.specs.File.BodyLaws.{entries-back}
-use Rattle.model.specs.File.EntryLaws.{entry-bytes-next, entry-bytes-done}
-use Rattle.model.specs.File.Format.{entryBytes}
-use Rattle.model.specs.ListLaws.{tail-part}
-use Rattle.model.specs.OverLaws.{Wrote, wrote-none, wrote-next, wrote-all}
+use Rattle.format.specs.File.BodyLaws.{entries-back}
+use Rattle.format.specs.File.EntryLaws.{entry-bytes-next, entry-bytes-done}
+use Rattle.format.specs.File.Format.{entry-bytes}
+use Rattle.format.specs.ListLaws.{tail-part}
+use Rattle.format.specs.OverLaws.{Wrote, wrote-none, wrote-next, wrote-all}
 use Rattle.writer.proofs.put_entries.Statement.{statement}
 use Rattle.writer.proofs.put_entries.Tie as tie
 
 abbrev Inv-loop : tie.InvT-loop
-Inv-loop out₀ row rest₀ at₀ out rest at = Wrote (entryBytes row) (entryBytes rest) out₀ out at
+Inv-loop out₀ row rest₀ at₀ out rest at = Wrote (entry-bytes row) (entry-bytes rest) out₀ out at
 
 abbrev μ-loop : tie.MeasureT-loop
 μ-loop out₀ row rest₀ at₀ out rest at = length rest
@@ -57,7 +57,7 @@ loop-again c =
     let l = c .before .before .before .before .before .before .before .loop in
     let r = l .rest .now in
     wrote-next (getD r 0 0 % 256 ∷ getD r 0 0 / 256 ∷ []) _ _ (l .inv)
-    (entry-bytes-next r (c .before .before .before .before .before .before .loop-test .taken) ∙ ap (λ (s : List ℕ). getD r 0 0 % 256 ∷ getD r 0 0 / 256 ∷ entryBytes s) (sym (tail-part 1 r)))
+    (entry-bytes-next r (c .before .before .before .before .before .before .loop-test .taken) ∙ ap (λ (s : List ℕ). getD r 0 0 % 256 ∷ getD r 0 0 / 256 ∷ entry-bytes s) (sym (tail-part 1 r)))
     (c .before .before .before .put-two .ensures)
 
 same-length : tie.Need-same-length Inv-loop μ-loop

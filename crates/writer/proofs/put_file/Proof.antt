@@ -6,12 +6,12 @@ use native.Mathlib.Omega.{arith}
 use lib.ListN.{length, take, length-take, length-drop}
 use lib.Seq.{length-take-le}
 use borrow.Author.Needs.{needs}
-use Rattle.columns.specs.Bytes.{bytesOf}
-use Rattle.model.specs.File.Piece.{fieldBytes}
-use Rattle.model.specs.File.RowLaws.{constant-rows-length, parameter-rows-length, handed-over-fields, handed-over-length}
-use Rattle.model.specs.File.Steps.{constantBytes, parameterBytes}
-use Rattle.model.specs.Lists.{rowsOf}
-use Rattle.model.specs.OverLaws.{wrote-first, wrote-run, wrote-all}
+use Rattle.columns.specs.Bytes.{bytes-of}
+use Rattle.format.specs.File.Piece.{field-bytes}
+use Rattle.format.specs.File.RowLaws.{constant-rows-length, parameter-rows-length, handed-over-fields, handed-over-length}
+use Rattle.format.specs.File.Steps.{constant-bytes, parameter-bytes}
+use Rattle.format.specs.Lists.{rows-of}
+use Rattle.format.specs.OverLaws.{wrote-first, wrote-run, wrote-all}
 use Rattle.writer.proofs.put_file.Statement.{statement}
 use Rattle.writer.proofs.put_file.Tie as tie
 
@@ -103,12 +103,12 @@ returns : tie.Need-returns
 returns c =
     let a = c .before .before .before .before .before .before .before .before .before .before .before .before .before .before .before .before .before .before .before .before .before .before .before .before .args in
     let h = c .before .before .before .before .before .before .before .before .before .before .before .before .before .before .before .before .before .before .before .before .before .before .before .before .pre in
-    let prime = fieldBytes 1 2 (bytesOf 2 (a .p)) in
-    let sizes = fieldBytes 2 3 (a .n ∷ a .a ∷ a .b ∷ []) in
-    let rows = flatMap (constantBytes (a .n)) (rowsOf (a .n) (a .a) (a .constants .now)) in
+    let prime = field-bytes 1 2 (bytes-of 2 (a .p)) in
+    let sizes = field-bytes 2 3 (a .n ∷ a .a ∷ a .b ∷ []) in
+    let rows = flatMap (constant-bytes (a .n)) (rows-of (a .n) (a .a) (a .constants .now)) in
     let sets = take (a .b) (a .parameters .now) in
-    let parameters = flatMap parameterBytes sets in
-    let end = fieldBytes 5 0 [] in
+    let parameters = flatMap parameter-bytes sets in
+    let end = field-bytes 5 0 [] in
     let whole = handed-over-fields (a .p) (a .n) (a .a) (a .b) (a .constants .now) (a .parameters .now) in
     let len = handed-over-length (a .p) (a .n) (a .a) (a .b) (a .constants .now) (a .parameters .now) (h .3) (h .4) in
     let sets-length : length parameters ≡ 11 * a .b = parameter-rows-length sets ∙ ap (λ (k : ℕ). 11 * k) (length-take-le (a .b) (a .parameters .now) (h .4)) in

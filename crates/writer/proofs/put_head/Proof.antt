@@ -5,7 +5,7 @@ use mathlib.Core.Path.{refl}
 use native.Mathlib.Omega.{arith}
 use lib.ListN.{length-take, length-drop, length-set}
 use borrow.Author.Needs.{needs}
-use Rattle.model.specs.OverLaws.{wrote-none, wrote-next, wrote-set, wrote-all}
+use Rattle.format.specs.OverLaws.{wrote-none, wrote-next, wrote-set, wrote-all}
 use Rattle.writer.proofs.put_head.Statement.{statement}
 use Rattle.writer.proofs.put_head.Tie as tie
 

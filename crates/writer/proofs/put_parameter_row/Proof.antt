@@ -3,11 +3,11 @@ use Prim.Native.Nat.{ℕ}
 use mathlib.Core.List.{List, []}
 use mathlib.Core.Path.{refl, ap, _∙_}
 use borrow.Author.Needs.{needs}
-use Rattle.columns.specs.Bytes.{bytesOf}
-use Rattle.model.specs.File.Piece.{fieldBytes}
-use Rattle.model.specs.File.RowLaws.{parameter-bytes}
-use Rattle.model.specs.Lists.{over}
-use Rattle.model.specs.OverLaws.{over-room, lend-next}
+use Rattle.columns.specs.Bytes.{bytes-of}
+use Rattle.format.specs.File.Piece.{field-bytes}
+use Rattle.format.specs.File.RowLaws.{parameter-bytes-field}
+use Rattle.format.specs.Lists.{over}
+use Rattle.format.specs.OverLaws.{over-room-fits, lend-next}
 use Rattle.writer.proofs.put_parameter_row.Statement.{statement}
 use Rattle.writer.proofs.put_parameter_row.Tie as tie
 
@@ -32,8 +32,8 @@ same-length c = search needs
 returns : tie.Need-returns
 returns c =
     let a = c .before .before .before .before .before .before .before .before .before .args in
-    lend-next (fieldBytes 4 8 []) (bytesOf 8 (a .set)) (a .out .now) _ _ 3 refl (c .before .before .before .before .before .before .put-head .ensures) (c .before .before .put-set .ensures ∙ over-room _ _ (search needs))
-    ∙ ap (λ (s : List ℕ). over s (a .out .now)) (parameter-bytes (a .set))
+    lend-next (field-bytes 4 8 []) (bytes-of 8 (a .set)) (a .out .now) _ _ 3 refl (c .before .before .before .before .before .before .put-head .ensures) (c .before .before .put-set .ensures ∙ over-room-fits _ _ (search needs))
+    ∙ ap (λ (s : List ℕ). over s (a .out .now)) (parameter-bytes-field (a .set))
 
 pub put-parameter-row-spec : {M : Type 1} → statement M
 put-parameter-row-spec =

@@ -5,15 +5,15 @@ use mathlib.Core.List.{List, _++_, flatMap}
 use mathlib.Core.Path.{sym, ap, _∙_}
 use native.Mathlib.Omega.{arith}
 use lib.ListN.{length, getD, length-take, length-drop}
-use Rattle.model.specs.File.RowLaws.{parameter-bytes-length, parameter-rows-next, parameter-rows-done, parameter-rows-length}
-use Rattle.model.specs.File.Steps.{parameterBytes}
-use Rattle.model.specs.ListLaws.{tail-part}
-use Rattle.model.specs.OverLaws.{Wrote, wrote-none, wrote-run, wrote-all}
+use Rattle.format.specs.File.RowLaws.{parameter-bytes-length, parameter-rows-next, parameter-rows-done, parameter-rows-length}
+use Rattle.format.specs.File.Steps.{parameter-bytes}
+use Rattle.format.specs.ListLaws.{tail-part}
+use Rattle.format.specs.OverLaws.{Wrote, wrote-none, wrote-run, wrote-all}
 use Rattle.writer.proofs.put_parameter_rows.Statement.{statement}
 use Rattle.writer.proofs.put_parameter_rows.Tie as tie
 
 abbrev Inv-loop : tie.InvT-loop
-Inv-loop out₀ parameters rest₀ at₀ out rest at = Wrote (flatMap parameterBytes parameters) (flatMap parameterBytes rest) out₀ out at
+Inv-loop out₀ parameters rest₀ at₀ out rest at = Wrote (flatMap parameter-bytes parameters) (flatMap parameter-bytes rest) out₀ out at
 
 abbrev μ-loop : tie.MeasureT-loop
 μ-loop out₀ parameters rest₀ at₀ out rest at = length rest
@@ -55,8 +55,8 @@ loop-again : tie.Need-loop-again Inv-loop μ-loop
 loop-again c =
     let l = c .before .before .before .before .before .before .before .loop in
     let r = l .rest .now in
-    wrote-run (parameterBytes (getD r 0 0)) _ _ 11 (l .inv)
-    (parameter-rows-next r (c .before .before .before .before .before .before .loop-test .taken) ∙ ap (λ (s : List ℕ). parameterBytes (getD r 0 0) ++ flatMap parameterBytes s) (sym (tail-part 1 r)))
+    wrote-run (parameter-bytes (getD r 0 0)) _ _ 11 (l .inv)
+    (parameter-rows-next r (c .before .before .before .before .before .before .loop-test .taken) ∙ ap (λ (s : List ℕ). parameter-bytes (getD r 0 0) ++ flatMap parameter-bytes s) (sym (tail-part 1 r)))
     (c .before .before .before .put-parameter-row .ensures) (parameter-bytes-length (getD r 0 0))
 
 same-length : tie.Need-same-length Inv-loop μ-loop

@@ -4,9 +4,9 @@ use mathlib.Core.List.{List, [], _∷_}
 use mathlib.Core.Path.{_≡_, refl, sym, ap, _∙_}
 use native.Mathlib.Omega.{arith}
 use borrow.Author.Needs.{needs}
-use Rattle.model.specs.File.Piece.{fieldBytes}
-use Rattle.model.specs.Lists.{over}
-use Rattle.model.specs.OverLaws.{wrote-first, wrote-next, wrote-all}
+use Rattle.format.specs.File.Piece.{field-bytes}
+use Rattle.format.specs.Lists.{over}
+use Rattle.format.specs.OverLaws.{wrote-first, wrote-next, wrote-all}
 use Rattle.writer.proofs.put_prime.Statement.{statement}
 use Rattle.writer.proofs.put_prime.Tie as tie
 
@@ -33,9 +33,9 @@ returns c =
     let a = c .before .before .before .before .before .before .before .before .before .args in
     let bytes : List ℕ = a .p % 256 ∷ a .p / 256 ∷ [] in
     let high : a .p / 256 % 256 ≡ a .p / 256 = omega arith in
-    let w = wrote-first (fieldBytes 1 2 bytes) (fieldBytes 1 2 []) bytes 3 refl (c .before .before .before .before .before .before .before .before .before .pre) (c .before .before .before .before .before .before .put-head .ensures) refl in
+    let w = wrote-first (field-bytes 1 2 bytes) (field-bytes 1 2 []) bytes 3 refl (c .before .before .before .before .before .before .before .before .before .pre) (c .before .before .before .before .before .before .put-head .ensures) refl in
     wrote-all (wrote-next bytes [] _ w refl (c .before .before .put-two .ensures)) refl
-    ∙ ap (λ (h : ℕ). over (fieldBytes 1 2 (a .p % 256 ∷ h ∷ [])) (a .out .now)) (sym high)
+    ∙ ap (λ (h : ℕ). over (field-bytes 1 2 (a .p % 256 ∷ h ∷ [])) (a .out .now)) (sym high)
 
 pub put-prime-spec : {M : Type 1} → statement M
 put-prime-spec =

@@ -5,8 +5,8 @@ use mathlib.Core.Path.{refl}
 use native.Mathlib.Omega.{arith}
 use lib.ListN.{length-set}
 use borrow.Author.Needs.{needs}
-use Rattle.model.specs.File.Piece.{fieldBytes}
-use Rattle.model.specs.OverLaws.{wrote-first, wrote-set, wrote-all}
+use Rattle.format.specs.File.Piece.{field-bytes}
+use Rattle.format.specs.OverLaws.{wrote-first, wrote-set, wrote-all}
 use Rattle.writer.proofs.put_sizes.Statement.{statement}
 use Rattle.writer.proofs.put_sizes.Tie as tie
 
@@ -29,7 +29,7 @@ returns : tie.Need-returns
 returns c =
     let a = c .before .before .before .before .before .args in
     let sizes : List ℕ = a .n ∷ a .a ∷ a .b ∷ [] in
-    let w = wrote-first (fieldBytes 2 3 sizes) (fieldBytes 2 3 []) sizes 3 refl (c .before .before .before .before .before .pre) (c .before .before .put-head .ensures) refl in
+    let w = wrote-first (field-bytes 2 3 sizes) (field-bytes 2 3 []) sizes 3 refl (c .before .before .before .before .before .pre) (c .before .before .put-head .ensures) refl in
     wrote-all (wrote-set (a .b) [] (wrote-set (a .a) (a .b ∷ []) (wrote-set (a .n) (a .a ∷ a .b ∷ []) w refl) refl) refl) refl
 
 pub put-sizes-spec : {M : Type 1} → statement M

@@ -3,7 +3,7 @@ use Prim.Native.Nat.{_/_, _%_}
 use mathlib.Core.List.{[], _∷_}
 use mathlib.Core.Path.{refl}
 use borrow.Author.Needs.{needs}
-use Rattle.model.specs.OverLaws.{wrote-none, wrote-set, wrote-all}
+use Rattle.format.specs.OverLaws.{wrote-none, wrote-set, wrote-all}
 use Rattle.writer.proofs.put_two.Statement.{statement}
 use Rattle.writer.proofs.put_two.Tie as tie
 

@@ -4,10 +4,10 @@ use mathlib.Core.Path.{_≡_, sym, _∙_}
 use native.Mathlib.Omega.{arith}
 use borrow.Author.Needs.{needs}
 use Rattle.writer.specs.HandedLaws.{writing-refused, writing-short, writing-done}
-use Rattle.model.specs.File.JudgeLaws.{rows-most}
-use Rattle.model.specs.Refusals.{refusal}
-use Rattle.model.specs.Refusals.{mostColumns, mostRows}
-use Rattle.model.specs.TestLaws.{model-accepted}
+use Rattle.format.specs.File.JudgeLaws.{rows-most}
+use Rattle.format.specs.Refusals.{refusal}
+use Rattle.format.specs.Refusals.{most-columns, most-rows}
+use Rattle.format.specs.TestLaws.{model-accepted}
 use Rattle.writer.proofs.write_file.Statement.{statement}
 use Rattle.writer.proofs.write_file.Tie as tie
 
@@ -15,7 +15,7 @@ accepted : (c : tie.Else1) → let a = c .before .before .before .before .before
 accepted c = sym (c .before .judge-model .ensures) ∙ c .if1 .left
 
 -- the file of an accepted model is not long
-small : (c : tie.Else1) → (c .before .before .before .before .before .args .n ≤ mostColumns) × (c .before .before .before .before .before .args .b ≤ mostRows) × (c .before .before .before .before .before .args .a * (3 + 2 * c .before .before .before .before .before .args .n) ≤ mostRows * (3 + 2 * mostColumns))
+small : (c : tie.Else1) → (c .before .before .before .before .before .args .n ≤ most-columns) × (c .before .before .before .before .before .args .b ≤ most-rows) × (c .before .before .before .before .before .args .a * (3 + 2 * c .before .before .before .before .before .args .n) ≤ most-rows * (3 + 2 * most-columns))
 small c =
     let a = c .before .before .before .before .before .args in
     let h = model-accepted _ _ _ _ _ _ (accepted c) in

@@ -2,7 +2,7 @@
 use Prim.Native.Nat.{ℕ, _+_, _-_, _*_, _<_, _≤_}
 use mathlib.Core.Path.{_≡_, sym, _∙_}
 use borrow.Author.Tests.{lt-ltb, le-ltb, not-true, not-false}
-use Rattle.residue.specs.Primes.{isPrime-reads}
+use Rattle.residue.specs.Primes.{is-prime-reads}
 use native.Mathlib.Nat.{mul-le-mul}
 use Rattle.exchange.specs.SolveLaws.{fitting-reads, at-fitting, at-inside, at-short, at-prime, at-last}
 use borrow.Author.Needs.{needs}
@@ -42,7 +42,7 @@ constants-below-requires : tie.Need-constants-below-requires
 constants-below-requires c κs =
     let a = c .before .before .before .before .before .before .before .before .before .args in
     let f = fitting-reads (a .n) (a .a) (a .b) _ _ (sym (c .before .before .before .before .before .before .fits2 .ensures) ∙ not-false _ (c .before .before .before .before .before .if1 .left)) in
-    (f .constants-lent, omega (arith, isPrime-reads (a .p) .0 (sym (c .before .is-prime .ensures) ∙ not-false _ (c .if4 .left)) .least))
+    (f .constants-lent, omega (arith, is-prime-reads (a .p) .0 (sym (c .before .is-prime .ensures) ∙ not-false _ (c .if4 .left)) .least))
 
 returns-5 : tie.Need-returns-5
 returns-5 c =

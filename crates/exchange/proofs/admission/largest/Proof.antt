@@ -5,7 +5,7 @@ use mathlib.Core.Logic.{_⊎_, inl, inr, ⊎-elim}
 use native.Mathlib.Decide.{ℕ-discrete}
 use mathlib.Core.List.{List}
 use lib.ListN.{getD}
-use Rattle.columns.specs.Counting.Sets.{Some}
+use Rattle.counting.specs.Sets.{Some}
 use borrow.Author.Needs.{needs}
 use native.Mathlib.Omega.{arith}
 use Rattle.exchange.proofs.admission.largest.Statement.{statement}

@@ -3,7 +3,7 @@ use Prim.Native.Nat.{ℕ, _+_, _-_, _*_, _<_, _≤_}
 use mathlib.Core.Path.{_≡_, _∙_, ap}
 use mathlib.Core.Logic.{⊎-elim}
 use Rattle.columns.specs.Columns.{members, inserted}
-use Rattle.exchange.specs.Code.Reading.{owned}
+use Rattle.exchange.specs.Code.Scanning.{owned}
 use Rattle.exchange.specs.Code.Answer.{Side, side-none, side-more, side-skip}
 use borrow.Author.Needs.{needs}
 use native.Mathlib.Omega.{arith}

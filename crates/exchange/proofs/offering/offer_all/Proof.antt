@@ -6,8 +6,8 @@ use mathlib.Core.Logic.{_≢_}
 use mathlib.Core.Bool.{Bool}
 use lib.ListN.{length}
 use borrow.Author.Tests.{eqb-true, eqb-false, not-false}
-use Rattle.columns.specs.Counting.Bools.{not-in}
-use Rattle.columns.specs.Counting.Sets.{Set, _∈_, #}
+use Rattle.counting.specs.Bools.{not-in}
+use Rattle.counting.specs.Sets.{Set, _∈_, #}
 use Rattle.columns.specs.Columns.{width, members}
 use Rattle.columns.specs.Words.Operations.{least-first}
 use Rattle.columns.specs.Words.SetLaws.{removed-less, least-there, nothing-in}

@@ -6,12 +6,12 @@ use mathlib.Core.Logic.{_≢_, _⊎_, inl, inr, ⊎-elim}
 use mathlib.Core.Bool.{true, true≢false}
 use native.Mathlib.Decide.{ℕ-discrete}
 use borrow.Author.Tests.{eqb-true, eqb-false, not-false}
-use Rattle.columns.specs.Counting.Bools.{not-in}
-use Rattle.columns.specs.Counting.Sets.{Set, _∈_, _⊆_, #}
+use Rattle.counting.specs.Bools.{not-in}
+use Rattle.counting.specs.Sets.{Set, _∈_, _⊆_, #}
 use Rattle.columns.specs.Columns.{width, members, none, inserted, removed}
 use Rattle.columns.specs.Words.Operations.{members-below}
 use Rattle.columns.specs.Words.SetLaws.{inserted-same, inserted-old, removed-old, removed-other, removed-less, least-there, nothing-in}
-use Rattle.exchange.specs.Code.Reading.{touched, owned, RowsRead, rows-kept, rows-down, Owners, owners-none, owners-more, Scanned}
+use Rattle.exchange.specs.Code.Scanning.{touched, owned, RowsRead, rows-kept, rows-down, Owners, owners-none, owners-more, Scanned}
 use borrow.Author.Needs.{needs}
 use native.Mathlib.Omega.{arith}
 use Rattle.exchange.proofs.search.scan.Statement.{statement}

@@ -4,12 +4,12 @@ use Prim.Native.Nat.{ℕ, _+_, _-_, _*_, _<_, _≤_}
 use mathlib.Core.Path.{_≡_, sym, ap, _∙_}
 use mathlib.Core.Logic.{_≢_}
 use borrow.Author.Tests.{eqb-true, eqb-false}
-use Rattle.columns.specs.Counting.Sets.{Set, _∈_, _∩_, _∪_, ∁, #}
-use Rattle.columns.specs.Counting.Counts.{#-le}
+use Rattle.counting.specs.Sets.{Set, _∈_, _∩_, _∪_, ∁, #}
+use Rattle.counting.specs.Counts.{#-le}
 use Rattle.columns.specs.Columns.{width, members}
 use Rattle.columns.specs.Words.SetLaws.{union-more}
 use Rattle.rank.specs.Graph.States.{State}
-use Rattle.exchange.specs.Code.Reading.{touched, owned}
+use Rattle.exchange.specs.Code.Scanning.{touched, owned}
 use Rattle.exchange.specs.Code.Searching.{Shows, Reaching, reaching-start, reaching-more, ended, final}
 use borrow.Author.Needs.{needs}
 use native.Mathlib.Omega.{arith}

@@ -1,6 +1,6 @@
 -- `exchange::search::touches` meets its contract. Assumes nothing.
 use mathlib.Core.Path.{_∙_, sym}
-use Rattle.exchange.specs.Code.Reading.{touched-constant, touched-parameter}
+use Rattle.exchange.specs.Code.Scanning.{touched-constant, touched-parameter}
 use borrow.Author.Needs.{needs}
 use native.Mathlib.Omega.{arith}
 use Rattle.exchange.proofs.search.touches.Statement.{statement}

@@ -4,7 +4,7 @@ use Prim.Native.Nat.{ℕ, _+_, _-_, _*_, _<_, _≤_}
 use mathlib.Core.Path.{_≡_, ap, _∙_, subst}
 use mathlib.Core.Bool.{true≢false, false≢true}
 use lib.ListN.{length}
-use Rattle.columns.specs.Counting.Sets.{Set}
+use Rattle.counting.specs.Sets.{Set}
 use Rattle.columns.specs.Columns.{members, none, inserted}
 use Rattle.rank.specs.Graph.Closed.{Closed}
 use Rattle.rank.specs.Graph.Layers.{layer}

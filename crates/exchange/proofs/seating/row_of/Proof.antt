@@ -4,7 +4,7 @@ use native.Mathlib.Omega.{arith}
 use mathlib.Core.Path.{_≡_, sym, _∙_}
 use Prim.Native.Nat.{ℕ, _+_, _-_, _<_, _≤_}
 use borrow.Author.Count.{below-more}
-use Rattle.exchange.specs.Code.Reading.{owned}
+use Rattle.exchange.specs.Code.Scanning.{owned}
 use Rattle.exchange.proofs.seating.row_of.Statement.{statement}
 use Rattle.exchange.proofs.seating.row_of.Tie as tie
 

@@ -6,15 +6,15 @@ use lib.ListN.{length, take, drop, length-drop}
 use lib.Seq.{length-take-le}
 use borrow.Author.Needs.{needs}
 use Rattle.columns.specs.Columns.{within}
-use Rattle.model.specs.File.Format.{rowStart, fileLength}
+use Rattle.format.specs.File.Format.{row-start, file-length}
 use Rattle.loader.specs.LookupLaws.{lookup-accepted, lookup-none, lookup-place, lookup-part, row-within}
-use Rattle.model.specs.Refusals.{mostColumns, mostRows}
+use Rattle.format.specs.Refusals.{most-columns, most-rows}
 use Rattle.loader.proofs.lookup.row.Statement.{statement}
 use Rattle.loader.proofs.lookup.row.Tie as tie
 
 -- the row lies within the file, which is not long
 inside : (c : tie.After-sizes-of)
-    → (rowStart (c .sizes-of .result .n) (c .before .before .before .before .args .i) + 2 * c .sizes-of .result .n ≤ length (c .before .before .before .before .args .file .now)) × (length (c .before .before .before .before .args .file .now) ≤ fileLength mostColumns mostRows mostRows)
+    → (row-start (c .sizes-of .result .n) (c .before .before .before .before .args .i) + 2 * c .sizes-of .result .n ≤ length (c .before .before .before .before .args .file .now)) × (length (c .before .before .before .before .args .file .now) ≤ file-length most-columns most-rows most-rows)
 inside c = row-within _ _ _ _ _ (c .before .before .before .before .args .i) (c .sizes-of .ensures .1) (sym (c .before .before .judge-row .ensures) ∙ c .before .if1 .left)
 
 judge-row-requires : tie.Need-judge-row-requires

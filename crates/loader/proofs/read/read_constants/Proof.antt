@@ -5,17 +5,17 @@ use mathlib.Core.List.{List, _++_}
 use mathlib.Core.Path.{_≡_, sym, ap, _∙_}
 use native.Mathlib.Omega.{arith}
 use lib.ListN.{length, take, drop, length-take, length-drop}
-use Rattle.model.specs.File.Format.{entries}
+use Rattle.format.specs.File.Format.{entries}
 use Rattle.loader.specs.ReadLaws.{constants-next, constants-done, row-length, constants-length, constants-room}
-use Rattle.model.specs.File.Steps.{constantsOf}
-use Rattle.model.specs.ListLaws.{tail-part}
-use Rattle.model.specs.Lists.{over}
-use Rattle.model.specs.OverLaws.{Wrote, wrote-none, wrote-run, wrote-all}
+use Rattle.format.specs.File.Steps.{constants-of}
+use Rattle.format.specs.ListLaws.{tail-part}
+use Rattle.format.specs.Lists.{over}
+use Rattle.format.specs.OverLaws.{Wrote, wrote-none, wrote-run, wrote-all}
 use Rattle.loader.proofs.read.read_constants.Statement.{statement}
 use Rattle.loader.proofs.read.read_constants.Tie as tie
 
 abbrev Inv-loop : tie.InvT-loop
-Inv-loop out₀ file n a size rest₀ at₀ left₀ out rest at left = Wrote (constantsOf n a file) (constantsOf n left rest) out₀ out at × (left * (3 + 2 * n) ≤ length rest)
+Inv-loop out₀ file n a size rest₀ at₀ left₀ out rest at left = Wrote (constants-of n a file) (constants-of n left rest) out₀ out at × (left * (3 + 2 * n) ≤ length rest)
 
 abbrev μ-loop : tie.MeasureT-loop
 μ-loop out₀ file n a size rest₀ at₀ left₀ out rest at left = left
@@ -96,7 +96,7 @@ loop-again c =
     let left = take (length (l .out) - l .at) (drop (l .at) (l .out)) in
     let size : 3 + 2 * n - 3 ≡ 2 * n = omega arith in
     let t : take (length r - (3 + 2 * n)) (drop (3 + 2 * n) r) ≡ drop (3 + 2 * n) r = tail-part (3 + 2 * n) r in
-    let next = constants-next n (l .left) r (c .before .before .before .before .before .before .loop-test .taken) ∙ ap (λ (s : List ℕ). row ++ constantsOf n (l .left - 1) s) (sym t) in
+    let next = constants-next n (l .left) r (c .before .before .before .before .before .before .loop-test .taken) ∙ ap (λ (s : List ℕ). row ++ constants-of n (l .left - 1) s) (sym t) in
     let read = c .before .before .before .read-entries .ensures ∙ ap (λ (k : ℕ). over (entries (take k (drop 3 r))) left) size in
     (wrote-run row _ _ n (l .inv .0) next read (row-length n r (f .0)), rw (t, length-drop) (f .1))
 

@@ -6,10 +6,10 @@ use mathlib.Core.Path.{sym, ap, _∙_}
 use native.Mathlib.Omega.{arith}
 use lib.ListN.{length, drop, length-take, length-drop}
 use borrow.Author.Needs.{needs}
-use Rattle.model.specs.File.EntryLaws.{entries-next, entries-done}
-use Rattle.model.specs.File.Format.{entries}
-use Rattle.model.specs.ListLaws.{tail-part}
-use Rattle.model.specs.OverLaws.{Wrote, wrote-none, wrote-set, wrote-all}
+use Rattle.format.specs.File.EntryLaws.{entries-next, entries-done}
+use Rattle.format.specs.File.Format.{entries}
+use Rattle.format.specs.ListLaws.{tail-part}
+use Rattle.format.specs.OverLaws.{Wrote, wrote-none, wrote-set, wrote-all}
 use Rattle.loader.proofs.read.read_entries.Statement.{statement}
 use Rattle.loader.proofs.read.read_entries.Tie as tie
 

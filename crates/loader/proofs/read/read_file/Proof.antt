@@ -3,11 +3,11 @@ use Prim.Native.Nat.{ℕ, _+_, _*_}
 use mathlib.Core.List.{List}
 use mathlib.Core.Path.{_≡_, sym, ap, _∙_}
 use borrow.Author.Needs.{needs}
-use Rattle.model.specs.File.Format.{judge}
+use Rattle.format.specs.File.Format.{judge}
 use Rattle.loader.specs.ReadLaws.{reading-refused, constants-short, parameters-short, reading-done}
-use Rattle.model.specs.File.Steps.{constantsOf, parametersOf}
-use Rattle.model.specs.ListLaws.{tail-part}
-use Rattle.model.specs.Lists.{over}
+use Rattle.format.specs.File.Steps.{constants-of, parameters-of}
+use Rattle.format.specs.ListLaws.{tail-part}
+use Rattle.format.specs.Lists.{over}
 use Rattle.loader.proofs.read.read_file.Statement.{statement}
 use Rattle.loader.proofs.read.read_file.Tie as tie
 
@@ -98,8 +98,8 @@ returns-4 c =
     let n = z .result .n in
     let a = z .result .a in
     let b = z .result .b in
-    let constants = c .before .before .before .before .before .before .before .read-constants .ensures ∙ ap (λ (t : List ℕ). over (constantsOf n a t) (args .constants .now)) (tail-part 11 s) in
-    let parameters = c .before .before .read-parameters .ensures ∙ ap (λ (t : List ℕ). over (parametersOf b t) (args .parameters .now)) (tail-part (11 + a * (3 + 2 * n)) s) in
+    let constants = c .before .before .before .before .before .before .before .read-constants .ensures ∙ ap (λ (t : List ℕ). over (constants-of n a t) (args .constants .now)) (tail-part 11 s) in
+    let parameters = c .before .before .read-parameters .ensures ∙ ap (λ (t : List ℕ). over (parameters-of b t) (args .parameters .now)) (tail-part (11 + a * (3 + 2 * n)) s) in
     rw (z .ensures .0) (reading-done _ _ _ (accepted (d .before .before .before)) _ _ _ _ (z .ensures .1) (d .before .if2 .left) (d .if3 .left) _ _ constants parameters)
 
 pub read-file-spec : {M : Type 1} → statement M

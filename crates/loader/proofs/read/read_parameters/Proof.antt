@@ -9,14 +9,14 @@ use lib.Seq.{take-take}
 use borrow.Author.Needs.{needs}
 use Rattle.columns.specs.Bytes.{number}
 use Rattle.loader.specs.ReadLaws.{parameters-next, parameters-done, parameters-length}
-use Rattle.model.specs.File.Steps.{parametersOf}
-use Rattle.model.specs.ListLaws.{tail-part}
-use Rattle.model.specs.OverLaws.{Wrote, wrote-none, wrote-set, wrote-all}
+use Rattle.format.specs.File.Steps.{parameters-of}
+use Rattle.format.specs.ListLaws.{tail-part}
+use Rattle.format.specs.OverLaws.{Wrote, wrote-none, wrote-set, wrote-all}
 use Rattle.loader.proofs.read.read_parameters.Statement.{statement}
 use Rattle.loader.proofs.read.read_parameters.Tie as tie
 
 abbrev Inv-loop : tie.InvT-loop
-Inv-loop out₀ file b rest₀ at₀ left₀ out rest at left = Wrote (parametersOf b file) (parametersOf left rest) out₀ out at × (11 * left ≤ length rest)
+Inv-loop out₀ file b rest₀ at₀ left₀ out rest at left = Wrote (parameters-of b file) (parameters-of left rest) out₀ out at × (11 * left ≤ length rest)
 
 abbrev μ-loop : tie.MeasureT-loop
 μ-loop out₀ file b rest₀ at₀ left₀ out rest at left = left
@@ -69,7 +69,7 @@ loop-again c =
     let t : take (length r - 11) (drop 11 r) ≡ drop 11 r = tail-part 11 r in
     let set : c .before .of-bytes .result ≡ number (take 8 (drop 3 r)) = c .before .of-bytes .ensures ∙ ap number (take-take 8 8 (drop 3 r) (omega arith)) in (
       wrote-set (c .before .of-bytes .result) _ (l .inv .0)
-          (parameters-next (l .left) r (c .before .before .before .loop-test .taken) ∙ ap (λ (x : ℕ). x ∷ parametersOf (l .left - 1) (drop 11 r)) (sym set) ∙ ap (λ (s : List ℕ). c .before .of-bytes .result ∷ parametersOf (l .left - 1) s) (sym t)),
+          (parameters-next (l .left) r (c .before .before .before .loop-test .taken) ∙ ap (λ (x : ℕ). x ∷ parameters-of (l .left - 1) (drop 11 r)) (sym set) ∙ ap (λ (s : List ℕ). c .before .of-bytes .result ∷ parameters-of (l .left - 1) s) (sym t)),
       rw (t, length-drop) (omega arith),
     )
 

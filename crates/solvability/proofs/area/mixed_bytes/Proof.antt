@@ -2,9 +2,9 @@
 use mathlib.Core.Path.{sym, _∙_}
 use borrow.Author.Needs.{needs}
 use Rattle.mixed_models.specs.Mixed.{mixed}
-use Rattle.model.specs.Refusals.{mixedTests, mixedRefusal}
+use Rattle.format.specs.Refusals.{mixed-tests, mixed-refusal}
 use Rattle.solvability.specs.Area.{mixed-length, MixedWritten, MixedBytes}
-use Rattle.solvability.specs.AreaLaws.{area-refused, area-short, area-done}
+use Rattle.solvability.specs.AreaLaws.{area-refused, area-too-short, area-done}
 use Rattle.solvability.proofs.area.mixed_bytes.Statement.{statement}
 use Rattle.solvability.proofs.area.mixed_bytes.Tie as tie
 
@@ -12,16 +12,16 @@ mixed-rank-requires : tie.Need-mixed-rank-requires
 mixed-rank-requires c κs = search needs
 
 returns : tie.Need-returns
-unfolding MixedBytes mixedRefusal
+unfolding MixedBytes mixed-refusal
 returns c =
     let a = c .before .before .before .before .before .before .args in
-    area-refused (mixedTests (a .p) (a .n) (a .a) (a .b) (a .constants .now) (a .parameters .now)) mixed-length (MixedWritten (mixed (a .p) (a .a) (a .n) (a .constants .now) (a .parameters .now))) (a .answer .now) _ (c .before .before .mixed-rank .ensures .is-refusal) (c .if1 .taken)
+    area-refused (mixed-tests (a .p) (a .n) (a .a) (a .b) (a .constants .now) (a .parameters .now)) mixed-length (MixedWritten (mixed (a .p) (a .a) (a .n) (a .constants .now) (a .parameters .now))) (a .answer .now) _ (c .before .before .mixed-rank .ensures .is-refusal) (c .if1 .taken)
 
 returns-2 : tie.Need-returns-2
-unfolding MixedBytes mixedRefusal
+unfolding MixedBytes mixed-refusal
 returns-2 c =
     let a = c .before .before .before .before .before .before .before .args in
-    area-short (mixedTests (a .p) (a .n) (a .a) (a .b) (a .constants .now) (a .parameters .now)) mixed-length (MixedWritten (mixed (a .p) (a .a) (a .n) (a .constants .now) (a .parameters .now))) (a .answer .now) (sym (c .before .before .before .mixed-rank .ensures .is-refusal) ∙ c .before .if1 .left) (c .if2 .taken)
+    area-too-short (mixed-tests (a .p) (a .n) (a .a) (a .b) (a .constants .now) (a .parameters .now)) mixed-length (MixedWritten (mixed (a .p) (a .a) (a .n) (a .constants .now) (a .parameters .now))) (a .answer .now) (sym (c .before .before .before .mixed-rank .ensures .is-refusal) ∙ c .before .if1 .left) (c .if2 .taken)
 
 put-mixed-requires : tie.Need-put-mixed-requires
 put-mixed-requires c κs = search needs
@@ -30,12 +30,12 @@ same-length : tie.Need-same-length
 same-length c = search needs
 
 returns-3 : tie.Need-returns-3
-unfolding MixedBytes mixedRefusal
+unfolding MixedBytes mixed-refusal
 returns-3 c =
     let a = c .before .before .before .before .before .before .before .before .before .before .before .args in
     let h = c .before .before .before .before .before .before .before .mixed-rank .ensures in
     let zero = sym (h .is-refusal) ∙ c .before .before .before .before .before .if1 .left in
-    area-done (mixedTests (a .p) (a .n) (a .a) (a .b) (a .constants .now) (a .parameters .now)) mixed-length (MixedWritten (mixed (a .p) (a .a) (a .n) (a .constants .now) (a .parameters .now))) (a .answer .now) zero (c .before .before .before .before .if2 .left) _
+    area-done (mixed-tests (a .p) (a .n) (a .a) (a .b) (a .constants .now) (a .parameters .now)) mixed-length (MixedWritten (mixed (a .p) (a .a) (a .n) (a .constants .now) (a .parameters .now))) (a .answer .now) zero (c .before .before .before .before .if2 .left) _
     (record {
       the-verdict = _;
       the-rank = _;

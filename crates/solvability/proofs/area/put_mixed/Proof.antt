@@ -2,9 +2,9 @@
 use mathlib.Core.List.{[], _∷_, _++_, append-nil}
 use mathlib.Core.Path.{refl, sym}
 use borrow.Author.Needs.{needs}
-use Rattle.columns.specs.Bytes.{bytesOf}
+use Rattle.columns.specs.Bytes.{bytes-of}
 use Rattle.solvability.specs.Area.{mixed-bytes}
-use Rattle.model.specs.OverLaws.{wrote-first, wrote-room, wrote-all}
+use Rattle.format.specs.OverLaws.{wrote-first, wrote-room, wrote-all}
 use Rattle.solvability.proofs.area.put_mixed.Statement.{statement}
 use Rattle.solvability.proofs.area.put_mixed.Tie as tie
 
@@ -54,9 +54,9 @@ returns : tie.Need-returns
 unfolding mixed-bytes
 returns c =
     let a = c .before .before .before .before .before .before .before .before .before .before .before .before .before .before .before .before .before .args in
-    let rows = bytesOf 8 (a .rows) in
-    let columns = bytesOf 8 (a .columns) in
-    let short = bytesOf 8 (a .short) in
+    let rows = bytes-of 8 (a .rows) in
+    let columns = bytes-of 8 (a .columns) in
+    let short = bytes-of 8 (a .short) in
     let w₁ = wrote-first (mixed-bytes (a .verdict) (a .rank) (a .rows) (a .columns) (a .short)) (a .verdict ∷ a .rank ∷ []) (rows ++ (columns ++ short)) 2 refl (c .before .before .before .before .before .before .before .before .before .before .before .before .before .before .before .before .before .pre) (c .before .before .before .before .before .before .before .before .before .before .before .before .before .before .put-numbers .ensures) refl in
     let w₂ = wrote-room rows (columns ++ short) _ 8 w₁ refl (c .before .before .before .before .before .before .before .before .before .before .put-set .ensures) refl in
     let w₃ = wrote-room columns short _ 8 w₂ refl (c .before .before .before .before .before .before .put-set2 .ensures) refl in

@@ -5,9 +5,9 @@ use mathlib.Core.Path.{_≡_, refl, sym, ap, _∙_}
 use native.Mathlib.Omega.{arith}
 use lib.ListN.{length, length-append}
 use borrow.Author.Needs.{needs}
-use Rattle.columns.specs.Bytes.{bytesOf}
+use Rattle.columns.specs.Bytes.{bytes-of}
 use Rattle.solvability.specs.Host.{answer-bytes}
-use Rattle.model.specs.OverLaws.{wrote-first, wrote-run, wrote-room, wrote-all}
+use Rattle.format.specs.OverLaws.{wrote-first, wrote-run, wrote-room, wrote-all}
 use Rattle.solvability.proofs.host.put_answer.Statement.{statement}
 use Rattle.solvability.proofs.host.put_answer.Tie as tie
 
@@ -70,9 +70,9 @@ unfolding answer-bytes
 returns c =
     let a = c .before .before .before .before .before .before .before .before .before .before .before .before .before .before .before .before .before .before .before .before .before .args in
     let h = c .before .before .before .before .before .before .before .before .before .before .before .before .before .before .before .before .before .before .before .before .before .pre in
-    let placed = bytesOf 8 (a .placed) in
-    let side = bytesOf 8 (a .side) in
-    let short = bytesOf 8 (a .short) in
+    let placed = bytes-of 8 (a .placed) in
+    let side = bytes-of 8 (a .side) in
+    let short = bytes-of 8 (a .short) in
     let all = answer-bytes (a .verdict) (a .rank) (a .placed) (a .side) (a .short) (a .rows) in
     let three : length (short ++ a .rows) ≡ 8 + length (a .rows) = length-append short (a .rows) in
     let two : length (side ++ (short ++ a .rows)) ≡ 8 + length (short ++ a .rows) = length-append side (short ++ a .rows) in

@@ -2,7 +2,7 @@
 use mathlib.Core.List.{[], _∷_}
 use mathlib.Core.Path.{refl}
 use borrow.Author.Needs.{needs}
-use Rattle.model.specs.OverLaws.{wrote-none, wrote-set, wrote-all}
+use Rattle.format.specs.OverLaws.{wrote-none, wrote-set, wrote-all}
 use Rattle.solvability.proofs.host.put_numbers.Statement.{statement}
 use Rattle.solvability.proofs.host.put_numbers.Tie as tie
 

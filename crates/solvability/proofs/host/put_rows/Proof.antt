@@ -8,7 +8,7 @@ use native.Mathlib.Omega.{arith}
 use lib.ListN.{length, drop, getD, drop-of-length-le}
 use lib.Seq.{drop-cons}
 use borrow.Author.Needs.{needs}
-use Rattle.model.specs.OverLaws.{Wrote, wrote-none, wrote-set, wrote-all}
+use Rattle.format.specs.OverLaws.{Wrote, wrote-none, wrote-set, wrote-all}
 use Rattle.solvability.proofs.host.put_rows.Statement.{statement}
 use Rattle.solvability.proofs.host.put_rows.Tie as tie
 

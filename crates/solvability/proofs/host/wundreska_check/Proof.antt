@@ -5,7 +5,7 @@ use lib.ListN.{length}
 use borrow.Author.Needs.{needs}
 use native.Mathlib.Omega.{arith}
 use Rattle.columns.specs.Words.Bytes.{AreBytes}
-use Rattle.model.specs.File.Format.{Reading}
+use Rattle.format.specs.File.Format.{ReadCall}
 use Rattle.layered.specs.FileLaws.{own-constants, own-parameters, own-length, own-count}
 use Rattle.solvability.specs.HostLaws.{host-refused, host-short, host-done}
 use Rattle.solvability.proofs.host.wundreska_check.Statement.{statement}
@@ -52,7 +52,7 @@ returns-3 : tie.Need-returns-3
 returns-3 c =
     let a = c .before .before .before .before .before .before .before .before .before .before .before .before .before .before .before .before .before .before .args in
     let zero = c .before .before .before .before .before .before .before .before .before .if1 .left in
-    let r : Reading (a .file .now) own-constants own-parameters 0 _ _ _ _ _ _ = rw zero at (c .before .before .before .before .before .before .before .before .before .before .before .before .before .read-file .ensures) in
+    let r : ReadCall (a .file .now) own-constants own-parameters 0 _ _ _ _ _ _ = rw zero at (c .before .before .before .before .before .before .before .before .before .before .before .before .before .read-file .ensures) in
     rw (c .before .before .put-answer .ensures)
     (host-done (a .file .now) (bytes (c .before .before .before .before .before .before .before .before .before .before .before .before .before .before .before .before .before)) (a .answer .now) _ _ _ _ _ _ r (c .before .before .before .before .before .before .before .before .if2 .left) _ _ _ _ _ _ _ (put-answer-requires (c .before .before .before) (c .before .before .put-answer .lifetimes) .1) (c .before .before .before .before .before .layered-rank .ensures))
 

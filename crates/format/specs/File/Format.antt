@@ -1,0 +1,195 @@
+-- The file of a model, by document 01, "The file": its fields in their order, and how a file is judged, read, written and looked up.
+-- Definitions only.
+use Prim.Native.Nat.{ℕ, _+_, _*_, _/_, _%_, _^_, _≤_, _<_}
+use mathlib.Core.Path.{_≡_}
+use mathlib.Core.Bool.{true}
+use mathlib.Core.List.{List, [], _∷_, flatten}
+use lib.ListN.{length, getD, take, drop}
+use Rattle.residue.specs.Arithmetic.{Prime}
+use Rattle.columns.specs.Bytes.{number, bytes-of}
+use Rattle.columns.specs.Columns.{width, within}
+use Rattle.format.specs.Lists.{All, rows-of, over}
+use Rattle.format.specs.Refusals.{unless, _then_, first-refusal, where-accepted, not-prime, sizes-beyond, constant-beyond, parameter-beyond, area-short, row-beyond, largest-prime, most-columns, most-rows, prime-test, size-test, constant-test, area-test, row-test, model-tests}
+use Rattle.format.specs.File.Piece.{Body, Piece, field, many, seq, closed}
+
+-- a model as a file holds it: a parameter row is the number that its eight bytes show
+pub record FileModel : Type 0 where
+  pub p : ℕ
+  pub n : ℕ
+  pub a : ℕ
+  pub b : ℕ
+  pub constants : List (List ℕ)
+  pub parameters : List ℕ
+
+-- the model is of the stated form
+pub record ValidModel (m : FileModel) : Type 0 where
+  pub prime : Prime (m .p)
+  pub p-most : m .p ≤ largest-prime
+  pub n-least : 1 ≤ m .n
+  pub n-most : m .n ≤ most-columns
+  pub a-most : m .a ≤ most-rows
+  pub b-most : m .b ≤ most-rows
+  pub constant-rows : length (m .constants) ≡ m .a
+  pub constants-below : All (λ r. (length r ≡ m .n) × All (λ c. c < m .p) r) (m .constants)
+  pub parameter-rows : length (m .parameters) ≡ m .b
+  pub parameters-within : All (λ w. (w < 2 ^ width) × (within (m .n) w ≡ true)) (m .parameters)
+
+-- ---- the bodies
+
+-- two bytes an entry
+unfoldable pub entries : List ℕ → List ℕ
+entries [] = []
+entries (x ∷ []) = []
+entries (x ∷ y ∷ s) = (x + 256 * y) ∷ entries s
+
+unfoldable pub entry-bytes : List ℕ → List ℕ
+entry-bytes [] = []
+entry-bytes (c ∷ cs) = c % 256 ∷ c / 256 ∷ entry-bytes cs
+
+abbrev pub prime-body : Body ℕ
+prime-body = record { size = 2; tests = λ b. unless (prime-test (number b)) not-prime; dec = number; enc = bytes-of 2 }
+
+abbrev pub sizes-body : Body (ℕ × ℕ × ℕ)
+sizes-body =
+    record {
+      size = 3;
+      tests = λ b. unless (size-test (getD b 0 0) (getD b 1 0) (getD b 2 0)) sizes-beyond;
+      dec = λ b. (getD b 0 0, getD b 1 0, getD b 2 0);
+      enc = λ z. z .0 ∷ z .1 ∷ z .2 ∷ [];
+    }
+
+abbrev pub constant-body : ℕ → ℕ → Body (List ℕ)
+constant-body p n =
+    record { size = 2 * n; tests = λ b. unless (constant-test p (entries b)) constant-beyond; dec = entries; enc = entry-bytes }
+
+abbrev pub parameter-body : ℕ → Body ℕ
+parameter-body n =
+    record { size = 8; tests = λ b. unless (within n (number b)) parameter-beyond; dec = number; enc = bytes-of 8 }
+
+abbrev pub end-body : Body (Unit {0})
+end-body = record { size = 0; tests = λ b. []; dec = λ b. tt; enc = λ x. [] }
+
+-- ---- the fields, in their order
+
+unfoldable pub constant-row : ℕ → ℕ → Piece (List ℕ)
+constant-row p n = field 3 (constant-body p n)
+
+unfoldable pub parameter-row : ℕ → Piece ℕ
+parameter-row n = field 4 (parameter-body n)
+
+unfoldable pub end-field : Piece (Unit {0})
+end-field = field 5 end-body
+
+abbrev pub Rows : Type 0
+Rows = List (List ℕ) × (List ℕ × Unit {0})
+
+-- from tag 3 on, by p and by n, a, b
+unfoldable pub row-fields : ℕ → ℕ × ℕ × ℕ → Piece Rows
+row-fields p z =
+    seq (many (z .1) (constant-row p (z .0)))
+    (λ _. seq (many (z .2) (parameter-row (z .0)))
+    (λ _. end-field))
+
+-- from tag 2 on, by p
+unfoldable pub size-fields : ℕ → Piece ((ℕ × ℕ × ℕ) × Rows)
+size-fields p = seq (field 2 sizes-body) (λ z. row-fields p z)
+
+unfoldable pub fields : Piece (ℕ × ((ℕ × ℕ × ℕ) × Rows))
+fields = seq (field 1 prime-body) (λ p. size-fields p)
+
+-- the model as the fields' values, and back
+abbrev pub values : FileModel → ℕ × ((ℕ × ℕ × ℕ) × Rows)
+values m = (m .p, ((m .n, m .a, m .b), (m .constants, (m .parameters, tt))))
+
+abbrev pub of-values : ℕ × ((ℕ × ℕ × ℕ) × Rows) → FileModel
+of-values x =
+    record {
+      p = x .0;
+      n = x .1 .0 .0;
+      a = x .1 .0 .1;
+      b = x .1 .0 .2;
+      constants = x .1 .1 .0;
+      parameters = x .1 .1 .1 .0;
+    }
+
+-- ---- judged, read and written
+
+-- the refusal of a file, or 0
+unfoldable pub judge : List ℕ → ℕ
+judge s = first-refusal (closed fields s)
+
+unfoldable pub decode : List ℕ → FileModel
+decode s = of-values (fields .dec s)
+
+unfoldable pub encode : FileModel → List ℕ
+encode m = fields .enc (values m)
+
+-- how long the file of such a model is
+abbrev pub file-length : (n a b : ℕ) → ℕ
+file-length n a b = 14 + a * (3 + 2 * n) + 11 * b
+
+-- ---- read into lent areas: the constants row after row, the parameter rows as words
+
+unfoldable pub read-refusal : (s cs ws : List ℕ) → ℕ
+read-refusal s cs ws =
+    first-refusal
+    (closed fields s
+    then unless (area-test (decode s .a * decode s .n) (length cs)) area-short
+    then unless (area-test (decode s .b) (length ws)) area-short)
+
+-- what is read: nothing where it is refused
+abbrev pub no-model : FileModel
+no-model = record { p = 0; n = 0; a = 0; b = 0; constants = []; parameters = [] }
+
+unfoldable pub model-read : (s cs ws : List ℕ) → FileModel
+model-read s cs ws = where-accepted (read-refusal s cs ws) (decode s) no-model
+
+-- the numbers returned, and the areas afterwards
+pub record ReadCall (s cs ws : List ℕ) (refusal p n a b : ℕ) (cs′ ws′ : List ℕ) : Type 0 where
+  pub refusal-is : refusal ≡ read-refusal s cs ws
+  pub p-is : p ≡ model-read s cs ws .p
+  pub n-is : n ≡ model-read s cs ws .n
+  pub a-is : a ≡ model-read s cs ws .a
+  pub b-is : b ≡ model-read s cs ws .b
+  pub constants-are : cs′ ≡ over (flatten (model-read s cs ws .constants)) cs
+  pub parameters-are : ws′ ≡ over (model-read s cs ws .parameters) ws
+
+-- ---- a model handed over, written into a lent area
+
+-- the model in p, n, a, b and the areas
+unfoldable pub handed-over : (p n a b : ℕ) (cs ws : List ℕ) → FileModel
+handed-over p n a b cs ws =
+    record { p = p; n = n; a = a; b = b; constants = rows-of n a cs; parameters = take b ws }
+
+unfoldable pub write-refusal : (p n a b : ℕ) (cs ws out : List ℕ) → ℕ
+write-refusal p n a b cs ws out =
+    first-refusal (model-tests p n a b cs ws then unless (area-test (file-length n a b) (length out)) area-short)
+
+-- what is written: nothing where it is refused
+unfoldable pub bytes-written : (p n a b : ℕ) (cs ws out : List ℕ) → List ℕ
+bytes-written p n a b cs ws out = where-accepted (write-refusal p n a b cs ws out) (encode (handed-over p n a b cs ws)) []
+
+-- the numbers returned, and the area afterwards
+pub record WriteCall (p n a b : ℕ) (cs ws out : List ℕ) (refusal len : ℕ) (out′ : List ℕ) : Type 0 where
+  pub refusal-is : refusal ≡ write-refusal p n a b cs ws out
+  pub length-is : len ≡ length (bytes-written p n a b cs ws out)
+  pub bytes-are : out′ ≡ over (bytes-written p n a b cs ws out) out
+
+-- ---- a constant row looked up
+
+unfoldable pub lookup-refusal : List ℕ → ℕ → ℕ
+lookup-refusal s i = first-refusal (closed fields s then unless (row-test i (decode s .a)) row-beyond)
+
+-- where the body of row i starts in the file
+abbrev pub row-start : ℕ → ℕ → ℕ
+row-start n i = 14 + i * (3 + 2 * n)
+
+-- where in the file the part starts that is handed back, and how long it is: nothing where it is refused
+unfoldable pub lookup-start : List ℕ → ℕ → ℕ
+lookup-start s i = where-accepted (lookup-refusal s i) (row-start (decode s .n) i) 0
+
+unfoldable pub lookup-length : List ℕ → ℕ → ℕ
+lookup-length s i = where-accepted (lookup-refusal s i) (2 * decode s .n) 0
+
+unfoldable pub lookup : List ℕ → ℕ → List ℕ
+lookup s i = take (lookup-length s i) (drop (lookup-start s i) s)

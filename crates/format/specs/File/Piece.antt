@@ -1,0 +1,70 @@
+-- Pieces of a file: what is tested in a piece, how it is read and written, and how pieces are put together.
+-- Reading is total, and says something only where no test fails. Definitions only; PieceLaws has one law for each combinator.
+use Prim.Native.Nat.{ℕ, zero, suc, _/_, _%_}
+use mathlib.Core.List.{List, [], _∷_, _++_, flatMap}
+use lib.ListN.{take, drop}
+use Rattle.format.specs.Refusals.{Tests, unless, _then_, truncated, unexpected, trailing, head-test, due-test, body-test, end-test}
+
+-- a field's body, of a size that is known
+pub record Body (A : Type 0) : Type 0 where
+  pub size : ℕ
+  pub tests : List ℕ → Tests
+  pub dec : List ℕ → A
+  pub enc : A → List ℕ
+
+-- what stands first in a list: its tests, its value, what follows it, and how it is written
+pub record Piece (A : Type 0) : Type 0 where
+  pub tests : List ℕ → Tests
+  pub dec : List ℕ → A
+  pub rest : List ℕ → List ℕ
+  pub enc : A → List ℕ
+
+-- a field's head, its tag and length, and that its body is there
+unfoldable pub head-tests : ℕ → ℕ → List ℕ → Tests
+head-tests tag size s =
+    unless (head-test s) truncated
+    then unless (due-test tag size s) unexpected
+    then unless (body-test size s) truncated
+
+-- a one-byte tag, a two-byte length, and the body
+abbrev pub field-bytes : ℕ → ℕ → List ℕ → List ℕ
+field-bytes tag size body = tag ∷ size % 256 ∷ size / 256 ∷ body
+
+abbrev pub field : {A : Type 0} → ℕ → Body A → Piece A
+field tag B =
+    record {
+      tests = λ s. head-tests tag (B .size) s then B .tests (take (B .size) (drop 3 s));
+      dec = λ s. B .dec (take (B .size) (drop 3 s));
+      rest = λ s. drop (B .size) (drop 3 s);
+      enc = λ x. field-bytes tag (B .size) (B .enc x);
+    }
+
+abbrev pub many-tests : {A : Type 0} → Piece A → ℕ → List ℕ → Tests
+many-tests P zero s = []
+many-tests P (suc k) s = P .tests s then many-tests P k (P .rest s)
+
+abbrev pub many-dec : {A : Type 0} → Piece A → ℕ → List ℕ → List A
+many-dec P zero s = []
+many-dec P (suc k) s = P .dec s ∷ many-dec P k (P .rest s)
+
+abbrev pub many-rest : {A : Type 0} → Piece A → ℕ → List ℕ → List ℕ
+many-rest P zero s = s
+many-rest P (suc k) s = many-rest P k (P .rest s)
+
+-- the piece k times
+abbrev pub many : {A : Type 0} → ℕ → Piece A → Piece (List A)
+many k P = record { tests = many-tests P k; dec = many-dec P k; rest = many-rest P k; enc = flatMap (P .enc) }
+
+-- one piece, and after it one that goes by the first one's value
+abbrev pub seq : {A B : Type 0} → Piece A → (A → Piece B) → Piece (A × B)
+seq P Q =
+    record {
+      tests = λ s. P .tests s then Q (P .dec s) .tests (P .rest s);
+      dec = λ s. (P .dec s, Q (P .dec s) .dec (P .rest s));
+      rest = λ s. Q (P .dec s) .rest (P .rest s);
+      enc = λ x. P .enc (x .0) ++ Q (x .0) .enc (x .1);
+    }
+
+-- the piece, and nothing after it
+unfoldable pub closed : {A : Type 0} → Piece A → List ℕ → Tests
+closed P s = P .tests s then unless (end-test (P .rest s)) trailing

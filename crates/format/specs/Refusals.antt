@@ -1,0 +1,147 @@
+-- Who causes which number: the refusals of document 01, the test behind each, and the judgement of a model handed over.
+-- A judgement is a list of tests in the order in which they are made; it gives the number of the first that fails, or 0.
+-- Definitions only; RefusalLaws says how they read.
+use Prim.Native.Nat.{ℕ, zero, suc, _+_, _-_, _*_}
+use mathlib.Core.Bool.{Bool, true, false, _&&_}
+use mathlib.Core.List.{List, [], _∷_, _++_}
+use lib.ListN.{length, getD, take}
+use lib.Dec.{leb, ltb, eqb}
+use Rattle.residue.specs.Arithmetic.{is-prime}
+use Rattle.columns.specs.Columns.{width, within}
+use Rattle.format.specs.Lists.{all-pass}
+
+-- ---- causes and their numbers
+
+pub data Cause : Type 0 where
+  -- whoever wrote the file or filled the model
+  truncated : Cause
+  unexpected : Cause
+  not-prime : Cause
+  sizes-beyond : Cause
+  constant-beyond : Cause
+  parameter-beyond : Cause
+  trailing : Cause
+  -- the calling program
+  area-short : Cause
+  row-beyond : Cause
+  -- the modeller with a mixed question
+  not-mixed : Cause
+
+abbrev pub number-of : Cause → ℕ
+number-of truncated = 1
+number-of unexpected = 2
+number-of not-prime = 3
+number-of sizes-beyond = 4
+number-of constant-beyond = 5
+number-of parameter-beyond = 6
+number-of trailing = 7
+number-of area-short = 8
+number-of row-beyond = 9
+number-of not-mixed = 10
+
+-- ---- tests in their order
+
+-- tests, each with the cause where it fails
+abbrev pub Tests : Type 0
+Tests = List (Bool × Cause)
+
+-- one test
+abbrev pub unless : Bool → Cause → Tests
+unless t c = (t, c) ∷ []
+
+-- the first tests, and after them the others
+infixr 4 _then_
+abbrev pub _then_ : Tests → Tests → Tests
+ts then us = ts ++ us
+
+-- the number of the first test that fails, or 0
+unfoldable pub first-refusal : Tests → ℕ
+first-refusal [] = 0
+first-refusal ((true, c) ∷ ts) = first-refusal ts
+first-refusal ((false, c) ∷ ts) = number-of c
+
+-- a result where nothing was refused, and what stands for it where something was
+abbrev pub where-accepted : {A : Type 0} → ℕ → A → A → A
+where-accepted zero x other = x
+where-accepted (suc k) x other = other
+
+-- ---- the limits
+
+abbrev pub largest-prime : ℕ
+largest-prime = 65521
+
+abbrev pub most-columns : ℕ
+most-columns = width
+
+abbrev pub most-rows : ℕ
+most-rows = 64
+
+-- ---- the test of each cause
+
+-- 1: three bytes remain for a field's head, and its length for its body
+unfoldable pub head-test : List ℕ → Bool
+head-test s = leb 3 (length s)
+
+unfoldable pub body-test : ℕ → List ℕ → Bool
+body-test size s = leb size (length s - 3)
+
+-- 2: the tag and the length are those that are due
+unfoldable pub due-test : ℕ → ℕ → List ℕ → Bool
+due-test tag size s = eqb (getD s 0 0) tag && eqb (getD s 1 0 + 256 * getD s 2 0) size
+
+-- 3: p is a prime up to the largest
+unfoldable pub prime-test : ℕ → Bool
+prime-test p = leb p largest-prime && is-prime p
+
+-- 4: n, a and b are within their limits
+unfoldable pub size-test : (n a b : ℕ) → Bool
+size-test n a b = leb 1 n && leb n most-columns && leb a most-rows && leb b most-rows
+
+-- 5: every constant is below p
+unfoldable pub constant-test : ℕ → List ℕ → Bool
+constant-test p cs = all-pass (λ c. ltb c p) cs
+
+-- 6: no parameter row has a parameter at column n or later
+unfoldable pub parameter-test : ℕ → List ℕ → Bool
+parameter-test n ws = all-pass (within n) ws
+
+-- 7: nothing follows
+unfoldable pub end-test : List ℕ → Bool
+end-test s = eqb (length s) 0
+
+-- 8: an area of that length holds k elements
+unfoldable pub area-test : ℕ → ℕ → Bool
+area-test k len = leb k len
+
+-- 9: row i is one of a rows
+unfoldable pub row-test : ℕ → ℕ → Bool
+row-test i a = ltb i a
+
+-- ---- a model handed over without a file: p, n, a, b, and the areas that hold its constants and parameter rows
+
+unfoldable pub model-tests : (p n a b : ℕ) (cs ws : List ℕ) → Tests
+model-tests p n a b cs ws =
+    unless (prime-test p) not-prime
+    then unless (size-test n a b) sizes-beyond
+    then unless (area-test (a * n) (length cs)) area-short
+    then unless (area-test b (length ws)) area-short
+    then unless (constant-test p (take (a * n) cs)) constant-beyond
+    then unless (parameter-test n (take b ws)) parameter-beyond
+
+unfoldable pub refusal : (p n a b : ℕ) (cs ws : List ℕ) → ℕ
+unfolding model-tests
+refusal p n a b cs ws = first-refusal (model-tests p n a b cs ws)
+
+-- ---- the mixed question about it
+
+-- 10: a equals b, and the layered form has no more columns than a model may
+unfoldable pub mixed-test : (n a b : ℕ) → Bool
+mixed-test n a b = eqb a b && leb (a + n) most-columns
+
+unfoldable pub mixed-tests : (p n a b : ℕ) (cs ws : List ℕ) → Tests
+unfolding model-tests
+mixed-tests p n a b cs ws = model-tests p n a b cs ws then unless (mixed-test n a b) not-mixed
+
+unfoldable pub mixed-refusal : (p n a b : ℕ) (cs ws : List ℕ) → ℕ
+unfolding mixed-tests
+mixed-refusal p n a b cs ws = first-refusal (mixed-tests p n a b cs ws)

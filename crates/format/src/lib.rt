@@ -1,0 +1,20 @@
+// Models in files and handed over, judged; a file read field by field. Every public function is total, and refuses by a number.
+mod content;
+mod handed_over;
+mod judge;
+mod reader;
+pub mod refusals;
+mod sets;
+
+pub use content::LARGEST_PRIME;
+pub use content::MOST_COLUMNS;
+pub use content::parameters_within;
+pub use content::two;
+pub use handed_over::judge_model;
+pub use reader::Reader;
+pub use reader::after_field;
+pub use reader::judge_field;
+pub use reader::judge_file;
+pub use reader::judge_rest;
+pub use reader::open_reader;
+pub use sets::put_set;
