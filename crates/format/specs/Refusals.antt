@@ -7,7 +7,8 @@ use mathlib.Core.List.{List, [], _∷_, _++_}
 use lib.ListN.{length, getD, take}
 use lib.Dec.{leb, ltb, eqb}
 use Rattle.residue.specs.Arithmetic.{is-prime}
-use Rattle.columns.specs.Columns.{width, within}
+use Rattle.limits.specs.Limits.{most-columns, most-rows, largest-prime}
+use Rattle.columns.specs.Columns.{within}
 use Rattle.format.specs.Lists.{all-pass}
 
 -- ---- causes and their numbers
@@ -64,17 +65,6 @@ first-refusal ((false, c) ∷ ts) = number-of c
 abbrev pub where-accepted : {A : Type 0} → ℕ → A → A → A
 where-accepted zero x other = x
 where-accepted (suc k) x other = other
-
--- ---- the limits
-
-abbrev pub largest-prime : ℕ
-largest-prime = 65521
-
-abbrev pub most-columns : ℕ
-most-columns = width
-
-abbrev pub most-rows : ℕ
-most-rows = 64
 
 -- ---- the test of each cause
 

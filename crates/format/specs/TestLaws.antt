@@ -15,7 +15,8 @@ use Rattle.columns.specs.Columns.{within}
 use Rattle.counting.specs.Bools.{and-in, and-left, and-right}
 use Rattle.format.specs.Lists.{All}
 use Rattle.format.specs.ListLaws.{all-pass-all, all-at}
-use Rattle.format.specs.Refusals.{largest-prime, most-columns, most-rows, head-test, body-test, due-test, prime-test, size-test, constant-test, parameter-test, end-test, area-test, row-test, model-tests, refusal}
+use Rattle.limits.specs.Limits.{largest-prime, most-columns, most-rows}
+use Rattle.format.specs.Refusals.{head-test, body-test, due-test, prime-test, size-test, constant-test, parameter-test, end-test, area-test, row-test, model-tests, refusal}
 use Rattle.format.specs.RefusalLaws.{acceptance-reads}
 
 leb-reads : (x y : ℕ) → (leb x y ≡ true) ↔ (x ≤ y)

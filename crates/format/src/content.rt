@@ -1,14 +1,11 @@
-// The contents of a model, from a file or handed over: the limits, and a test of each kind of content.
+// The contents of a model, from a file or handed over: a test of each kind.
 ghost use mathlib.Core.Path.{_≡_};
 ghost use Prim.Native.Nat.{_+_, _*_, _<_};
 ghost use Rattle.format.specs.Refusals.{prime-test, size-test, constant-test, parameter-test};
 ghost use Rattle.format.specs.File.Format.{entries};
-
-pub const LARGEST_PRIME: u32 = 65521;
-
-pub const MOST_COLUMNS: usize = 64;
-
-pub const MOST_ROWS: usize = 64;
+use limits::LARGEST_PRIME;
+use limits::MOST_COLUMNS;
+use limits::MOST_ROWS;
 
 // Two bytes as a number, the low one first.
 pub fn two(lo: u8, hi: u8) -> u32

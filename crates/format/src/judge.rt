@@ -2,7 +2,8 @@
 ghost use mathlib.Core.Path.{_≡_};
 ghost use Prim.Native.Nat.{_≤_};
 ghost use lib.ListN.{length};
-ghost use Rattle.format.specs.Refusals.{first-refusal, most-columns, most-rows, due-test, body-test};
+ghost use Rattle.limits.specs.Limits.{most-columns, most-rows};
+ghost use Rattle.format.specs.Refusals.{first-refusal, due-test, body-test};
 ghost use Rattle.format.specs.File.Piece.{head-tests, many, closed};
 ghost use Rattle.format.specs.File.Format.{constant-row, parameter-row, end-field, row-fields, size-fields, judge};
 use crate::content::entries_below;

@@ -6,8 +6,6 @@ mod reader;
 pub mod refusals;
 mod sets;
 
-pub use content::LARGEST_PRIME;
-pub use content::MOST_COLUMNS;
 pub use content::parameters_within;
 pub use content::two;
 pub use handed_over::judge_model;

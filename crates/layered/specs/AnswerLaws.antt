@@ -27,7 +27,8 @@ use Rattle.exchange.specs.SolveLaws.{all-below-iff, fitting-reads, admissible-r
 use Rattle.rank.specs.ListedModel.{listed-model}
 use Rattle.rank.specs.Demand.{demand3-reported}
 use Rattle.format.specs.Lists.{All}
-use Rattle.format.specs.Refusals.{largest-prime, most-columns, most-rows, prime-test, size-test, area-test, constant-test, parameter-test, model-tests, refusal, first-refusal}
+use Rattle.limits.specs.Limits.{largest-prime, most-columns, most-rows}
+use Rattle.format.specs.Refusals.{prime-test, size-test, area-test, constant-test, parameter-test, model-tests, refusal, first-refusal}
 use Rattle.format.specs.RefusalLaws.{acceptance-reads}
 use Rattle.format.specs.TestLaws.{prime-reads, size-reads, constant-reads, area-reads, Accepted, model-accepted, constant-below}
 use Rattle.layered.specs.Answers.{Answered}

@@ -17,7 +17,8 @@ use Rattle.rank.specs.Layered.Model.{Model}
 use Rattle.rank.specs.ListedModel.{listed-model}
 use Rattle.format.specs.Lists.{All, over}
 use Rattle.format.specs.OverLaws.{over-length}
-use Rattle.format.specs.Refusals.{where-accepted, most-columns, most-rows, model-tests, refusal}
+use Rattle.limits.specs.Limits.{most-columns, most-rows}
+use Rattle.format.specs.Refusals.{where-accepted, model-tests, refusal}
 use Rattle.format.specs.RefusalLaws.{acceptance-reads, then-refused, zero-then, zero-unless}
 use Rattle.format.specs.TestLaws.{prime-reads, size-reads, constant-reads, parameter-reads, area-reads}
 use Rattle.format.specs.File.Piece.{closed}

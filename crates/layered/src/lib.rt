@@ -4,9 +4,9 @@ ghost use lib.ListN.{take};
 ghost use Rattle.format.specs.Refusals.{parameter-test};
 ghost use Rattle.layered.specs.Answers.{verdict-number, Refused, LayeredAnswer};
 ghost use Rattle.layered.specs.AnswerLaws.{beforehand};
-use format::LARGEST_PRIME;
 use format::judge_model;
 use format::parameters_within;
+use limits::LARGEST_PRIME;
 
 // The refusal or 0; the verdict, 1 "determined" or 0 "open"; the rank; the placed columns, those of them on the constant side, and
 // the short set, as words; and the column of each parameter row, 255 for none.

@@ -10,7 +10,8 @@ use lib.ListN.{length, getD, take, drop}
 use lib.Seq.{drop-drop, getD-drop}
 use borrow.Author.Tests.{lt-ltb, le-ltb}
 use Rattle.columns.specs.Words.Bytes.{AreBytes}
-use Rattle.format.specs.Refusals.{most-columns, most-rows, row-test}
+use Rattle.limits.specs.Limits.{most-columns, most-rows}
+use Rattle.format.specs.Refusals.{row-test}
 use Rattle.format.specs.RefusalLaws.{first-fails, first-passes, first-none, then-refused, then-passed, then-zero, unless-zero, where-refused, accepted-value}
 use Rattle.format.specs.TestLaws.{row-reads}
 use Rattle.format.specs.File.Piece.{Body, field, many-dec, closed}

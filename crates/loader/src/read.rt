@@ -3,7 +3,7 @@ ghost use mathlib.Core.Path.{_≡_};
 ghost use Prim.Native.Nat.{_+_, _*_, _≤_};
 ghost use lib.ListN.{length};
 ghost use Rattle.format.specs.Lists.{over};
-ghost use Rattle.format.specs.Refusals.{most-columns};
+ghost use Rattle.limits.specs.Limits.{most-columns};
 ghost use Rattle.format.specs.File.Format.{entries, ReadCall};
 ghost use Rattle.format.specs.File.Steps.{constants-of, parameters-of};
 use crate::header::Sizes;

@@ -34,7 +34,8 @@ use Rattle.mixed_models.specs.Mixed.{Mixed, unit, mixed-sum, mixed-rank, mixed-
 use Rattle.mixed_models.specs.MixedTheorem.{form-rank, shown-reach}
 use Rattle.mixed_models.specs.MixedTheorem.Form.{served-iff, shown-I-iff}
 use Rattle.mixed.specs.MixedForm.{form-entry, form-row, serves}
-use Rattle.format.specs.Refusals.{unless, not-mixed, most-columns, mixed-test, mixed-tests, mixed-refusal, model-tests, refusal, first-refusal}
+use Rattle.limits.specs.Limits.{most-columns}
+use Rattle.format.specs.Refusals.{unless, not-mixed, mixed-test, mixed-tests, mixed-refusal, model-tests, refusal, first-refusal}
 use Rattle.format.specs.RefusalLaws.{first-fails, then-refused, then-passed, then-zero, zero-then, unless-zero, zero-unless}
 use Rattle.format.specs.TestLaws.{Accepted, model-accepted, constant-below}
 use Rattle.mixed.specs.MixedAnswers.{MixedAnswered}

@@ -9,10 +9,10 @@ ghost use Rattle.columns.specs.Columns.{members};
 ghost use Rattle.format.specs.Refusals.{mixed-refusal};
 ghost use Rattle.mixed.specs.MixedForm.{form-entry, form-row, serves};
 ghost use Rattle.mixed.specs.MixedAnswers.{MixedRefused, MixedAnswer};
-use format::MOST_COLUMNS;
 use format::judge_model;
 use format::refusals::NOT_MIXED;
 use layered::verdict_of;
+use limits::MOST_COLUMNS;
 
 // The refusal or 0; the verdict, 1 where the rank equals n; the rank; rows I and columns J that reach it; and the short set of the
 // layered form.

@@ -7,7 +7,7 @@ use lib.ListN.{length}
 use Rattle.columns.specs.Words.Bytes.{AreBytes}
 use Rattle.rank.specs.Layered.Model.{Model}
 use Rattle.format.specs.Lists.{over}
-use Rattle.format.specs.Refusals.{most-columns, most-rows}
+use Rattle.limits.specs.Limits.{most-columns, most-rows}
 use Rattle.format.specs.File.Piece.{closed}
 use Rattle.format.specs.File.Format.{fields, judge, read-refusal, ReadCall}
 use Rattle.layered.specs.Answers.{Answered, LayeredAnswer}

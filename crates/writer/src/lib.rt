@@ -5,7 +5,7 @@ ghost use Prim.Native.Nat.{_+_, _*_, _/_, _%_, _≤_};
 ghost use lib.ListN.{length};
 ghost use Rattle.columns.specs.Bytes.{bytes-of};
 ghost use Rattle.format.specs.Lists.{over, rows-of};
-ghost use Rattle.format.specs.Refusals.{most-columns, most-rows};
+ghost use Rattle.limits.specs.Limits.{most-columns, most-rows};
 ghost use Rattle.format.specs.File.Piece.{field-bytes};
 ghost use Rattle.format.specs.File.Format.{entry-bytes, encode, handed-over, file-length, WriteCall};
 ghost use Rattle.format.specs.File.Steps.{constant-bytes, parameter-bytes};

@@ -12,7 +12,8 @@ use Rattle.columns.specs.Bytes.{number, bytes-of}
 use Rattle.columns.specs.Columns.{width, within}
 use Rattle.columns.specs.Words.Bytes.{AreBytes, number-below}
 use Rattle.format.specs.Lists.{All}
-use Rattle.format.specs.Refusals.{largest-prime, most-columns, most-rows, first-refusal}
+use Rattle.limits.specs.Limits.{largest-prime, most-columns, most-rows}
+use Rattle.format.specs.Refusals.{first-refusal}
 use Rattle.format.specs.RefusalLaws.{unless-zero, zero-unless}
 use Rattle.format.specs.TestLaws.{prime-reads, size-reads, constant-reads}
 use Rattle.format.specs.File.Format.{entries, entry-bytes, prime-body, sizes-body, constant-body, parameter-body, end-body}

@@ -9,7 +9,8 @@ use Rattle.residue.specs.Arithmetic.{Prime}
 use Rattle.columns.specs.Bytes.{number, bytes-of}
 use Rattle.columns.specs.Columns.{width, within}
 use Rattle.format.specs.Lists.{All, rows-of, over}
-use Rattle.format.specs.Refusals.{unless, _then_, first-refusal, where-accepted, not-prime, sizes-beyond, constant-beyond, parameter-beyond, area-short, row-beyond, largest-prime, most-columns, most-rows, prime-test, size-test, constant-test, area-test, row-test, model-tests}
+use Rattle.limits.specs.Limits.{largest-prime, most-columns, most-rows}
+use Rattle.format.specs.Refusals.{unless, _then_, first-refusal, where-accepted, not-prime, sizes-beyond, constant-beyond, parameter-beyond, area-short, row-beyond, prime-test, size-test, constant-test, area-test, row-test, model-tests}
 use Rattle.format.specs.File.Piece.{Body, Piece, field, many, seq, closed}
 
 -- a model as a file holds it: a parameter row is the number that its eight bytes show

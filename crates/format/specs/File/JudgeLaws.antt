@@ -10,7 +10,8 @@ use lib.ListN.{length, take, drop, length-drop}
 use lib.Seq.{drop-drop}
 use borrow.Author.Tests.{le-leb, lt-leb}
 use Rattle.format.specs.ListLaws.{tail-part}
-use Rattle.format.specs.Refusals.{most-columns, most-rows, first-refusal, head-test, due-test, body-test}
+use Rattle.limits.specs.Limits.{most-columns, most-rows}
+use Rattle.format.specs.Refusals.{first-refusal, head-test, due-test, body-test}
 use Rattle.format.specs.RefusalLaws.{first-fails, first-passes, first-none, then-refused, then-passed, then-zero}
 use Rattle.format.specs.File.Piece.{Body, Piece, head-tests, field, many-tests, many-rest, seq, closed}
 use Rattle.format.specs.File.PieceLaws.{head-good}

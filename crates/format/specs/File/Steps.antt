@@ -4,7 +4,7 @@ use mathlib.Core.Path.{_≡_}
 use mathlib.Core.List.{List, [], _∷_, _++_}
 use lib.ListN.{length, take, drop}
 use Rattle.columns.specs.Bytes.{number, bytes-of}
-use Rattle.format.specs.Refusals.{most-columns, most-rows, largest-prime}
+use Rattle.limits.specs.Limits.{most-columns, most-rows, largest-prime}
 use Rattle.format.specs.File.Piece.{field-bytes}
 use Rattle.format.specs.File.Format.{entries, entry-bytes, decode, file-length}
 

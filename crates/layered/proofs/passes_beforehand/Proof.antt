@@ -1,7 +1,7 @@
 -- `layered::passes_beforehand` meets its contract. Assumes nothing.
 use mathlib.Core.Path.{_≡_, refl, _∙_}
 use borrow.Author.Tests.{le-leb, lt-leb}
-use Rattle.format.specs.Refusals.{largest-prime}
+use Rattle.limits.specs.Limits.{largest-prime}
 use Rattle.layered.specs.AnswerLaws.{beforehand}
 use borrow.Author.Needs.{needs}
 use Rattle.layered.proofs.passes_beforehand.Statement.{statement}

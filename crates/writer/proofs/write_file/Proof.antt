@@ -6,7 +6,7 @@ use borrow.Author.Needs.{needs}
 use Rattle.writer.specs.HandedLaws.{writing-refused, writing-short, writing-done}
 use Rattle.format.specs.File.JudgeLaws.{rows-most}
 use Rattle.format.specs.Refusals.{refusal}
-use Rattle.format.specs.Refusals.{most-columns, most-rows}
+use Rattle.limits.specs.Limits.{most-columns, most-rows}
 use Rattle.format.specs.TestLaws.{model-accepted}
 use Rattle.writer.proofs.write_file.Statement.{statement}
 use Rattle.writer.proofs.write_file.Tie as tie

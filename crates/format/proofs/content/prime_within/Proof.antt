@@ -2,7 +2,8 @@
 use native.Mathlib.Omega.{arith}
 use borrow.Author.Needs.{needs}
 use borrow.Author.Tests.{le-leb, lt-leb}
-use Rattle.format.specs.Refusals.{prime-test, largest-prime}
+use Rattle.limits.specs.Limits.{largest-prime}
+use Rattle.format.specs.Refusals.{prime-test}
 use Rattle.format.proofs.content.prime_within.Statement.{statement}
 use Rattle.format.proofs.content.prime_within.Tie as tie
 

@@ -9,7 +9,7 @@ use borrow.Author.Needs.{needs}
 use borrow.Author.Tests.{le-leb, lt-leb, not-true, not-false}
 use Rattle.format.specs.RefusalLaws.{first-fails, first-passes, first-none}
 use Rattle.format.specs.Refusals.{Tests, unless, _then_, not-prime, sizes-beyond, area-short, first-refusal, prime-test, size-test, area-test, model-tests, refusal}
-use Rattle.format.specs.Refusals.{most-columns, most-rows}
+use Rattle.limits.specs.Limits.{most-columns, most-rows}
 use Rattle.format.specs.TestLaws.{size-reads}
 use Rattle.format.proofs.handed_over.judge_model.Statement.{statement}
 use Rattle.format.proofs.handed_over.judge_model.Tie as tie

@@ -8,7 +8,7 @@ use borrow.Author.Needs.{needs}
 use Rattle.columns.specs.Columns.{within}
 use Rattle.format.specs.File.Format.{row-start, file-length}
 use Rattle.loader.specs.LookupLaws.{lookup-accepted, lookup-none, lookup-place, lookup-part, row-within}
-use Rattle.format.specs.Refusals.{most-columns, most-rows}
+use Rattle.limits.specs.Limits.{most-columns, most-rows}
 use Rattle.loader.proofs.lookup.row.Statement.{statement}
 use Rattle.loader.proofs.lookup.row.Tie as tie
 

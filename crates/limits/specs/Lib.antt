@@ -1,0 +1,2 @@
+-- The limits of models, files and answers.
+pub mod Limits

@@ -1,0 +1,26 @@
+-- The limits of document 01, each said here once: contracts and proofs cite these names, the code its constants of the same names. Definitions only.
+use Prim.Native.Nat.{ℕ, _+_, _*_}
+
+-- n is 1 to so many columns
+abbrev pub most-columns : ℕ
+most-columns = 64
+
+-- a and b are 0 to so many rows each
+abbrev pub most-rows : ℕ
+most-rows = 64
+
+-- the largest prime that two bytes hold
+abbrev pub largest-prime : ℕ
+largest-prime = 65521
+
+-- how many bytes show a column set in an answer
+abbrev pub set-bytes : ℕ
+set-bytes = 8
+
+-- what a parameter row shows that has no column
+abbrev pub no-column : ℕ
+no-column = 255
+
+-- how many bytes the longest file has: the fields of prime, sizes and end, and the most rows of both kinds
+abbrev pub longest-file : ℕ
+longest-file = 14 + most-rows * (3 + 2 * most-columns) + most-rows * (3 + set-bytes)
