@@ -1,0 +1,104 @@
+-- What is proved over the promises of the calls, one theorem after another. Assumes nothing.
+use Prim.Native.Nat.{ℕ, _*_, _^_, _≤_, _<_}
+use mathlib.Core.Path.{_≡_, sym}
+use mathlib.Core.List.{List}
+use native.Mathlib.Omega.{arith}
+use lib.ListN.{length, getD, take}
+use lib.Seq.{take-take}
+use Rattle.columns.specs.Columns.{width}
+use Rattle.columns.specs.Words.Bytes.{AreBytes}
+use Rattle.mixed_models.specs.Starred.Models.{S2}
+use Rattle.format.specs.Lists.{over}
+use Rattle.limits.specs.Limits.{most-columns, most-rows}
+use Rattle.format.specs.Refusals.{refusal, mixed-refusal}
+use Rattle.format.specs.File.Format.{judge, file-length, ReadCall, WriteCall}
+use Rattle.layered.specs.Answers.{LayeredAnswer}
+use Rattle.layered.specs.FileModel.{file-model}
+use Rattle.mixed.specs.MixedAnswers.{MixedAnswer}
+use Rattle.solvability.specs.Host.{HostAnswer}
+use Rattle.report.specs.FileReport.{FileReport}
+use Rattle.promises.specs.TripLaws.{read-then-written, written-then-read}
+use Rattle.promises.specs.CutLaws.{judge-cut}
+use Rattle.promises.specs.CutCallLaws.{reading-cut, host-cut, report-cut}
+use Rattle.promises.specs.AnswerLaws.{refusal-same, mixed-refusal-same, layered-same, mixed-same}
+use Rattle.promises.specs.DocumentFile.{document-file, document-accepted, document-model}
+
+-- ---- there and back
+
+-- A file that was read is written again as it was, whatever the areas held before.
+pub read-then-write : (s cs ws : List ℕ) → AreBytes s → (p n a b : ℕ) (cs′ ws′ : List ℕ) → ReadCall s cs ws 0 p n a b cs′ ws′
+    → (out : List ℕ) → length s ≤ length out → (the-refusal len : ℕ) (out′ : List ℕ) → WriteCall p n a b cs′ ws′ out the-refusal len out′
+    → (the-refusal ≡ 0) × (len ≡ length s) × (out′ ≡ over s out)
+read-then-write = read-then-written
+
+-- A model that was written is read again as it was, into any areas that hold it; its parameter rows are 64-bit words.
+pub write-then-read : (p n a b : ℕ) (cs ws : List ℕ) → ((i : ℕ) → getD ws i 0 < 2 ^ width)
+    → (out : List ℕ) (len : ℕ) (out′ : List ℕ) → WriteCall p n a b cs ws out 0 len out′
+    → (cs₂ ws₂ : List ℕ) → a * n ≤ length cs₂ → b ≤ length ws₂
+    → (k p′ n′ a′ b′ : ℕ) (cs₂′ ws₂′ : List ℕ) → ReadCall (take len out′) cs₂ ws₂ k p′ n′ a′ b′ cs₂′ ws₂′
+    → (k ≡ 0) × (p′ ≡ p) × (n′ ≡ n) × (a′ ≡ a) × (b′ ≡ b) × (take (a * n) cs₂′ ≡ take (a * n) cs) × (take b ws₂′ ≡ take b ws)
+write-then-read = written-then-read
+
+-- ---- input cut off
+
+-- A file cut off anywhere behind the longest file is judged as the whole.
+pub cut-input : (k : ℕ) (s : List ℕ) → file-length most-columns most-rows most-rows < k → judge (take k s) ≡ judge s
+cut-input = judge-cut
+
+-- The longest file has 9102 bytes, so 9103 are enough.
+pub cut-input-at-9103 : (s : List ℕ) → judge (take 9103 s) ≡ judge s
+cut-input-at-9103 s = judge-cut 9103 s (omega arith)
+
+-- What is promised of the part is promised of the whole: of the reading into areas,
+pub cut-input-read : (k : ℕ) (s : List ℕ) → AreBytes s → file-length most-columns most-rows most-rows < k
+    → (cs ws : List ℕ) (the-refusal p n a b : ℕ) (cs′ ws′ : List ℕ)
+    → ReadCall (take k s) cs ws the-refusal p n a b cs′ ws′ → ReadCall s cs ws the-refusal p n a b cs′ ws′
+cut-input-read = reading-cut
+
+-- of the C call,
+pub cut-input-host : (k : ℕ) (s : List ℕ) → AreBytes s → file-length most-columns most-rows most-rows < k
+    → (area : List ℕ) (number : ℕ) (area′ : List ℕ) → HostAnswer (take k s) area number area′ → HostAnswer s area number area′
+cut-input-host = host-cut
+
+-- and of the report that the program writes.
+pub cut-input-report : (k : ℕ) (s : List ℕ) → AreBytes s → file-length most-columns most-rows most-rows < k
+    → (out : List ℕ) (len : ℕ) (out′ : List ℕ) → FileReport (take k s) out len out′ → FileReport s out len out′
+cut-input-report = report-cut
+
+-- ---- areas longer than the model
+
+module _ (p n a b : ℕ) (cs ws : List ℕ) where
+  cut-cs : take (a * n) cs ≡ take (a * n) (take (a * n) cs)
+  cut-cs = sym (take-take (a * n) (a * n) cs (omega arith))
+
+  cut-ws : take b ws ≡ take b (take b ws)
+  cut-ws = sym (take-take b b ws (omega arith))
+
+  -- What stands in the areas behind the model does not change the refusal,
+  pub surplus-not-tested : refusal p n a b cs ws ≡ refusal p n a b (take (a * n) cs) (take b ws)
+  surplus-not-tested = refusal-same p n a b cs (take (a * n) cs) ws (take b ws) cut-cs cut-ws
+
+  pub surplus-not-tested-mixed : mixed-refusal p n a b cs ws ≡ mixed-refusal p n a b (take (a * n) cs) (take b ws)
+  surplus-not-tested-mixed = mixed-refusal-same p n a b cs (take (a * n) cs) ws (take b ws) cut-cs cut-ws
+
+  -- nor the layered answer in the parts that are fixed,
+  pub surplus-not-read : {the-refusal the-verdict the-rank the-placed the-side the-short : ℕ} {rows : List ℕ}
+      → {refusal′ verdict′ rank′ placed′ side′ short′ : ℕ} {rows′ : List ℕ}
+      → LayeredAnswer p n a b cs ws the-refusal the-verdict the-rank the-placed the-side the-short rows
+      → LayeredAnswer p n a b (take (a * n) cs) (take b ws) refusal′ verdict′ rank′ placed′ side′ short′ rows′
+      → (the-refusal ≡ refusal′) × (the-verdict ≡ verdict′) × (the-rank ≡ rank′) × (the-placed ≡ placed′) × (the-short ≡ short′)
+  surplus-not-read = layered-same p n a b cs (take (a * n) cs) ws (take b ws) cut-cs cut-ws
+
+  -- nor the mixed one.
+  pub surplus-not-read-mixed : {the-refusal the-verdict the-rank the-rows the-columns the-short : ℕ}
+      → {refusal′ verdict′ rank′ rows′ columns′ short′ : ℕ}
+      → MixedAnswer p n a b cs ws the-refusal the-verdict the-rank the-rows the-columns the-short
+      → MixedAnswer p n a b (take (a * n) cs) (take b ws) refusal′ verdict′ rank′ rows′ columns′ short′
+      → (the-refusal ≡ refusal′) × (the-verdict ≡ verdict′) × (the-rank ≡ rank′) × (the-short ≡ short′)
+  surplus-not-read-mixed = mixed-same p n a b cs (take (a * n) cs) ws (take b ws) cut-cs cut-ws
+
+-- ---- document 01's file
+
+-- It is accepted, and its model is S2 of the starred table.
+pub S2-is-the-file : (judge document-file ≡ 0) × (file-model document-file ≡ S2)
+S2-is-the-file = (document-accepted, document-model)

@@ -1,0 +1,98 @@
+-- The six listed programs contradict the promises themselves, whatever their proof looks like.
+use Prim.Native.Nat.{ℕ}
+use mathlib.Core.Path.{_≡_, refl, sym, ap, _∙_}
+use mathlib.Core.Logic.{_≢_}
+use mathlib.Core.Bool.{Bool, true, false, cond, true≢false, false≢true, decide}
+use mathlib.Core.List.{List, [], _∷_, flatten, flatMap}
+use native.Mathlib.Omega.{arith}
+use native.Mathlib.Decide.{ℕ-discrete, decLe, decLt}
+use lib.ListN.{getD, replicate}
+use Rattle.residue.specs.Arithmetic.{is-prime, undivided}
+use Rattle.residue.specs.Residues.{residues, res, mk, plus, times}
+use Rattle.counting.specs.Bools.{true?}
+use Rattle.counting.specs.Sets.{indicator, #, all, any, choose, set, touching}
+use Rattle.counting.specs.Choices.{greatest, largest, some, every, membership, largest-part, every-part}
+use Rattle.columns.specs.Columns.{members, within, word-of}
+use Rattle.rank.specs.Modulus.{modulus, modulus-at}
+use Rattle.rank.specs.Linear.Independence.{Σ, dot}
+use Rattle.rank.specs.Layered.Model.{same-row, has-parameter, legal}
+use Rattle.rank.specs.Layered.Rank.{seat, constant-rank, sum, last-seat, largest-assignment, some-assignment, row-outside, matching, rank, placeable, taken, placed, short, verdict}
+use Rattle.rank.specs.Independent.{is-zero, in-kernel, independent}
+use Rattle.rank.specs.ListedModel.{listed-model}
+use Rattle.layered.specs.Answers.{LayeredAnswer}
+use Rattle.format.specs.Lists.{all-pass, over}
+use Rattle.format.specs.Refusals.{first-refusal, head-test, body-test, due-test, prime-test, size-test, constant-test, parameter-test, area-test, end-test, row-test, model-tests, refusal}
+use Rattle.format.specs.File.Piece.{head-tests, closed}
+use Rattle.format.specs.File.Format.{entries, entry-bytes, constant-row, parameter-row, end-field, row-fields, size-fields, fields, judge, decode, read-refusal, model-read, ReadCall}
+
+unfoldable run : ℕ
+unfolding residues res mk plus times Σ dot members word-of indicator # all any choose set touching greatest largest some every membership largest-part every-part same-row has-parameter legal seat constant-rank sum last-seat largest-assignment some-assignment row-outside matching rank placeable taken placed short verdict is-zero in-kernel independent decide ℕ-discrete decLe decLt modulus modulus-at true? is-prime undivided within all-pass first-refusal prime-test size-test constant-test parameter-test area-test model-tests refusal
+run = 0
+
+unfoldable file-run : ℕ
+unfolding flatMap flatten is-prime undivided all members within all-pass over first-refusal head-test body-test due-test prime-test size-test constant-test area-test end-test head-tests closed entries constant-row parameter-row end-field row-fields size-fields fields judge decode read-refusal model-read
+file-run = 0
+
+-- p 2, n 2, a 1, constants 0 1: column 0 is blocked, column 1 is not
+blocked-accepted : refusal 2 2 1 0 (0 ∷ 1 ∷ []) [] ≡ 0
+unfolding run
+blocked-accepted = refl
+
+blocked-rank : rank (listed-model 2 2 1 0 (0 ∷ 1 ∷ []) []) ≡ 1
+unfolding run
+blocked-rank = refl
+
+-- 1: it stops at its first blocked column, so its rank is 0
+stops-at-blocked : (k v pl sd sh : ℕ) (rows : List ℕ) → LayeredAnswer 2 2 1 0 (0 ∷ 1 ∷ []) [] k v 0 pl sd sh rows → ⊥
+stops-at-blocked k v pl sd sh rows x = let e = x .if-accepted blocked-accepted .solved .is-rank in let f = blocked-rank in omega arith
+
+-- p 2, n 2, a 1, constants 1 1: column 1 cannot be placed beside column 0
+equal-accepted : refusal 2 2 1 0 (1 ∷ 1 ∷ []) [] ≡ 0
+unfolding run
+equal-accepted = refl
+
+equal-placed : placed (listed-model 2 2 1 0 (1 ∷ 1 ∷ []) []) 1 ≡ false
+unfolding run
+equal-placed = refl
+
+equal-rank : rank (listed-model 2 2 1 0 (1 ∷ 1 ∷ []) []) ≡ 1
+unfolding run
+equal-rank = refl
+
+three-has-one : members 3 1 ≡ true
+unfolding members
+three-has-one = refl
+
+-- 2: it lists column 1 as placed untested
+takes-untested : (k v r sd sh : ℕ) (rows : List ℕ) → LayeredAnswer 2 2 1 0 (1 ∷ 1 ∷ []) [] k v r 3 sd sh rows → ⊥
+takes-untested k v r sd sh rows x = true≢false (sym three-has-one ∙ x .if-accepted equal-accepted .solved .is-placed 1 ∙ equal-placed)
+
+-- 3: it makes up the rank 2
+made-up-rank : (k v pl sd sh : ℕ) (rows : List ℕ) → LayeredAnswer 2 2 1 0 (1 ∷ 1 ∷ []) [] k v 2 pl sd sh rows → ⊥
+made-up-rank k v pl sd sh rows x = let e = x .if-accepted equal-accepted .solved .is-rank in let f = equal-rank in omega arith
+
+-- 4: it says open, rank 0
+open-rank-0 : (k pl sd sh : ℕ) (rows : List ℕ) → LayeredAnswer 2 2 1 0 (1 ∷ 1 ∷ []) [] k 0 0 pl sd sh rows → ⊥
+open-rank-0 k pl sd sh rows x = let e = x .if-accepted equal-accepted .solved .is-rank in let f = equal-rank in omega arith
+
+-- 6: it refuses
+refuses : (k v r pl sd sh : ℕ) (rows : List ℕ) → LayeredAnswer 2 2 1 0 (1 ∷ 1 ∷ []) [] k v r pl sd sh rows → k ≢ 0 → ⊥
+refuses k v r pl sd sh rows x h = h (x .is-refusal ∙ equal-accepted)
+
+-- the file of document 01
+bytes : List ℕ
+bytes =
+    0x01 ∷ 0x02 ∷ 0x00 ∷ 0xFD ∷ 0x03 ∷ 0x02 ∷ 0x03 ∷ 0x00 ∷ 0x02 ∷ 0x01 ∷ 0x01 ∷ 0x03 ∷ 0x04 ∷ 0x00 ∷ 0x01 ∷ 0x00 ∷ 0x00 ∷ 0x00 ∷ 0x04 ∷ 0x08 ∷ 0x00 ∷ 0x02 ∷ 0x00 ∷ 0x00
+    ∷ 0x00 ∷ 0x00 ∷ 0x00 ∷ 0x00 ∷ 0x00 ∷ 0x05 ∷ 0x00 ∷ 0x00 ∷ []
+
+stored : over (flatten (model-read bytes (7 ∷ 7 ∷ 7 ∷ []) (9 ∷ []) .constants)) (7 ∷ 7 ∷ 7 ∷ []) ≡ 1 ∷ 0 ∷ 7 ∷ []
+unfolding file-run bytes
+stored = refl
+
+-- 5: it reads and stores nothing
+stores-nothing : (k p n a b : ℕ) (ws′ : List ℕ) → ReadCall bytes (7 ∷ 7 ∷ 7 ∷ []) (9 ∷ []) k p n a b (7 ∷ 7 ∷ 7 ∷ []) ws′ → ⊥
+stores-nothing k p n a b ws′ x = let e : _≡_ {A = ℕ} 7 1 = ap (λ (l : List ℕ). getD l 0 0) (x .constants-are ∙ stored) in omega arith
+
+-- and it writes past a × n
+writes-surplus : (k p n a b : ℕ) (ws′ : List ℕ) → ReadCall bytes (7 ∷ 7 ∷ 7 ∷ []) (9 ∷ []) k p n a b (1 ∷ 0 ∷ 0 ∷ []) ws′ → ⊥
+writes-surplus k p n a b ws′ x = let e : _≡_ {A = ℕ} 0 7 = ap (λ (l : List ℕ). getD l 2 0) (x .constants-are ∙ stored) in omega arith
