@@ -1,9 +1,9 @@
 -- The refusal and the answers of a model depend on the first a × n constants and the first b parameter rows alone. Assumes nothing.
 use Prim.Native.Nat.{ℕ, suc, _+_, _*_, _≤_, _<_}
-use mathlib.Core.Path.{_≡_, sym, ap, _∙_, fun-ext}
+use mathlib.Core.Path.{_≡_, sym, ap, ap₂, _∙_, fun-ext}
 use mathlib.Core.Logic.{by-cases}
 use mathlib.Core.Bool.{true, decide}
-use mathlib.Core.List.{List}
+use mathlib.Core.List.{List, []}
 use native.Mathlib.Omega.{arith}
 use native.Mathlib.Decide.{ℕ-discrete}
 use native.Mathlib.Nat.{suc-mul, mul-le-mul-right}
@@ -22,13 +22,15 @@ use Rattle.rank.specs.ListedModel.{listed-model}
 use Rattle.mixed_models.specs.Mixed.{Mixed, unit, mixed-rank, mixed-verdict, form-constants, form-parameters, layered-form, mixed}
 use Rattle.mixed_models.specs.MixedTheorem.{form-rank}
 use Rattle.limits.specs.Limits.{most-columns}
-use Rattle.format.specs.Refusals.{Tests, unless, _then_, first-refusal, not-mixed, area-test, model-tests, refusal, mixed-test, mixed-tests}
-use Rattle.format.specs.Refusals.{mixed-refusal}
+use Rattle.format.specs.Lists.{rows-of, over}
+use Rattle.format.specs.Refusals.{Tests, unless, _then_, first-refusal, where-accepted, area-short, not-mixed, area-test, model-tests, refusal, mixed-test, mixed-tests, mixed-refusal}
+use Rattle.format.specs.File.Format.{FileModel, encode, file-length, handed-over, write-refusal, bytes-written, WriteCall}
 use Rattle.format.specs.RefusalLaws.{then-zero, unless-zero}
 use Rattle.format.specs.TestLaws.{area-reads}
 use Rattle.layered.specs.Answers.{LayeredAnswer}
 use Rattle.mixed.specs.MixedAnswers.{MixedAnswer}
 use Rattle.promises.specs.CutLaws.{front-least}
+use Rattle.promises.specs.RowLaws.{rows-of-take}
 use Rattle.promises.specs.SurplusLaws.{Agree, rank-same, verdict-same, placed-same, short-same}
 
 -- ---- two lists with the same front
@@ -60,6 +62,29 @@ module _ (p n a b : ℕ) (cs ds ws vs : List ℕ) (ec : take (a * n) cs ≡ take
   pub mixed-refusal-same : mixed-refusal p n a b cs ws ≡ mixed-refusal p n a b ds vs
   unfolding mixed-refusal mixed-tests
   mixed-refusal-same = ap (λ (ts : Tests). first-refusal (ts then unless (mixed-test n a b) not-mixed)) tests-same
+
+  -- ---- the file written
+
+  handed-same : handed-over p n a b cs ws ≡ handed-over p n a b ds vs
+  unfolding handed-over
+  handed-same =
+      ap₂ (λ (rs : List (List ℕ)) (us : List ℕ). record { p = p; n = n; a = a; b = b; constants = rs; parameters = us })
+      (sym (rows-of-take n a cs) ∙ ap (rows-of n a) ec ∙ rows-of-take n a ds) ew
+
+  write-refusal-same : (out : List ℕ) → write-refusal p n a b cs ws out ≡ write-refusal p n a b ds vs out
+  unfolding write-refusal
+  write-refusal-same out = ap (λ (ts : Tests). first-refusal (ts then unless (area-test (file-length n a b) (length out)) area-short)) tests-same
+
+  bytes-same : (out : List ℕ) → bytes-written p n a b cs ws out ≡ bytes-written p n a b ds vs out
+  unfolding bytes-written
+  bytes-same out = ap₂ (λ (k : ℕ) (m : FileModel). where-accepted k (encode m) []) (write-refusal-same out) handed-same
+
+  pub write-same : {out out′ : List ℕ} {k len : ℕ} → WriteCall p n a b cs ws out k len out′ → WriteCall p n a b ds vs out k len out′
+  write-same {out} h = record {
+    refusal-is = h .refusal-is ∙ write-refusal-same out;
+    length-is = h .length-is ∙ ap length (bytes-same out);
+    bytes-are = h .bytes-are ∙ ap (λ (bs : List ℕ). over bs out) (bytes-same out);
+  }
 
   -- ---- the layered answer
 

@@ -3,9 +3,9 @@ use Prim.Native.Nat.{ℕ, zero, suc, _+_, _*_}
 use mathlib.Core.Path.{_≡_, refl, sym, ap, ap₂, _∙_}
 use mathlib.Core.List.{List, [], _∷_, _++_, flatten, append-assoc}
 use native.Mathlib.Omega.{arith}
-use native.Mathlib.Nat.{suc-mul, zero-mul}
+use native.Mathlib.Nat.{suc-mul, zero-mul, zero-add, suc-add}
 use lib.ListN.{length, take, drop, length-append}
-use lib.Seq.{take-at, drop-at, take-add}
+use lib.Seq.{take-at, drop-at, take-add, take-take, take-nil}
 use Rattle.format.specs.Lists.{All, rows-of, over}
 
 -- the front of an area is what was written over it
@@ -57,3 +57,17 @@ flat-of-rows n zero xs = ap (λ (j : ℕ). take j xs) (sym (zero-mul n))
 flat-of-rows n (suc k) xs =
     let m : n + k * n ≡ suc k * n = omega (arith, suc-mul k n) in
     ap (λ (t : List ℕ). take n xs ++ t) (flat-of-rows n k (drop n xs)) ∙ sym (take-add n (k * n) xs) ∙ ap (λ (j : ℕ). take j xs) m
+
+drop-take-add : (n m : ℕ) (xs : List ℕ) → drop n (take (n + m) xs) ≡ take m (drop n xs)
+drop-take-add zero m xs = ap (λ (k : ℕ). take k xs) (zero-add m)
+drop-take-add (suc n) m [] = ap (drop (suc n)) (take-nil (suc n + m)) ∙ sym (take-nil m)
+drop-take-add (suc n) m (x ∷ xs) = ap (λ (k : ℕ). drop (suc n) (take k (x ∷ xs))) (suc-add n m) ∙ drop-take-add n m xs
+
+-- rows are cut out of the front alone
+pub rows-of-take : (n k : ℕ) (xs : List ℕ) → rows-of n k (take (k * n) xs) ≡ rows-of n k xs
+unfolding rows-of
+rows-of-take n zero xs = refl
+rows-of-take n (suc k) xs =
+    let m : suc k * n ≡ n + k * n = omega (arith, suc-mul k n) in
+    ap₂ (λ (r : List ℕ) (rs : List (List ℕ)). r ∷ rs) (take-take n (suc k * n) xs (omega arith))
+    (ap (λ (j : ℕ). rows-of n k (drop n (take j xs))) m ∙ ap (rows-of n k) (drop-take-add n (k * n) xs) ∙ rows-of-take n k (drop n xs))

@@ -20,7 +20,7 @@ use Rattle.report.specs.FileReport.{FileReport}
 use Rattle.promises.specs.TripLaws.{read-then-written, written-then-read}
 use Rattle.promises.specs.CutLaws.{judge-cut}
 use Rattle.promises.specs.CutCallLaws.{reading-cut, host-cut, report-cut}
-use Rattle.promises.specs.AnswerLaws.{refusal-same, mixed-refusal-same, layered-same, mixed-same}
+use Rattle.promises.specs.AnswerLaws.{refusal-same, mixed-refusal-same, write-same, layered-same, mixed-same}
 use Rattle.promises.specs.DocumentFile.{document-file, document-accepted, document-model}
 
 -- ---- there and back
@@ -80,6 +80,11 @@ module _ (p n a b : ℕ) (cs ws : List ℕ) where
 
   pub surplus-not-tested-mixed : mixed-refusal p n a b cs ws ≡ mixed-refusal p n a b (take (a * n) cs) (take b ws)
   surplus-not-tested-mixed = mixed-refusal-same p n a b cs (take (a * n) cs) ws (take b ws) cut-cs cut-ws
+
+  -- nor what is written of the model,
+  pub surplus-not-written : {out out′ : List ℕ} {the-refusal len : ℕ}
+      → WriteCall p n a b cs ws out the-refusal len out′ → WriteCall p n a b (take (a * n) cs) (take b ws) out the-refusal len out′
+  surplus-not-written = write-same p n a b cs (take (a * n) cs) ws (take b ws) cut-cs cut-ws
 
   -- nor the layered answer in the parts that are fixed,
   pub surplus-not-read : {the-refusal the-verdict the-rank the-placed the-side the-short : ℕ} {rows : List ℕ}
