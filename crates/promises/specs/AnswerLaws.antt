@@ -27,8 +27,11 @@ use Rattle.format.specs.Refusals.{Tests, unless, _then_, first-refusal, where-a
 use Rattle.format.specs.File.Format.{FileModel, encode, file-length, handed-over, write-refusal, bytes-written, WriteCall}
 use Rattle.format.specs.RefusalLaws.{then-zero, unless-zero}
 use Rattle.format.specs.TestLaws.{area-reads}
-use Rattle.layered.specs.Answers.{LayeredAnswer}
-use Rattle.mixed.specs.MixedAnswers.{MixedAnswer}
+use Rattle.layered.specs.Answers.{LayeredCall}
+use Rattle.layered.specs.declared.Answer.{Answer}
+use Rattle.mixed.specs.MixedAnswers.{MixedCall}
+use Rattle.mixed.specs.declared.MixedAnswer.{MixedAnswer}
+use Rattle.promises.specs.Fixed.{SameAnswer, SameMixed}
 use Rattle.promises.specs.CutLaws.{front-least}
 use Rattle.promises.specs.RowLaws.{rows-of-take}
 use Rattle.promises.specs.SurplusLaws.{Agree, rank-same, verdict-same, placed-same, short-same}
@@ -100,9 +103,7 @@ module _ (p n a b : ℕ) (cs ds ws vs : List ℕ) (ec : take (a * n) cs ≡ take
     parameters = λ r x l m. ap (λ (w : ℕ). members w x) (front-at b ws vs ew r l);
   }
 
-  pub layered-same : {r v k pl sd sh r′ v′ k′ pl′ sd′ sh′ : ℕ} {rows rows′ : List ℕ}
-      → LayeredAnswer p n a b cs ws r v k pl sd sh rows → LayeredAnswer p n a b ds vs r′ v′ k′ pl′ sd′ sh′ rows′
-      → (r ≡ r′) × (v ≡ v′) × (k ≡ k′) × (pl ≡ pl′) × (sh ≡ sh′)
+  pub layered-same : {r s : Answer} → LayeredCall p n a b cs ws r → LayeredCall p n a b ds vs s → SameAnswer r s
   layered-same h g =
       let e = refusal-same in
       let first = h .is-refusal ∙ e ∙ sym (g .is-refusal) in
@@ -114,22 +115,22 @@ module _ (p n a b : ℕ) (cs ds ws vs : List ℕ) (ec : take (a * n) cs ≡ take
       let Q′ = listed-model p n a b ds vs .Q in
       let T = listed-model p n a b cs ws .T in
       let T′ = listed-model p n a b ds vs .T in
-      let E : Set = λ (x : ℕ). true in (
-        first,
-        x .is-verdict ∙ verdict-same (modulus p .0) (modulus p .1) n a b E Q Q′ T T′ agree ∙ sym (y .is-verdict),
-        x .solved .is-rank ∙ rank-same (modulus p .0) (modulus p .1) n a b E Q Q′ T T′ agree ∙ sym (y .solved .is-rank),
-        x .placed-word ∙ ap (word-of width) (fun-ext (placed-same (modulus p .0) (modulus p .1) n a b E Q Q′ T T′ agree)) ∙ sym (y .placed-word),
-        x .short-word ∙ ap (word-of width) (fun-ext (short-same (modulus p .0) (modulus p .1) n a b E Q Q′ T T′ agree)) ∙ sym (y .short-word),
-      ))
+      let E : Set = λ (x : ℕ). true in record {
+        same-refusal = first;
+        same-verdict = x .is-verdict ∙ verdict-same (modulus p .0) (modulus p .1) n a b E Q Q′ T T′ agree ∙ sym (y .is-verdict);
+        same-rank = x .solved .is-rank ∙ rank-same (modulus p .0) (modulus p .1) n a b E Q Q′ T T′ agree ∙ sym (y .solved .is-rank);
+        same-placed = x .placed-word ∙ ap (word-of width) (fun-ext (placed-same (modulus p .0) (modulus p .1) n a b E Q Q′ T T′ agree)) ∙ sym (y .placed-word);
+        same-short = x .short-word ∙ ap (word-of width) (fun-ext (short-same (modulus p .0) (modulus p .1) n a b E Q Q′ T T′ agree)) ∙ sym (y .short-word);
+      })
       (λ nz.
       let x = h .if-refused nz in
-      let y = g .if-refused (λ z. nz (e ∙ z)) in (
-        first,
-        x .no-verdict ∙ sym (y .no-verdict),
-        x .no-rank ∙ sym (y .no-rank),
-        x .none-placed ∙ sym (y .none-placed),
-        x .none-short ∙ sym (y .none-short),
-      ))
+      let y = g .if-refused (λ z. nz (e ∙ z)) in record {
+        same-refusal = first;
+        same-verdict = x .no-verdict ∙ sym (y .no-verdict);
+        same-rank = x .no-rank ∙ sym (y .no-rank);
+        same-placed = x .none-placed ∙ sym (y .none-placed);
+        same-short = x .none-short ∙ sym (y .none-short);
+      })
 
   -- ---- the mixed answer
 
@@ -175,9 +176,7 @@ module _ (p n a b : ℕ) (cs ds ws vs : List ℕ) (ec : take (a * n) cs ≡ take
     unfolding mixed-verdict
     mixed-verdict-same = ap (λ (k : ℕ). indicator (decide (ℕ-discrete k n))) mixed-rank-same
 
-  pub mixed-same : {r v k i j sh r′ v′ k′ i′ j′ sh′ : ℕ}
-      → MixedAnswer p n a b cs ws r v k i j sh → MixedAnswer p n a b ds vs r′ v′ k′ i′ j′ sh′
-      → (r ≡ r′) × (v ≡ v′) × (k ≡ k′) × (sh ≡ sh′)
+  pub mixed-same : {r s : MixedAnswer} → MixedCall p n a b cs ws r → MixedCall p n a b ds vs s → SameMixed r s
   mixed-same h g =
       let e = mixed-refusal-same in
       let first = h .is-refusal ∙ e ∙ sym (g .is-refusal) in
@@ -185,13 +184,18 @@ module _ (p n a b : ℕ) (cs ds ws vs : List ℕ) (ec : take (a * n) cs ≡ take
       (λ z.
       let x = h .if-accepted z in
       let y = g .if-accepted (sym e ∙ z) in
-      let ab = equal-rows z in (
-        first,
-        x .is-verdict ∙ mixed-verdict-same ab ∙ sym (y .is-verdict),
-        x .is-rank ∙ mixed-rank-same ab ∙ sym (y .is-rank),
-        x .short-word ∙ ap (word-of width) (fun-ext (form-short-same ab)) ∙ sym (y .short-word),
-      ))
+      let ab = equal-rows z in record {
+        same-refusal = first;
+        same-verdict = x .is-verdict ∙ mixed-verdict-same ab ∙ sym (y .is-verdict);
+        same-rank = x .is-rank ∙ mixed-rank-same ab ∙ sym (y .is-rank);
+        same-short = x .short-word ∙ ap (word-of width) (fun-ext (form-short-same ab)) ∙ sym (y .short-word);
+      })
       (λ nz.
       let x = h .if-refused nz in
       let y = g .if-refused (λ z. nz (e ∙ z)) in
-      (first, x .no-verdict ∙ sym (y .no-verdict), x .no-rank ∙ sym (y .no-rank), x .none-short ∙ sym (y .none-short)))
+      record {
+        same-refusal = first;
+        same-verdict = x .no-verdict ∙ sym (y .no-verdict);
+        same-rank = x .no-rank ∙ sym (y .no-rank);
+        same-short = x .none-short ∙ sym (y .none-short);
+      })

@@ -12,9 +12,12 @@ use Rattle.format.specs.Lists.{over}
 use Rattle.limits.specs.Limits.{most-columns, most-rows}
 use Rattle.format.specs.Refusals.{refusal, mixed-refusal}
 use Rattle.format.specs.File.Format.{judge, file-length, ReadCall, WriteCall}
-use Rattle.layered.specs.Answers.{LayeredAnswer}
+use Rattle.layered.specs.Answers.{LayeredCall}
+use Rattle.layered.specs.declared.Answer.{Answer}
 use Rattle.layered.specs.FileModel.{file-model}
-use Rattle.mixed.specs.MixedAnswers.{MixedAnswer}
+use Rattle.mixed.specs.MixedAnswers.{MixedCall}
+use Rattle.mixed.specs.declared.MixedAnswer.{MixedAnswer}
+use Rattle.promises.specs.Fixed.{SameAnswer, SameMixed}
 use Rattle.solvability.specs.Host.{HostAnswer}
 use Rattle.report.specs.FileReport.{FileReport}
 use Rattle.promises.specs.TripLaws.{read-then-written, written-then-read}
@@ -87,19 +90,11 @@ module _ (p n a b : ℕ) (cs ws : List ℕ) where
   surplus-not-written = write-same p n a b cs (take (a * n) cs) ws (take b ws) cut-cs cut-ws
 
   -- nor the layered answer in the parts that are fixed,
-  pub surplus-not-read : {the-refusal the-verdict the-rank the-placed the-side the-short : ℕ} {rows : List ℕ}
-      → {refusal′ verdict′ rank′ placed′ side′ short′ : ℕ} {rows′ : List ℕ}
-      → LayeredAnswer p n a b cs ws the-refusal the-verdict the-rank the-placed the-side the-short rows
-      → LayeredAnswer p n a b (take (a * n) cs) (take b ws) refusal′ verdict′ rank′ placed′ side′ short′ rows′
-      → (the-refusal ≡ refusal′) × (the-verdict ≡ verdict′) × (the-rank ≡ rank′) × (the-placed ≡ placed′) × (the-short ≡ short′)
+  pub surplus-not-read : {r s : Answer} → LayeredCall p n a b cs ws r → LayeredCall p n a b (take (a * n) cs) (take b ws) s → SameAnswer r s
   surplus-not-read = layered-same p n a b cs (take (a * n) cs) ws (take b ws) cut-cs cut-ws
 
   -- nor the mixed one.
-  pub surplus-not-read-mixed : {the-refusal the-verdict the-rank the-rows the-columns the-short : ℕ}
-      → {refusal′ verdict′ rank′ rows′ columns′ short′ : ℕ}
-      → MixedAnswer p n a b cs ws the-refusal the-verdict the-rank the-rows the-columns the-short
-      → MixedAnswer p n a b (take (a * n) cs) (take b ws) refusal′ verdict′ rank′ rows′ columns′ short′
-      → (the-refusal ≡ refusal′) × (the-verdict ≡ verdict′) × (the-rank ≡ rank′) × (the-short ≡ short′)
+  pub surplus-not-read-mixed : {r s : MixedAnswer} → MixedCall p n a b cs ws r → MixedCall p n a b (take (a * n) cs) (take b ws) s → SameMixed r s
   surplus-not-read-mixed = mixed-same p n a b cs (take (a * n) cs) ws (take b ws) cut-cs cut-ws
 
 -- ---- document 01's file

@@ -1,4 +1,4 @@
--- What the promises rule out: programs that document 01 lists, changed areas; and two answers to one call agree but in what is left open.
-pub mod Areas
+-- What the promises rule out: the programs that document 01 lists, lent elements that change; and how little the promises leave open.
 pub mod Listed
-pub mod Tight
+pub mod Areas
+pub mod Open

@@ -1,4 +1,5 @@
--- The six listed programs contradict the promises themselves, whatever their proof looks like.
+-- The programs that document 01 lists under "To the testers": what each of them answers contradicts the promise, on a small model or file.
+-- Assumes nothing.
 use Prim.Native.Nat.{ℕ}
 use mathlib.Core.Path.{_≡_, refl, sym, ap, _∙_}
 use mathlib.Core.Logic.{_≢_}
@@ -19,7 +20,8 @@ use Rattle.rank.specs.Layered.Model.{same-row, has-parameter, legal}
 use Rattle.rank.specs.Layered.Rank.{seat, constant-rank, sum, last-seat, largest-assignment, some-assignment, row-outside, matching, rank, placeable, taken, placed, short, verdict}
 use Rattle.rank.specs.Independent.{is-zero, in-kernel, independent}
 use Rattle.rank.specs.ListedModel.{listed-model}
-use Rattle.layered.specs.Answers.{LayeredAnswer}
+use Rattle.layered.specs.Answers.{LayeredCall}
+use Rattle.layered.specs.declared.Answer.{Answer}
 use Rattle.format.specs.Lists.{all-pass, over}
 use Rattle.format.specs.Refusals.{first-refusal, head-test, body-test, due-test, prime-test, size-test, constant-test, parameter-test, area-test, end-test, row-test, model-tests, refusal}
 use Rattle.format.specs.File.Piece.{head-tests, closed}
@@ -43,8 +45,8 @@ unfolding run
 blocked-rank = refl
 
 -- 1: it stops at its first blocked column, so its rank is 0
-stops-at-blocked : (k v pl sd sh : ℕ) (rows : List ℕ) → LayeredAnswer 2 2 1 0 (0 ∷ 1 ∷ []) [] k v 0 pl sd sh rows → ⊥
-stops-at-blocked k v pl sd sh rows x = let e = x .if-accepted blocked-accepted .solved .is-rank in let f = blocked-rank in omega arith
+stops-at-blocked : (r : Answer) → LayeredCall 2 2 1 0 (0 ∷ 1 ∷ []) [] r → r .rank ≡ 0 → ⊥
+stops-at-blocked r x z = let e = x .if-accepted blocked-accepted .solved .is-rank in let f = blocked-rank in omega arith
 
 -- p 2, n 2, a 1, constants 1 1: column 1 cannot be placed beside column 0
 equal-accepted : refusal 2 2 1 0 (1 ∷ 1 ∷ []) [] ≡ 0
@@ -59,25 +61,21 @@ equal-rank : rank (listed-model 2 2 1 0 (1 ∷ 1 ∷ []) []) ≡ 1
 unfolding run
 equal-rank = refl
 
-three-has-one : members 3 1 ≡ true
-unfolding members
-three-has-one = refl
-
 -- 2: it lists column 1 as placed untested
-takes-untested : (k v r sd sh : ℕ) (rows : List ℕ) → LayeredAnswer 2 2 1 0 (1 ∷ 1 ∷ []) [] k v r 3 sd sh rows → ⊥
-takes-untested k v r sd sh rows x = true≢false (sym three-has-one ∙ x .if-accepted equal-accepted .solved .is-placed 1 ∙ equal-placed)
+takes-untested : (r : Answer) → LayeredCall 2 2 1 0 (1 ∷ 1 ∷ []) [] r → members (r .placed) 1 ≡ true → ⊥
+takes-untested r x h = true≢false (sym h ∙ x .if-accepted equal-accepted .solved .is-placed 1 ∙ equal-placed)
 
 -- 3: it makes up the rank 2
-made-up-rank : (k v pl sd sh : ℕ) (rows : List ℕ) → LayeredAnswer 2 2 1 0 (1 ∷ 1 ∷ []) [] k v 2 pl sd sh rows → ⊥
-made-up-rank k v pl sd sh rows x = let e = x .if-accepted equal-accepted .solved .is-rank in let f = equal-rank in omega arith
+made-up-rank : (r : Answer) → LayeredCall 2 2 1 0 (1 ∷ 1 ∷ []) [] r → r .rank ≡ 2 → ⊥
+made-up-rank r x z = let e = x .if-accepted equal-accepted .solved .is-rank in let f = equal-rank in omega arith
 
 -- 4: it says open, rank 0
-open-rank-0 : (k pl sd sh : ℕ) (rows : List ℕ) → LayeredAnswer 2 2 1 0 (1 ∷ 1 ∷ []) [] k 0 0 pl sd sh rows → ⊥
-open-rank-0 k pl sd sh rows x = let e = x .if-accepted equal-accepted .solved .is-rank in let f = equal-rank in omega arith
+open-rank-0 : (r : Answer) → LayeredCall 2 2 1 0 (1 ∷ 1 ∷ []) [] r → r .verdict ≡ 0 → r .rank ≡ 0 → ⊥
+open-rank-0 r x o z = let e = x .if-accepted equal-accepted .solved .is-rank in let f = equal-rank in omega arith
 
 -- 6: it refuses
-refuses : (k v r pl sd sh : ℕ) (rows : List ℕ) → LayeredAnswer 2 2 1 0 (1 ∷ 1 ∷ []) [] k v r pl sd sh rows → k ≢ 0 → ⊥
-refuses k v r pl sd sh rows x h = h (x .is-refusal ∙ equal-accepted)
+refuses : (r : Answer) → LayeredCall 2 2 1 0 (1 ∷ 1 ∷ []) [] r → r .refusal ≢ 0 → ⊥
+refuses r x h = h (x .is-refusal ∙ equal-accepted)
 
 -- the file of document 01
 bytes : List ℕ
