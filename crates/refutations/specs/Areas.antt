@@ -25,7 +25,7 @@ unfolding over
 surplus xs area = drop-front xs (drop (length xs) area)
 
 -- a refused read changes no lent element and gives no number
-read-refused : (s cs ws : List ℕ) (k p n a b : ℕ) (cs′ ws′ : List ℕ) → ReadCall s cs ws k p n a b cs′ ws′ → read-refusal s cs ws ≢ 0
+pub read-refused : (s cs ws : List ℕ) (k p n a b : ℕ) (cs′ ws′ : List ℕ) → ReadCall s cs ws k p n a b cs′ ws′ → read-refusal s cs ws ≢ 0
     → (cs′ ≡ cs) × (ws′ ≡ ws) × (p ≡ 0) × (n ≡ 0) × (a ≡ 0) × (b ≡ 0)
 unfolding over model-read flatten
 read-refused s cs ws k p n a b cs′ ws′ x h =
@@ -39,7 +39,7 @@ read-refused s cs ws k p n a b cs′ ws′ x h =
     )
 
 -- an accepted read leaves what is behind the constants and the parameter rows
-read-surplus : (s cs ws : List ℕ) (k p n a b : ℕ) (cs′ ws′ : List ℕ) → ReadCall s cs ws k p n a b cs′ ws′
+pub read-surplus : (s cs ws : List ℕ) (k p n a b : ℕ) (cs′ ws′ : List ℕ) → ReadCall s cs ws k p n a b cs′ ws′
     → (drop (length (flatten (model-read s cs ws .constants))) cs′ ≡ drop (length (flatten (model-read s cs ws .constants))) cs)
     × (drop (length (model-read s cs ws .parameters)) ws′ ≡ drop (length (model-read s cs ws .parameters)) ws)
 read-surplus s cs ws k p n a b cs′ ws′ x = (
@@ -47,29 +47,29 @@ read-surplus s cs ws k p n a b cs′ ws′ x = (
   ap (drop (length (model-read s cs ws .parameters))) (x .parameters-are) ∙ surplus (model-read s cs ws .parameters) ws,
 )
 
-write-refused : (p n a b : ℕ) (cs ws out : List ℕ) (k len : ℕ) (out′ : List ℕ) → WriteCall p n a b cs ws out k len out′ → write-refusal p n a b cs ws out ≢ 0 → (out′ ≡ out) × (len ≡ 0)
+pub write-refused : (p n a b : ℕ) (cs ws out : List ℕ) (k len : ℕ) (out′ : List ℕ) → WriteCall p n a b cs ws out k len out′ → write-refusal p n a b cs ws out ≢ 0 → (out′ ≡ out) × (len ≡ 0)
 unfolding over bytes-written
 write-refused p n a b cs ws out k len out′ x h =
     let e : bytes-written p n a b cs ws out ≡ [] = where-refused (write-refusal p n a b cs ws out) _ [] h in
     (x .bytes-are ∙ ap (λ (l : List ℕ). over l out) e, x .length-is ∙ ap (λ (l : List ℕ). length l) e)
 
 -- the length returned is that of what is written, and nothing behind it changes
-write-surplus : (p n a b : ℕ) (cs ws out : List ℕ) (k len : ℕ) (out′ : List ℕ) → WriteCall p n a b cs ws out k len out′ → drop len out′ ≡ drop len out
+pub write-surplus : (p n a b : ℕ) (cs ws out : List ℕ) (k len : ℕ) (out′ : List ℕ) → WriteCall p n a b cs ws out k len out′ → drop len out′ ≡ drop len out
 write-surplus p n a b cs ws out k len out′ x =
     ap (λ (j : ℕ). drop j out′) (x .length-is) ∙ ap (drop (length (bytes-written p n a b cs ws out))) (x .bytes-are) ∙ surplus (bytes-written p n a b cs ws out) out ∙ ap (λ (j : ℕ). drop j out) (sym (x .length-is))
 
-report-surplus : (text out : List ℕ) (len : ℕ) (out′ : List ℕ) → Reporting text out len out′ → drop len out′ ≡ drop len out
+pub report-surplus : (text out : List ℕ) (len : ℕ) (out′ : List ℕ) → Reporting text out len out′ → drop len out′ ≡ drop len out
 report-surplus text out len out′ x =
     ap (λ (j : ℕ). drop j out′) (x .length-is) ∙ ap (drop (length (reported text out))) (x .bytes-are) ∙ surplus (reported text out) out ∙ ap (λ (j : ℕ). drop j out) (sym (x .length-is))
 
-host-number : (file area : List ℕ) (k k′ : ℕ) (area′ area″ : List ℕ) → HostAnswer file area k area′ → HostAnswer file area k′ area″ → k ≡ k′
+pub host-number : (file area : List ℕ) (k k′ : ℕ) (area′ area″ : List ℕ) → HostAnswer file area k area′ → HostAnswer file area k′ area″ → k ≡ k′
 unfolding HostAnswer
 host-number file area k k′ area′ area″ x y = x .is-number ∙ sym (y .is-number)
 
-host-refused : (file area : List ℕ) (k : ℕ) (area′ : List ℕ) → HostAnswer file area k area′ → k ≢ 0 → area′ ≡ area
+pub host-refused : (file area : List ℕ) (k : ℕ) (area′ : List ℕ) → HostAnswer file area k area′ → k ≢ 0 → area′ ≡ area
 unfolding HostAnswer
 host-refused file area k area′ x h = x .if-refused (λ e. h (x .is-number ∙ e))
 
-lookup-refused : (s : List ℕ) (i : ℕ) → lookup-refusal s i ≢ 0 → (lookup-length s i ≡ 0) × (lookup-start s i ≡ 0)
+pub lookup-refused : (s : List ℕ) (i : ℕ) → lookup-refusal s i ≢ 0 → (lookup-length s i ≡ 0) × (lookup-start s i ≡ 0)
 unfolding lookup-length lookup-start
 lookup-refused s i h = (where-refused (lookup-refusal s i) _ 0 h, where-refused (lookup-refusal s i) _ 0 h)
