@@ -33,6 +33,12 @@
 extern "C" {
 #endif
 
+/* The limits: the largest n, the largest a and b, the largest prime, and how many bytes a set of columns or rows takes. */
+#define WUNDRESKA_COLUMNS_MAX 64
+#define WUNDRESKA_ROWS_MAX 64
+#define WUNDRESKA_PRIME_MAX 65521
+#define WUNDRESKA_SET_SIZE 8
+
 /* The longest file that is accepted. A host may cut its reading one byte above: the refusal is that of the whole file. */
 #define WUNDRESKA_FILE_MAX 9102
 
@@ -46,6 +52,14 @@ extern "C" {
 #define WUNDRESKA_ROWS 26     /* 64 bytes: for each parameter row the placed column it determines, or WUNDRESKA_NO_COLUMN */
 #define WUNDRESKA_ROWS_SIZE 64
 #define WUNDRESKA_NO_COLUMN 255 /* a parameter row that determines no column, and every row from b on */
+
+/* The answer area of the mixed question. */
+#define WUNDRESKA_MIXED_SIZE 26
+#define WUNDRESKA_MIXED_VERDICT 0  /* 1 byte: one of the verdicts below */
+#define WUNDRESKA_MIXED_RANK 1     /* 1 byte, 0 to n */
+#define WUNDRESKA_MIXED_ROWS 2     /* 8 bytes: the rows I */
+#define WUNDRESKA_MIXED_COLUMNS 10 /* 8 bytes: the columns J */
+#define WUNDRESKA_MIXED_SHORT 18   /* 8 bytes: the short set of the layered form */
 
 /* The verdicts. A model is determined exactly where its rank equals n; surplus rows do not change that. */
 #define WUNDRESKA_OPEN 0
@@ -62,7 +76,9 @@ extern "C" {
 #define WUNDRESKA_PARAMETER_BEYOND 6 /* a parameter stands at column n or later */
 #define WUNDRESKA_TRAILING 7         /* bytes follow the end field */
 /* The calling program causes this one. It comes after all others: only a sound file can meet it. */
-#define WUNDRESKA_AREA_SHORT 8       /* answer_len is below WUNDRESKA_ANSWER_SIZE */
+#define WUNDRESKA_AREA_SHORT 8       /* answer_len is below the size of the answer */
+/* The modeller with a mixed question causes this one. It comes last. */
+#define WUNDRESKA_NOT_MIXED 10       /* a differs from b, or a + n exceeds WUNDRESKA_COLUMNS_MAX */
 
 /* Judges the file from its front (for each field: head, tag and length, body, content) and returns the first refusal met,
  * or WUNDRESKA_ACCEPTED.
@@ -81,6 +97,10 @@ extern "C" {
  * Pointers: file points to file_len bytes, answer to answer_len bytes. Neither is NULL, even for a length of 0, and the two
  * areas do not overlap. The call keeps nothing afterwards. */
 uint32_t wundreska_check(const uint8_t *file, size_t file_len, uint8_t *answer, size_t answer_len);
+
+/* The mixed question about the same file: row i is the sum of constant row i and parameter row i. It judges, writes and refuses
+ * as wundreska_check does, with WUNDRESKA_MIXED_SIZE bytes, and refuses WUNDRESKA_NOT_MIXED last. */
+uint32_t wundreska_mixed(const uint8_t *file, size_t file_len, uint8_t *answer, size_t answer_len);
 
 #ifdef __cplusplus
 }
