@@ -2,7 +2,7 @@
  *
  * Run: compare MODELS, where MODELS is the folder of the bench models. Prints the cases of each category and, as its last
  * line, 'N passed, M failed' over all cases.
- * Or:  compare MODELS FOLDER COUNT, which compares nothing, but writes so many files and prints the library's numbers. */
+ * Or:  compare FOLDER COUNT, which compares nothing, but writes so many files and prints the library's numbers. */
 #include "compare.h"
 
 #include <stdio.h>
@@ -28,8 +28,8 @@ int main(int count, char **words)
 {
     if (count == 2)
         return compare_all(words[1]);
-    if (count == 4)
-        return write_numbered_files(words[2], atoi(words[3])) > 0;
-    fprintf(stderr, "usage: compare MODELS [FOLDER COUNT]\n");
+    if (count == 3)
+        return write_numbered_files(words[1], atoi(words[2])) > 0;
+    fprintf(stderr, "usage: compare MODELS, or compare FOLDER COUNT\n");
     return 2;
 }
