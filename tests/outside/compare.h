@@ -19,8 +19,27 @@ const char *called_mixed_complaint(const Model *model, const Called *called);
 const char *layered_complaint(const Model *model, Truth truth);
 const char *mixed_complaint(const Model *model, size_t rank, Truth form);
 
-/* About the mixed question on any bytes, with an answer area of any length. The model is that of the file. (compare_mixed.c) */
-const char *mixed_file_complaint(const uint8_t *file, size_t length, size_t answer_length, Model *model);
+/* ---- questions.c ---- */
+
+/* A question that a host asks about a file. */
+typedef struct {
+    FileCall *call;
+    size_t size;                          /* bytes of its answer */
+    uint32_t (*judge)(const Model *model); /* its own refusal of a sound file's model, or 0 */
+    const char *(*complaint)(const Model *model, const Called *called);
+} Question;
+
+extern const Question layered_question, mixed_question;
+
+/* About the call on any bytes, with an answer area of any length; the model is that of the file. */
+const char *file_complaint(const Question *question, const uint8_t *file, size_t length, size_t answer_length, Model *model);
+
+/* Counts a case: with this answer area; with one that is mostly just right, and else short or longer. */
+void try_area(const Question *question, const uint8_t *file, size_t length, size_t answer_length);
+void try_file(const Question *question, const uint8_t *file, size_t length);
+
+/* On small models, with areas from nothing to twice the answer. */
+void try_areas_of_every_length(const Question *question);
 
 /* ---- the categories ---- */
 

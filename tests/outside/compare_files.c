@@ -3,31 +3,6 @@
 
 #include <string.h>
 
-/* The call on any bytes, with an answer area of any length. */
-static const char *file_complaint(const uint8_t *file, size_t length, size_t answer_length, Model *m)
-{
-    uint32_t refusal = judge_file(file, length, m);
-    if (refusal == 0 && answer_length < WUNDRESKA_ANSWER_SIZE)
-        refusal = 8;
-    Called c = call_file(wundreska_check, file, length, answer_length, WUNDRESKA_ANSWER_SIZE);
-    const char *complaint = refusal_complaint(&c, refusal);
-    return complaint || refusal ? complaint : called_complaint(m, &c, layered_truth(m));
-}
-
-static void try_area(const uint8_t *file, size_t length, size_t answer_length)
-{
-    static Model m;
-    m = (Model){0};
-    const char *complaint = file_complaint(file, length, answer_length, &m);
-    count_case(complaint, &m);
-}
-
-/* With an answer area that is mostly just right, and else short by one or longer. */
-static void try_file(const uint8_t *file, size_t length)
-{
-    try_area(file, length, WUNDRESKA_ANSWER_SIZE - one_in(5) + (one_in(5) ? draw(100) : 0));
-}
-
 static const char *written_complaint(const Model *m, const uint8_t *file, size_t length, size_t room)
 {
     Called c = call_model(harness_write, m, exact_lengths(m, room), length);
@@ -46,16 +21,13 @@ void compare_files(void)
         size_t length = write_file(&m, file), room = one_in(3) ? length - 1 : length + draw(50);
         count_case(written_complaint(&m, file, length, room), &m);
     }
-    begin_category("files checked, with answer areas just right, short by one and longer");
+    begin_category("files checked, with answer areas just right, short and longer");
     for (int i = 0; i < 2000; i++) {
         Model m = draw_model(all_primes, COUNT(all_primes), WUNDRESKA_COLUMNS_MAX, WUNDRESKA_ROWS_MAX);
-        try_file(file, write_file(&m, file));
+        try_file(&layered_question, file, write_file(&m, file));
     }
     begin_category("files checked, with answer areas of every length up to twice the answer");
-    for (size_t length = 0; length <= 2 * WUNDRESKA_ANSWER_SIZE; length++) {
-        Model m = draw_model(all_primes, COUNT(all_primes), 8, 8);
-        try_area(file, write_file(&m, file), length);
-    }
+    try_areas_of_every_length(&layered_question);
 }
 
 /* ---- damaged files ---- */
@@ -63,14 +35,14 @@ void compare_files(void)
 static void try_prefixes(const uint8_t *file, size_t length)
 {
     for (size_t cut = 0; cut < length; cut++)
-        try_file(file, cut);
+        try_file(&layered_question, file, cut);
 }
 
 static void try_flips(uint8_t *file, size_t length)
 {
     for (size_t bit = 0; bit < 8 * length; bit++) {
         file[bit / 8] ^= 1 << bit % 8;
-        try_file(file, length);
+        try_file(&layered_question, file, length);
         file[bit / 8] ^= 1 << bit % 8;
     }
 }
@@ -80,7 +52,7 @@ static void try_damages(const uint8_t *file, size_t length, size_t count)
     static uint8_t damaged[WUNDRESKA_FILE_MAX + DAMAGE_ROOM];
     for (size_t i = 0; i < count; i++) {
         memcpy(damaged, file, length);
-        try_file(damaged, damage_file(damaged, length));
+        try_file(&layered_question, damaged, damage_file(damaged, length));
     }
 }
 
@@ -136,6 +108,6 @@ void compare_sizes(void)
         Model m = draw_model(all_primes, COUNT(all_primes), 8, 6);
         size_t length = write_file(&m, file);
         file[SIZES_AT + i % 3] = i / 3 % 256;
-        try_file(file, length);
+        try_file(&layered_question, file, length);
     }
 }

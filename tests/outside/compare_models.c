@@ -56,7 +56,7 @@ static const char *bench_complaint(const char *folder, size_t i, Model *m)
         static uint8_t file[WUNDRESKA_FILE_MAX];
         Model form = layered_form(m);
         const char *complaint = mixed_complaint(m, bench_models[i].rank, layered_truth(&form));
-        return complaint ? complaint : mixed_file_complaint(file, write_file(m, file), WUNDRESKA_MIXED_SIZE, m);
+        return complaint ? complaint : file_complaint(&mixed_question, file, write_file(m, file), WUNDRESKA_MIXED_SIZE, m);
     }
     Truth truth = layered_truth(m);
     if ((size_t)bench_models[i].rank != truth.rank || stated_and_other(bench_models[i].placed, truth.placed) ||
