@@ -20,12 +20,12 @@
 
 #include <string.h>
 
-enum { TRIES = 4, ROWS = 2 * LIMIT };
+enum { TRIES = 4, MATRIX_ROWS = 2 * WUNDRESKA_ROWS_MAX };
 
 typedef struct {
     const Field *field;
     size_t rows, columns;
-    uint32_t cells[ROWS][LIMIT];
+    uint32_t cells[MATRIX_ROWS][WUNDRESKA_COLUMNS_MAX];
 } Matrix;
 
 static uint32_t draw_element(const Field *f)
@@ -40,7 +40,7 @@ static uint32_t constant_at(const Model *m, const Field *f, size_t row, size_t c
 
 static uint32_t letter_at(const Model *m, const Field *f, size_t row, size_t column)
 {
-    return m->parameters[row] >> column & 1 ? draw_element(f) : f->zero;
+    return has(m->parameters[row], column) ? draw_element(f) : f->zero;
 }
 
 /* Constant rows above parameter rows. */
@@ -70,7 +70,7 @@ static void substitute_mixed(Matrix *matrix, const Model *m)
 
 static void swap_rows(Matrix *m, size_t r, size_t s)
 {
-    uint32_t row[LIMIT];
+    uint32_t row[WUNDRESKA_COLUMNS_MAX];
     memcpy(row, m->cells[r], sizeof row);
     memcpy(m->cells[r], m->cells[s], sizeof row);
     memcpy(m->cells[s], row, sizeof row);
@@ -86,9 +86,9 @@ static void clear(Matrix *m, size_t pivot_row, size_t r, size_t column)
 }
 
 /* Brings the matrix to reduced echelon form, the pivot rows first; its pivot columns. */
-static uint64_t reduce(Matrix *m)
+static Set reduce(Matrix *m)
 {
-    uint64_t pivots = 0;
+    Set pivots = 0;
     size_t rank = 0;
     for (size_t c = 0; c < m->columns && rank < m->rows; c++) {
         size_t r = rank;
@@ -100,23 +100,23 @@ static uint64_t reduce(Matrix *m)
         for (r = 0; r < m->rows; r++)
             if (r != rank && m->cells[r][c] != m->field->zero)
                 clear(m, rank, r, c);
-        pivots |= UINT64_C(1) << c;
+        pivots |= just(c);
         rank++;
     }
     return pivots;
 }
 
 /* Of a reduced matrix the columns that can be left out: those without a pivot, and those whose row has another entry. */
-static uint64_t spare_columns(const Matrix *m, uint64_t pivots)
+static Set spare_columns(const Matrix *m, Set pivots)
 {
-    uint64_t spare = all_below(m->columns) & ~pivots;
+    Set spare = all_below(m->columns) & ~pivots;
     size_t row = 0;
     for (size_t x = 0; x < m->columns; x++) {
-        if (!(pivots >> x & 1))
+        if (!has(pivots, x))
             continue;
         for (size_t c = x + 1; c < m->columns; c++)
             if (m->cells[row][c] != m->field->zero)
-                spare |= UINT64_C(1) << x;
+                spare |= just(x);
         row++;
     }
     return spare;
@@ -129,15 +129,15 @@ static size_t larger(size_t x, size_t y)
 
 /* The largest ranks seen: of the columns below each number, and with each column left out. */
 typedef struct {
-    size_t below[LIMIT + 1], without[LIMIT];
+    size_t below[WUNDRESKA_COLUMNS_MAX + 1], without[WUNDRESKA_COLUMNS_MAX];
 } Ranks;
 
-static void note_ranks(Ranks *seen, uint64_t pivots, uint64_t spare, size_t n)
+static void note_ranks(Ranks *seen, Set pivots, Set spare, size_t n)
 {
     size_t rank = size_of_set(pivots);
     for (size_t x = 0; x < n; x++) {
         seen->below[x + 1] = larger(seen->below[x + 1], size_of_set(pivots & all_below(x + 1)));
-        seen->without[x] = larger(seen->without[x], rank - !(spare >> x & 1));
+        seen->without[x] = larger(seen->without[x], rank - !has(spare, x));
     }
 }
 
@@ -147,15 +147,15 @@ Truth layered_truth(const Model *model)
     Ranks seen = {0};
     for (int i = 0; i < TRIES; i++) {
         substitute_layered(&matrix, model);
-        uint64_t pivots = reduce(&matrix);
+        Set pivots = reduce(&matrix);
         note_ranks(&seen, pivots, spare_columns(&matrix, pivots), model->n);
     }
     Truth truth = {.rank = seen.below[model->n]};
     for (size_t x = 0; x < model->n; x++) {
         if (seen.below[x + 1] > seen.below[x])
-            truth.placed |= UINT64_C(1) << x;
+            truth.placed |= just(x);
         if (seen.without[x] == truth.rank)
-            truth.short_set |= UINT64_C(1) << x;
+            truth.short_set |= just(x);
     }
     return truth;
 }
@@ -171,17 +171,17 @@ size_t mixed_rank(const Model *model)
     return rank;
 }
 
-size_t constant_rank(const Model *m, uint64_t rows, uint64_t columns)
+size_t constant_rank(const Model *m, Set rows, Set columns)
 {
     static Matrix matrix;
     const Field *f = matrix.field = field_over(m->p);
     matrix.rows = matrix.columns = 0;
     for (size_t r = 0; r < m->a; r++) {
-        if (!(rows >> r & 1))
+        if (!has(rows, r))
             continue;
         matrix.columns = 0;
         for (size_t c = 0; c < m->n; c++)
-            if (columns >> c & 1)
+            if (has(columns, c))
                 matrix.cells[matrix.rows][matrix.columns++] = constant_at(m, f, r, c);
         matrix.rows++;
     }
@@ -189,12 +189,12 @@ size_t constant_rank(const Model *m, uint64_t rows, uint64_t columns)
 }
 
 /* Whether the row finds a column, where others may move; `tried` are columns asked before. */
-static int finds_column(const Model *m, size_t row, uint64_t columns, uint64_t *tried, int *row_of)
+static int finds_column(const Model *m, size_t row, Set columns, Set *tried, int *row_of)
 {
     for (size_t c = 0; c < m->n; c++) {
-        if (!((m->parameters[row] & columns & ~*tried) >> c & 1))
+        if (!has(m->parameters[row] & columns & ~*tried, c))
             continue;
-        *tried |= UINT64_C(1) << c;
+        *tried |= just(c);
         if (row_of[c] < 0 || finds_column(m, row_of[c], columns, tried, row_of)) {
             row_of[c] = (int)row;
             return 1;
@@ -203,20 +203,20 @@ static int finds_column(const Model *m, size_t row, uint64_t columns, uint64_t *
     return 0;
 }
 
-size_t largest_matching(const Model *m, uint64_t rows, uint64_t columns)
+size_t largest_matching(const Model *m, Set rows, Set columns)
 {
-    int row_of[LIMIT];
+    int row_of[WUNDRESKA_COLUMNS_MAX];
     size_t size = 0;
     memset(row_of, -1, sizeof row_of);
     for (size_t r = 0; r < m->b; r++) {
-        uint64_t tried = 0;
-        if (rows >> r & 1)
+        Set tried = 0;
+        if (has(rows, r))
             size += finds_column(m, r, columns, &tried, row_of);
     }
     return size;
 }
 
-size_t sum_of(const Model *m, uint64_t set)
+size_t sum_of(const Model *m, Set set)
 {
     size_t touching = 0;
     for (size_t r = 0; r < m->b; r++)

@@ -9,19 +9,19 @@ typedef struct {
     uint8_t placeable[SETS];   /* by column set: some legal assignment places exactly it */
 } Tables;
 
-static int subset(uint64_t inner, uint64_t outer)
+static int subset(Set inner, Set outer)
 {
     return (inner & ~outer) == 0;
 }
 
 /* Whether the coefficients make every one of these constant rows zero. */
-static int kills(const Model *m, uint64_t rows, const uint32_t *coefficients)
+static int kills(const Model *m, Set rows, const uint32_t *coefficients)
 {
     for (size_t r = 0; r < m->a; r++) {
         uint64_t total = 0;
         for (size_t c = 0; c < m->n; c++)
             total += (uint64_t)m->constants[r * m->n + c] * coefficients[c];
-        if ((rows >> r & 1) && total % m->p != 0)
+        if (has(rows, r) && total % m->p != 0)
             return 0;
     }
     return 1;
@@ -39,50 +39,50 @@ static int next_vector(const Model *m, uint32_t *coefficients)
 }
 
 /* A set is dependent if some coefficients, not all 0 and 0 outside it, kill the rows. */
-static void find_independent(Tables *t, uint64_t rows)
+static void find_independent(Tables *t, Set rows)
 {
     const Model *m = t->model;
     uint32_t coefficients[BRUTE_COLUMNS] = {0};
     memset(t->independent, 1, sizeof t->independent);
     while (next_vector(m, coefficients)) {
-        uint64_t support = 0;
+        Set support = 0;
         for (size_t c = 0; c < m->n; c++)
-            support |= (uint64_t)(coefficients[c] != 0) << c;
+            support |= (Set)(coefficients[c] != 0) << c;
         if (kills(m, rows, coefficients))
             t->independent[support] = 0;
     }
-    for (uint64_t set = 0; set < SETS; set++)
-        for (uint64_t inner = 1; inner < set; inner++)
+    for (Set set = 0; set < SETS; set++)
+        for (Set inner = 1; inner < set; inner++)
             if (subset(inner, set) && !t->independent[inner])
                 t->independent[set] = 0;
 }
 
-static size_t rank_in(const Tables *t, uint64_t set)
+static size_t rank_in(const Tables *t, Set set)
 {
     size_t rank = 0;
-    for (uint64_t inner = 0; inner <= set; inner++)
+    for (Set inner = 0; inner <= set; inner++)
         if (subset(inner, set) && t->independent[inner] && size_of_set(inner) > rank)
             rank = size_of_set(inner);
     return rank;
 }
 
 /* Every seat for the columns from x on: out, the constant side, or a parameter row that is not taken. */
-static void seat_from(Tables *t, size_t x, uint64_t placed, uint64_t constant_side, uint64_t taken)
+static void seat_from(Tables *t, size_t x, Set placed, Set constant_side, Set taken)
 {
     const Model *m = t->model;
     if (x == m->n) {
         t->placeable[placed] |= t->independent[constant_side];
         return;
     }
-    uint64_t column = UINT64_C(1) << x;
+    Set column = just(x);
     seat_from(t, x + 1, placed, constant_side, taken);
     seat_from(t, x + 1, placed | column, constant_side | column, taken);
     for (size_t r = 0; r < m->b; r++)
-        if ((m->parameters[r] & column) && !(taken >> r & 1))
-            seat_from(t, x + 1, placed | column, constant_side, taken | UINT64_C(1) << r);
+        if ((m->parameters[r] & column) && !has(taken, r))
+            seat_from(t, x + 1, placed | column, constant_side, taken | just(r));
 }
 
-static size_t sum_by_definition(const Tables *t, uint64_t set)
+static size_t sum_by_definition(const Tables *t, Set set)
 {
     size_t touching = 0;
     for (size_t r = 0; r < t->model->b; r++)
@@ -92,18 +92,18 @@ static size_t sum_by_definition(const Tables *t, uint64_t set)
 
 static void find_rank_and_placed(const Tables *t, Enumerated *e)
 {
-    for (uint64_t set = 0; set <= all_below(t->model->n); set++)
+    for (Set set = 0; set <= all_below(t->model->n); set++)
         if (t->placeable[set] && size_of_set(set) > e->rank)
             e->rank = size_of_set(set);
     for (size_t x = 0; x < t->model->n; x++)
-        if (t->placeable[e->placed | UINT64_C(1) << x])
-            e->placed |= UINT64_C(1) << x;
+        if (t->placeable[e->placed | just(x)])
+            e->placed |= just(x);
 }
 
 static void find_short(const Tables *t, Enumerated *e)
 {
     e->short_set = all_below(t->model->n);
-    for (uint64_t set = 0; set <= all_below(t->model->n); set++)
+    for (Set set = 0; set <= all_below(t->model->n); set++)
         if ((e->sums[set] = sum_by_definition(t, set)) == e->rank)
             e->short_set &= set;
     e->short_is_least = e->sums[e->short_set] == e->rank;
@@ -121,14 +121,14 @@ Enumerated enumerate_layered(const Model *model)
 }
 
 /* The largest number of parameters on these rows from r on and these columns, no two in a row or column. */
-static size_t matched_from(const Model *m, size_t r, uint64_t rows, uint64_t columns)
+static size_t matched_from(const Model *m, size_t r, Set rows, Set columns)
 {
     if (r == m->b)
         return 0;
     size_t best = matched_from(m, r + 1, rows, columns);
-    for (size_t c = 0; c < m->n && (rows >> r & 1); c++)
-        if ((m->parameters[r] & columns) >> c & 1) {
-            size_t size = 1 + matched_from(m, r + 1, rows, columns & ~(UINT64_C(1) << c));
+    for (size_t c = 0; c < m->n && has(rows, r); c++)
+        if (has(m->parameters[r] & columns, c)) {
+            size_t size = 1 + matched_from(m, r + 1, rows, columns & ~just(c));
             best = size > best ? size : best;
         }
     return best;
@@ -138,9 +138,9 @@ size_t enumerate_mixed_rank(const Model *model)
 {
     Tables t = {.model = model};
     size_t rank = 0;
-    for (uint64_t rows = 0; rows <= all_below(model->a); rows++) {
+    for (Set rows = 0; rows <= all_below(model->a); rows++) {
         find_independent(&t, rows);
-        for (uint64_t columns = 0; columns <= all_below(model->n); columns++) {
+        for (Set columns = 0; columns <= all_below(model->n); columns++) {
             size_t size = rank_in(&t, columns) + matched_from(model, 0, ~rows, ~columns);
             rank = size > rank ? size : rank;
         }

@@ -3,17 +3,31 @@
 
 #include <string.h>
 
-uint64_t all_below(size_t n)
+Set all_below(size_t bound)
 {
-    return n >= 64 ? ~UINT64_C(0) : (UINT64_C(1) << n) - 1;
+    return bound >= 8 * sizeof(Set) ? ~(Set)0 : just(bound) - 1;
 }
 
-size_t size_of_set(uint64_t set)
+size_t size_of_set(Set set)
 {
     size_t size = 0;
     for (; set; set &= set - 1)
         size++;
     return size;
+}
+
+Set set_at(const uint8_t *bytes)
+{
+    Set set = 0;
+    for (size_t i = 0; i < WUNDRESKA_SET_SIZE; i++)
+        set |= (Set)bytes[i] << 8 * i;
+    return set;
+}
+
+void put_words(Set set, uint64_t *words)
+{
+    for (size_t i = 0; i < ROW_WORDS; i++)
+        words[i] = (uint64_t)(set >> 64 * i);
 }
 
 /* ---- random numbers: xorshift, always from the same seed ---- */
@@ -57,7 +71,7 @@ static void scatter_parameters(Model *m, uint64_t spread)
     for (size_t r = 0; r < m->b; r++)
         for (size_t c = 0; c < m->n; c++)
             if (one_in(spread))
-                m->parameters[r] |= UINT64_C(1) << c;
+                m->parameters[r] |= just(c);
 }
 
 /* One row becomes a combination of two others. */
@@ -78,7 +92,7 @@ static void plant_dependent_column(Model *m)
         *at(m, r, x) = (f * *at(m, r, y) + g * *at(m, r, z)) % m->p;
     if (!one_in(4))
         for (size_t r = 0; r < m->b; r++)
-            m->parameters[r] &= ~(UINT64_C(1) << x);
+            m->parameters[r] &= ~just(x);
 }
 
 /* A loop of streams: row i gives to column i and takes from the next one, around; the rows sum to nothing. */
@@ -97,9 +111,9 @@ static void plant_loop(Model *m)
 /* Several parameter rows have all their parameters at the same few columns. */
 static void plant_crowd(Model *m)
 {
-    uint64_t few = 0;
+    Set few = 0;
     for (size_t i = between(1, 3); i > 0; i--)
-        few |= UINT64_C(1) << draw(m->n);
+        few |= just(draw(m->n));
     for (size_t i = between(1, m->b); i > 0; i--)
         m->parameters[draw(m->b)] &= few;
 }
@@ -159,7 +173,7 @@ Model layered_form(const Model *mixed)
         *at(&form, r, r) = 1;
         for (size_t c = 0; c < mixed->n; c++)
             *at(&form, r, m + c) = mixed->constants[r * mixed->n + c];
-        form.parameters[r] = UINT64_C(1) << r | mixed->parameters[r] << m;
+        form.parameters[r] = just(r) | mixed->parameters[r] << m;
     }
     return form;
 }

@@ -8,7 +8,7 @@ enum { BRUTE_COLUMNS = 6, SETS = 1 << BRUTE_COLUMNS };
 
 typedef struct {
     size_t rank;
-    uint64_t placed, short_set;
+    Set placed, short_set;
     size_t sums[SETS];  /* of every column set */
     int short_is_least; /* whether the smallest set whose sum is the rank is one set */
 } Enumerated;

@@ -1,5 +1,5 @@
-/* The cases of each category, and their sum. */
-#include "compare.h"
+/* The tally of a comparison: every category with its cases, the first failures of each with their models. */
+#include "tally.h"
 
 #include <stdio.h>
 
