@@ -9,10 +9,9 @@ ghost use Rattle.solvability.specs.Host.{front-length, front-bytes, answ
 use format::put_set;
 use format::refusals;
 use layered::Answer;
-use layered::layered_rank;
+use layered::layered_file;
 use limits::MOST_ROWS;
 use limits::SET_BYTES;
-use loader::read_file;
 
 // Where the three sets start that stand behind an answer's verdict and rank.
 const FIRST_SET: usize = 2;
@@ -79,16 +78,13 @@ pub fn put_answer(out: &mut [u8], answer: Answer)
 pub extern "C" fn wundreska_check(file: &[u8], answer: &mut [u8]) -> u32
     ensures { λ r. ⌜ HostAnswer (now (file .entry)) (now (answer .entry)) r (now (answer .exit)) ⌝ }
 {
-    let mut constants = [0u16; 4096];
-    let mut parameters = [0u64; 64];
-    let sizes = read_file(file, &mut constants, &mut parameters);
-    if sizes.refusal != 0 {
-        return sizes.refusal;
+    let r = layered_file(file);
+    if r.refusal != 0 {
+        return r.refusal;
     }
     if answer.len() < ANSWER_LENGTH {
         return refusals::AREA_SHORT;
     }
-    let r = layered_rank(sizes.p, sizes.n, sizes.a, sizes.b, &constants, &parameters);
     put_answer(answer, r);
     0
 }
