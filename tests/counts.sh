@@ -3,7 +3,7 @@
 passed=0
 failed=0
 
-# Counts one case: passed where the command succeeds.
+# Counts one case: passed where the command succeeds. Where it fails, the script's function explain, if it has one, may say more.
 try() {
     local name=$1
     shift
@@ -12,6 +12,7 @@ try() {
     else
         failed=$((failed + 1))
         echo "FAILED $name"
+        ! declare -F explain >/dev/null || explain
     fi
 }
 
