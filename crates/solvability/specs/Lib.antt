@@ -2,5 +2,4 @@
 pub mod AreaCall
 pub mod AreaLaws
 pub mod Host
-pub mod HostLaws
 pub mod Area
