@@ -6,8 +6,8 @@ use mathlib.Core.List.{List, [], _∷_, _++_}
 use native.Mathlib.Omega.{arith}
 use native.Mathlib.Decide.{decLt}
 use native.Mathlib.Nat.{add-zero, zero-add}
-use lib.ListN.{length, set, drop, length-append, length-set}
-use lib.Seq.{set-append-seam, append-snoc}
+use lib.ListN.{length, set, take, drop, length-append, length-set}
+use lib.Seq.{take-append-seam, set-append-seam, append-snoc}
 use borrow.Author.Tests.{lt-ltb, le-ltb, le-leb, lt-leb}
 use Rattle.format.specs.Lists.{over}
 use Rattle.format.specs.OverLaws.{over-none}
@@ -106,6 +106,11 @@ puts-over {text} {d} p h = ap (λ (s : List ℕ × ℕ). s .0) (p .state-is ∙ 
 
 pub puts-place : {text d e : List ℕ} {r : ℕ} → Puts text d 0 e r → length text ≤ length d → r ≡ length text
 puts-place {text} {d} p h = let e = ap (λ (s : List ℕ × ℕ). s .1) (p .state-is ∙ puts-behind [] text d h) in e ∙ zero-add (length text)
+
+-- the first bytes of a page that a text was put into are the text
+pub puts-page : {text d e : List ℕ} {r : ℕ} → Puts text d 0 e r → length text ≤ length d → take r e ≡ text
+unfolding over
+puts-page {text} {d} {e} {r} p h = rw (puts-over p h, puts-place p h) (take-append-seam text (drop (length text) d))
 
 -- ---- a whole text printed
 
