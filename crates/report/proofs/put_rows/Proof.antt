@@ -3,8 +3,8 @@ use Prim.Native.Nat.{_-_, _≤_}
 use mathlib.Core.Path.{ap, _∙_}
 use lib.ListN.{length, getD, drop, drop-of-length-le}
 use Rattle.report.specs.Report.{row-item, row-items}
-use Rattle.report.specs.PutLaws.{Putting, putting-none, putting-next, putting-room, putting-all}
-use Rattle.report.specs.ReportLaws.{row-items-next, row-items-none}
+use Rattle.text.specs.PutLaws.{Putting, putting-none, putting-next, putting-all, putting-same}
+use Rattle.report.proofs.Lines.{row-items-next, row-items-none}
 use borrow.Author.Needs.{needs}
 use native.Mathlib.Omega.{arith}
 use Rattle.report.proofs.put_rows.Statement.{statement}
@@ -23,10 +23,7 @@ shared-slice-read-put-row : tie.Need-shared-slice-read-put-row Inv-loop μ-loop
 shared-slice-read-put-row c = search needs
 
 put-row-requires : tie.Need-put-row-requires Inv-loop μ-loop
-put-row-requires c κs =
-    let l = c .before .before .before .loop in
-    let rows = c .before .before .before .before .before .before .args .rows .now in
-    putting-room (row-item (l .r) (getD rows (l .r) 0)) _ (l .inv .1) (row-items-next (l .r) rows (c .before .before .loop-test .taken)) (c .before .before .before .before .before .before .pre)
+put-row-requires c κs = search needs
 
 add-r : tie.Need-add-r Inv-loop μ-loop
 add-r c = search needs
@@ -36,12 +33,13 @@ loop-less c = search needs
 
 loop-again : tie.Need-loop-again Inv-loop μ-loop
 loop-again c =
-    let l = c .before .before .before .before .before .before .loop in
-    let rows = c .before .before .before .before .before .before .before .before .before .args .rows .now in
-    (omega arith, putting-next (row-item (l .r) (getD rows (l .r) 0)) _ (l .inv .1) (row-items-next (l .r) rows (c .before .before .before .before .before .loop-test .taken)) (c .before .before .put-row .ensures))
+    let turn = c .before .before .before .before .before in
+    let l = turn .before .loop in
+    let rows = turn .before .before .before .before .args .rows .now in
+    (omega arith, putting-next (row-item (l .r) (getD rows (l .r) 0)) _ (l .inv .1) (row-items-next (l .r) rows (turn .loop-test .taken)) (c .before .before .put-row .ensures))
 
 same-length : tie.Need-same-length Inv-loop μ-loop
-same-length c = c .before .loop .inv .1 .puts .same
+same-length c = putting-same (c .before .loop .inv .1)
 
 returns : tie.Need-returns Inv-loop μ-loop
 returns c = let l = c .before .loop in putting-all (l .inv .1) (ap (row-items (l .r)) (drop-of-length-le (c .before .before .before .before .args .rows .now) (c .loop-test .left)) ∙ row-items-none (l .r))
