@@ -18,7 +18,8 @@ use Rattle.format.specs.File.WriteLaws.{encode-length}
 use Rattle.format.specs.File.JudgeLaws.{rows-most}
 use Rattle.solvability.specs.AreaCall.{area-refusal}
 use Rattle.solvability.specs.Host.{answer-length, HostAnswer}
-use Rattle.report.specs.Report.{refused-line, Reporting}
+use Rattle.text.specs.Text.{refused-line, Prints}
+use Rattle.text.specs.declared.Printed.{Printed}
 use Rattle.report.specs.FileReport.{FileReport}
 use Rattle.promises.specs.CutLaws.{judge-cut}
 
@@ -83,8 +84,8 @@ module _ (k : ℕ) (s : List ℕ) (bytes : AreBytes s) (h : file-length most-col
 
   -- ---- the report
 
-  pub report-cut : (out : List ℕ) (len : ℕ) (out′ : List ℕ) → FileReport (take k s) out len out′ → FileReport s out len out′
-  report-cut out len out′ g = record {
-    if-refused = λ nz. subst (λ (r : ℕ). Reporting (refused-line r) out len out′) (judge-cut k s h) (g .if-refused (λ z. nz (sym (judge-cut k s h) ∙ z)));
-    if-accepted = λ z. subst (λ (t : List ℕ). FileReport t out len out′) (accepted-whole z) g .if-accepted z;
+  pub report-cut : (area : List ℕ) (r : Printed) (area′ : List ℕ) → FileReport (take k s) area r area′ → FileReport s area r area′
+  report-cut area r area′ g = record {
+    if-refused = λ nz. subst (λ (j : ℕ). Prints (refused-line j) area r area′) (judge-cut k s h) (g .if-refused (λ z. nz (sym (judge-cut k s h) ∙ z)));
+    if-accepted = λ z. subst (λ (t : List ℕ). FileReport t area r area′) (accepted-whole z) g .if-accepted z;
   }

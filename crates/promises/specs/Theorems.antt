@@ -1,5 +1,5 @@
 -- What is proved over the promises of the calls, one theorem after another. Assumes nothing.
-use Prim.Native.Nat.{ℕ, _*_, _^_, _≤_, _<_}
+use Prim.Native.Nat.{ℕ, _+_, _*_, _^_, _≤_, _<_}
 use mathlib.Core.Path.{_≡_, sym}
 use mathlib.Core.List.{List}
 use native.Mathlib.Omega.{arith}
@@ -9,7 +9,7 @@ use Rattle.columns.specs.Columns.{width}
 use Rattle.columns.specs.Words.Bytes.{AreBytes}
 use Rattle.mixed_models.specs.Starred.Models.{S2}
 use Rattle.format.specs.Lists.{over}
-use Rattle.limits.specs.Limits.{most-columns, most-rows}
+use Rattle.limits.specs.Limits.{most-columns, most-rows, longest-file}
 use Rattle.format.specs.Refusals.{refusal, mixed-refusal}
 use Rattle.format.specs.File.Format.{judge, file-length, ReadCall, WriteCall}
 use Rattle.layered.specs.Answers.{LayeredCall}
@@ -19,6 +19,7 @@ use Rattle.mixed.specs.MixedAnswers.{MixedCall}
 use Rattle.mixed.specs.declared.MixedAnswer.{MixedAnswer}
 use Rattle.promises.specs.Fixed.{SameAnswer, SameMixed}
 use Rattle.solvability.specs.Host.{HostAnswer}
+use Rattle.text.specs.declared.Printed.{Printed}
 use Rattle.report.specs.FileReport.{FileReport}
 use Rattle.promises.specs.TripLaws.{read-then-written, written-then-read}
 use Rattle.promises.specs.CutLaws.{judge-cut}
@@ -48,9 +49,9 @@ write-then-read = written-then-read
 pub cut-input : (k : ℕ) (s : List ℕ) → file-length most-columns most-rows most-rows < k → judge (take k s) ≡ judge s
 cut-input = judge-cut
 
--- The longest file has 9102 bytes, so 9103 are enough.
-pub cut-input-at-9103 : (s : List ℕ) → judge (take 9103 s) ≡ judge s
-cut-input-at-9103 s = judge-cut 9103 s (omega arith)
+-- One byte more than the longest file, which is what the programs read, is enough.
+pub cut-input-behind-the-longest : (s : List ℕ) → judge (take (longest-file + 1) s) ≡ judge s
+cut-input-behind-the-longest s = judge-cut (longest-file + 1) s (omega arith)
 
 -- What is promised of the part is promised of the whole: of the reading into areas,
 pub cut-input-read : (k : ℕ) (s : List ℕ) → AreBytes s → file-length most-columns most-rows most-rows < k
@@ -65,7 +66,7 @@ cut-input-host = host-cut
 
 -- and of the report that the program writes.
 pub cut-input-report : (k : ℕ) (s : List ℕ) → AreBytes s → file-length most-columns most-rows most-rows < k
-    → (out : List ℕ) (len : ℕ) (out′ : List ℕ) → FileReport (take k s) out len out′ → FileReport s out len out′
+    → (area : List ℕ) (r : Printed) (area′ : List ℕ) → FileReport (take k s) area r area′ → FileReport s area r area′
 cut-input-report = report-cut
 
 -- ---- areas longer than the model

@@ -8,7 +8,8 @@ use Rattle.format.specs.Lists.{over}
 use Rattle.format.specs.Refusals.{where-accepted}
 use Rattle.format.specs.File.Piece.{closed}
 use Rattle.format.specs.File.Format.{FileModel, fields, decode, no-model, model-read, read-refusal, ReadCall, write-refusal, bytes-written, WriteCall, lookup-refusal, lookup-length, lookup-start}
-use Rattle.report.specs.Report.{reported, Reporting}
+use Rattle.text.specs.Text.{print-refusal, printed, Prints}
+use Rattle.text.specs.declared.Printed.{Printed}
 use Rattle.solvability.specs.AreaCall.{area-refusal, AreaCall}
 use Rattle.solvability.specs.Host.{answer-length, HostAnswer}
 
@@ -58,9 +59,16 @@ pub write-surplus : (p n a b : ℕ) (cs ws out : List ℕ) (k len : ℕ) (out′
 write-surplus p n a b cs ws out k len out′ x =
     ap (λ (j : ℕ). drop j out′) (x .length-is) ∙ ap (drop (length (bytes-written p n a b cs ws out))) (x .bytes-are) ∙ surplus (bytes-written p n a b cs ws out) out ∙ ap (λ (j : ℕ). drop j out) (sym (x .length-is))
 
-pub report-surplus : (text out : List ℕ) (len : ℕ) (out′ : List ℕ) → Reporting text out len out′ → drop len out′ ≡ drop len out
-report-surplus text out len out′ x =
-    ap (λ (j : ℕ). drop j out′) (x .length-is) ∙ ap (drop (length (reported text out))) (x .bytes-are) ∙ surplus (reported text out) out ∙ ap (λ (j : ℕ). drop j out) (sym (x .length-is))
+-- a refused printing changes no byte and gives no length
+pub print-refused : (text area : List ℕ) (r : Printed) (area′ : List ℕ) → Prints text area r area′ → print-refusal text area ≢ 0 → (area′ ≡ area) × (r .length ≡ 0)
+unfolding over printed
+print-refused text area r area′ x h =
+    let e : printed text area ≡ [] = where-refused (print-refusal text area) text [] h in
+    (x .bytes-are ∙ ap (λ (l : List ℕ). over l area) e, x .length-is ∙ ap (λ (l : List ℕ). length l) e)
+
+pub print-surplus : (text area : List ℕ) (r : Printed) (area′ : List ℕ) → Prints text area r area′ → drop (r .length) area′ ≡ drop (r .length) area
+print-surplus text area r area′ x =
+    ap (λ (j : ℕ). drop j area′) (x .length-is) ∙ ap (drop (length (printed text area))) (x .bytes-are) ∙ surplus (printed text area) area ∙ ap (λ (j : ℕ). drop j area) (sym (x .length-is))
 
 pub host-number : (file area : List ℕ) (k k′ : ℕ) (area′ area″ : List ℕ) → HostAnswer file area k area′ → HostAnswer file area k′ area″ → k ≡ k′
 unfolding HostAnswer
