@@ -2,7 +2,7 @@
 use Prim.Native.Nat.{ℕ, _≤_, _<_}
 use mathlib.Core.Path.{_≡_, refl, sym, ap, _∙_, subst}
 use mathlib.Core.Logic.{by-cases}
-use mathlib.Core.List.{List, flatten}
+use mathlib.Core.List.{List, [], flatten}
 use native.Mathlib.Omega.{arith}
 use native.Mathlib.Decide.{ℕ-discrete}
 use lib.ListN.{length, take}
@@ -10,17 +10,22 @@ use lib.Seq.{take-all}
 use Rattle.columns.specs.Words.Bytes.{AreBytes}
 use Rattle.format.specs.Lists.{over}
 use Rattle.limits.specs.Limits.{most-columns, most-rows}
+use Rattle.format.specs.Refusals.{Tests, _then_, first-refusal}
 use Rattle.format.specs.RefusalLaws.{then-refused, where-refused}
 use Rattle.format.specs.File.Piece.{closed}
 use Rattle.format.specs.File.Format.{FileModel, fields, judge, decode, file-length, no-model, read-refusal, model-read, ReadCall}
 use Rattle.format.specs.File.FormatLaws.{decoded-valid, encode-decode}
 use Rattle.format.specs.File.WriteLaws.{encode-length}
 use Rattle.format.specs.File.JudgeLaws.{rows-most}
-use Rattle.solvability.specs.AreaCall.{area-refusal}
-use Rattle.solvability.specs.Host.{answer-length, HostAnswer}
+use Rattle.layered.specs.FileModel.{file-model}
+use Rattle.mixed.specs.MixedAnswers.{MixedAnswered, file-mixed, mixed-question}
+use Rattle.host.specs.AreaCall.{area-refusal, AreaCall}
+use Rattle.host.specs.AnswerBytes.{answer-length, AnswerWritten, mixed-length, MixedWritten}
+use Rattle.solvability.specs.Host.{HostAnswer, HostMixedAnswer}
 use Rattle.text.specs.Text.{refused-line, Prints}
 use Rattle.text.specs.declared.Printed.{Printed}
-use Rattle.report.specs.FileReport.{FileReport}
+use Rattle.report.specs.FileReport.{Reports, FileReport}
+use Rattle.mixed_report.specs.MixedReport.{mixed-answer-text, MixedFileReport}
 use Rattle.promises.specs.CutLaws.{judge-cut}
 
 -- an accepted file is no longer than the longest
@@ -65,27 +70,59 @@ module _ (k : ℕ) (s : List ℕ) (bytes : AreBytes s) (h : file-length most-col
       parameters-are = g .parameters-are ∙ ap (λ (m : FileModel). over (m .parameters) ws) model-cut;
     }
 
-  -- ---- the C call
+  -- ---- the C calls
+
+  -- of every call on a file that lends an area
+  module _ (after : List ℕ → Tests) (least : ℕ) (Written : List ℕ → List ℕ → List ℕ → Type 0) where
+    abbrev Call : List ℕ → List ℕ → ℕ → List ℕ → Type 0
+    Call t = AreaCall (closed fields t) (after t) least (Written t)
+
+    area-cut : (area : List ℕ) (number : ℕ) (area′ : List ℕ) → Call (take k s) area number area′ → Call s area number area′
+    unfolding area-refusal judge
+    area-cut area number area′ g =
+        by-cases (ℕ-discrete (judge s) 0)
+        (λ z. subst (λ (t : List ℕ). Call t area number area′) (accepted-whole z) g)
+        (λ nz.
+        let e : judge s ≡ area-refusal (closed fields s) (after s) least area = then-refused (closed fields s) _ (judge s) refl nz in
+        let f : judge s ≡ area-refusal (closed fields (take k s)) (after (take k s)) least area =
+        then-refused (closed fields (take k s)) _ (judge s) (sym (judge-cut k s h)) nz in
+        record {
+          is-number = g .is-number ∙ sym f ∙ e;
+          if-refused = λ _. g .if-refused (λ z. nz (f ∙ z));
+          if-accepted = λ z. absurd (nz (e ∙ z));
+        })
 
   pub host-cut : (area : List ℕ) (number : ℕ) (area′ : List ℕ) → HostAnswer (take k s) area number area′ → HostAnswer s area number area′
-  unfolding HostAnswer area-refusal judge
-  host-cut area number area′ g =
-      by-cases (ℕ-discrete (judge s) 0)
-      (λ z. subst (λ (t : List ℕ). HostAnswer t area number area′) (accepted-whole z) g)
-      (λ nz.
-      let e : judge s ≡ area-refusal (closed fields s) answer-length area = then-refused (closed fields s) _ (judge s) refl nz in
-      let f : judge s ≡ area-refusal (closed fields (take k s)) answer-length area =
-      then-refused (closed fields (take k s)) _ (judge s) (sym (judge-cut k s h)) nz in
-      record {
-        is-number = g .is-number ∙ sym f ∙ e;
-        if-refused = λ _. g .if-refused (λ z. nz (f ∙ z));
-        if-accepted = λ z. absurd (nz (e ∙ z));
-      })
+  host-cut = area-cut (λ t. []) answer-length (λ t. AnswerWritten (file-model t))
 
-  -- ---- the report
+  pub host-mixed-cut : (area : List ℕ) (number : ℕ) (area′ : List ℕ) → HostMixedAnswer (take k s) area number area′ → HostMixedAnswer s area number area′
+  host-mixed-cut = area-cut mixed-question mixed-length (λ t. MixedWritten (file-mixed t))
+
+  -- ---- the reports
+
+  -- of every report of a file
+  module _ {A : Type 0} (after : List ℕ → Tests) (Holds : List ℕ → A → Type 0) (text : A → List ℕ) where
+    abbrev Report : List ℕ → List ℕ → Printed → List ℕ → Type 0
+    Report t = Reports (first-refusal (closed fields t then after t)) (Holds t) text
+
+    reports-cut : (area : List ℕ) (r : Printed) (area′ : List ℕ) → Report (take k s) area r area′ → Report s area r area′
+    unfolding judge
+    reports-cut area r area′ g =
+        by-cases (ℕ-discrete (judge s) 0)
+        (λ z. subst (λ (t : List ℕ). Report t area r area′) (accepted-whole z) g)
+        (λ nz.
+        let e = then-refused (closed fields s) (after s) (judge s) refl nz in
+        let f = then-refused (closed fields (take k s)) (after (take k s)) (judge s) (sym (judge-cut k s h)) nz in
+        record {
+          if-refused = λ _. subst (λ (j : ℕ). Prints (refused-line j) area r area′) (sym f ∙ e) (g .if-refused (λ z. nz (f ∙ z)));
+          if-accepted = λ z. absurd (nz (e ∙ z));
+        })
 
   pub report-cut : (area : List ℕ) (r : Printed) (area′ : List ℕ) → FileReport (take k s) area r area′ → FileReport s area r area′
   report-cut area r area′ g = record {
     if-refused = λ nz. subst (λ (j : ℕ). Prints (refused-line j) area r area′) (judge-cut k s h) (g .if-refused (λ z. nz (sym (judge-cut k s h) ∙ z)));
     if-accepted = λ z. subst (λ (t : List ℕ). FileReport t area r area′) (accepted-whole z) g .if-accepted z;
   }
+
+  pub mixed-report-cut : (area : List ℕ) (r : Printed) (area′ : List ℕ) → MixedFileReport (take k s) area r area′ → MixedFileReport s area r area′
+  mixed-report-cut = reports-cut mixed-question (λ t. MixedAnswered (file-mixed t)) mixed-answer-text

@@ -18,12 +18,13 @@ use Rattle.layered.specs.FileModel.{file-model}
 use Rattle.mixed.specs.MixedAnswers.{MixedCall}
 use Rattle.mixed.specs.declared.MixedAnswer.{MixedAnswer}
 use Rattle.promises.specs.Fixed.{SameAnswer, SameMixed}
-use Rattle.solvability.specs.Host.{HostAnswer}
+use Rattle.solvability.specs.Host.{HostAnswer, HostMixedAnswer}
 use Rattle.text.specs.declared.Printed.{Printed}
 use Rattle.report.specs.FileReport.{FileReport}
+use Rattle.mixed_report.specs.MixedReport.{MixedFileReport}
 use Rattle.promises.specs.TripLaws.{read-then-written, written-then-read}
 use Rattle.promises.specs.CutLaws.{judge-cut}
-use Rattle.promises.specs.CutCallLaws.{reading-cut, host-cut, report-cut}
+use Rattle.promises.specs.CutCallLaws.{reading-cut, host-cut, host-mixed-cut, report-cut, mixed-report-cut}
 use Rattle.promises.specs.AnswerLaws.{refusal-same, mixed-refusal-same, write-same, layered-same, mixed-same}
 use Rattle.promises.specs.DocumentFile.{document-file, document-accepted, document-model}
 
@@ -59,15 +60,23 @@ pub cut-input-read : (k : ℕ) (s : List ℕ) → AreBytes s → file-length mos
     → ReadCall (take k s) cs ws the-refusal p n a b cs′ ws′ → ReadCall s cs ws the-refusal p n a b cs′ ws′
 cut-input-read = reading-cut
 
--- of the C call,
+-- of the C calls,
 pub cut-input-host : (k : ℕ) (s : List ℕ) → AreBytes s → file-length most-columns most-rows most-rows < k
     → (area : List ℕ) (number : ℕ) (area′ : List ℕ) → HostAnswer (take k s) area number area′ → HostAnswer s area number area′
 cut-input-host = host-cut
 
--- and of the report that the program writes.
+pub cut-input-host-mixed : (k : ℕ) (s : List ℕ) → AreBytes s → file-length most-columns most-rows most-rows < k
+    → (area : List ℕ) (number : ℕ) (area′ : List ℕ) → HostMixedAnswer (take k s) area number area′ → HostMixedAnswer s area number area′
+cut-input-host-mixed = host-mixed-cut
+
+-- and of the reports that the programs write.
 pub cut-input-report : (k : ℕ) (s : List ℕ) → AreBytes s → file-length most-columns most-rows most-rows < k
     → (area : List ℕ) (r : Printed) (area′ : List ℕ) → FileReport (take k s) area r area′ → FileReport s area r area′
 cut-input-report = report-cut
+
+pub cut-input-report-mixed : (k : ℕ) (s : List ℕ) → AreBytes s → file-length most-columns most-rows most-rows < k
+    → (area : List ℕ) (r : Printed) (area′ : List ℕ) → MixedFileReport (take k s) area r area′ → MixedFileReport s area r area′
+cut-input-report-mixed = mixed-report-cut
 
 -- ---- areas longer than the model
 

@@ -1,17 +1,17 @@
--- What a refused or accepted call does to lent areas, from the promises alone.
+-- What a call does to lent areas, from its promise alone: a refused one changes nothing and gives zeros, an accepted one leaves the surplus.
+-- Assumes nothing.
 use Prim.Native.Nat.{ℕ, zero, suc}
 use mathlib.Core.Path.{_≡_, refl, sym, ap, _∙_}
 use mathlib.Core.Logic.{_≢_}
 use mathlib.Core.List.{List, [], _∷_, _++_, flatten}
 use lib.ListN.{length, drop}
 use Rattle.format.specs.Lists.{over}
-use Rattle.format.specs.Refusals.{where-accepted}
-use Rattle.format.specs.File.Piece.{closed}
+use Rattle.format.specs.Refusals.{Tests, where-accepted}
 use Rattle.format.specs.File.Format.{FileModel, fields, decode, no-model, model-read, read-refusal, ReadCall, write-refusal, bytes-written, WriteCall, lookup-refusal, lookup-length, lookup-start}
 use Rattle.text.specs.Text.{print-refusal, printed, Prints}
 use Rattle.text.specs.declared.Printed.{Printed}
-use Rattle.solvability.specs.AreaCall.{area-refusal, AreaCall}
-use Rattle.solvability.specs.Host.{answer-length, HostAnswer}
+use Rattle.host.specs.AreaCall.{AreaCall, Written}
+use Rattle.solvability.specs.Host.{HostAnswer, HostMixedAnswer}
 
 where-refused : {A : Type 0} (k : ℕ) (x o : A) → k ≢ 0 → where-accepted k x o ≡ o
 where-refused zero x o h = absurd (h refl)
@@ -70,13 +70,32 @@ pub print-surplus : (text area : List ℕ) (r : Printed) (area′ : List ℕ) �
 print-surplus text area r area′ x =
     ap (λ (j : ℕ). drop j area′) (x .length-is) ∙ ap (drop (length (printed text area))) (x .bytes-are) ∙ surplus (printed text area) area ∙ ap (λ (j : ℕ). drop j area) (sym (x .length-is))
 
+-- two results of one call on a file agree in the number, and where it refuses the area is as it was
+module _ (before after : Tests) (least : ℕ) (Shown : List ℕ → List ℕ → Type 0) (area : List ℕ) where
+  area-number : (k k′ : ℕ) (area′ area″ : List ℕ) → AreaCall before after least Shown area k area′ → AreaCall before after least Shown area k′ area″ → k ≡ k′
+  area-number k k′ area′ area″ x y = x .is-number ∙ sym (y .is-number)
+
+  area-refused : (k : ℕ) (area′ : List ℕ) → AreaCall before after least Shown area k area′ → k ≢ 0 → area′ ≡ area
+  area-refused k area′ x h = x .if-refused (λ e. h (x .is-number ∙ e))
+
+-- the layered call,
 pub host-number : (file area : List ℕ) (k k′ : ℕ) (area′ area″ : List ℕ) → HostAnswer file area k area′ → HostAnswer file area k′ area″ → k ≡ k′
-unfolding HostAnswer
-host-number file area k k′ area′ area″ x y = x .is-number ∙ sym (y .is-number)
+host-number file area = area-number _ _ _ _ area
 
 pub host-refused : (file area : List ℕ) (k : ℕ) (area′ : List ℕ) → HostAnswer file area k area′ → k ≢ 0 → area′ ≡ area
-unfolding HostAnswer
-host-refused file area k area′ x h = x .if-refused (λ e. h (x .is-number ∙ e))
+host-refused file area = area-refused _ _ _ _ area
+
+-- and the mixed one
+pub host-mixed-number : (file area : List ℕ) (k k′ : ℕ) (area′ area″ : List ℕ) → HostMixedAnswer file area k area′ → HostMixedAnswer file area k′ area″ → k ≡ k′
+host-mixed-number file area = area-number _ _ _ _ area
+
+pub host-mixed-refused : (file area : List ℕ) (k : ℕ) (area′ : List ℕ) → HostMixedAnswer file area k area′ → k ≢ 0 → area′ ≡ area
+host-mixed-refused file area = area-refused _ _ _ _ area
+
+-- the bytes behind an answer are as they were
+pub written-surplus : {A : Type 0} (Holds : A → Type 0) (bytes : A → List ℕ) (area area′ : List ℕ) (w : Written Holds bytes area area′)
+    → drop (length (bytes (w .answer))) area′ ≡ drop (length (bytes (w .answer))) area
+written-surplus Holds bytes area area′ w = ap (drop (length (bytes (w .answer)))) (w .is-shown) ∙ surplus (bytes (w .answer)) area
 
 pub lookup-refused : (s : List ℕ) (i : ℕ) → lookup-refusal s i ≢ 0 → (lookup-length s i ≡ 0) × (lookup-start s i ≡ 0)
 unfolding lookup-length lookup-start
