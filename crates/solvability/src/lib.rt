@@ -4,13 +4,8 @@ mod host;
 
 pub use area::layered_bytes;
 pub use area::mixed_bytes;
-pub use format::Reader;
-pub use format::after_field;
-pub use format::judge_field;
 pub use format::judge_file;
 pub use format::judge_model;
-pub use format::judge_rest;
-pub use format::open_reader;
 pub use format::refusals;
 pub use host::wundreska_check;
 pub use layered::Answer;
