@@ -1,6 +1,8 @@
--- Document 01, "Shortcuts that look sound": what each of them answers contradicts the promise, on a small model. Assumes nothing.
+-- Document 01, "Shortcuts that look sound", and further wrong answers: what each of them gives contradicts the promise, on a small model. Assumes
+-- nothing.
 use Prim.Native.Nat.{ℕ, suc, _+_, _*_, _%_}
 use mathlib.Core.Path.{_≡_, refl, sym, ap, _∙_}
+use mathlib.Core.Logic.{_≢_}
 use mathlib.Core.Bool.{Bool, true, false, true≢false, decide}
 use mathlib.Core.List.{List, [], _∷_}
 use native.Mathlib.Omega.{arith}
@@ -45,6 +47,14 @@ two-is-short = refl
 pub unplaced-as-short : (r : Answer) → LayeredCall 1021 5 2 2 (1 ∷ 1 ∷ 1 ∷ 1 ∷ 0 ∷ 0 ∷ 2 ∷ 1 ∷ 1 ∷ 0 ∷ []) (17 ∷ 18 ∷ []) r → members (r .short) 2 ≡ false → ⊥
 unplaced-as-short r x h = true≢false (sym two-is-short ∙ sym (table .s4 .is-short 2) ∙ sym (x .if-accepted S4-accepted .solved .is-short 2) ∙ h)
 
+S3-accepted : refusal 1021 2 2 0 (1 ∷ 1 ∷ 1 ∷ 1 ∷ []) [] ≡ 0
+unfolding run
+S3-accepted = refl
+
+-- the same balance twice passes for two: S3 is called determined
+pub sum-passes-as-another : (r : Answer) → LayeredCall 1021 2 2 0 (1 ∷ 1 ∷ 1 ∷ 1 ∷ []) [] r → r .verdict ≡ 1 → ⊥
+sum-passes-as-another r x z = let e = x .if-accepted S3-accepted .is-verdict in let f = table .s3 .is-verdict in omega arith
+
 S9-accepted : mixed-refusal 1021 2 2 2 (1 ∷ 1 ∷ 1 ∷ 1 ∷ []) (1 ∷ 0 ∷ []) ≡ 0
 unfolding run
 S9-accepted = refl
@@ -52,6 +62,18 @@ S9-accepted = refl
 -- in a mixed place with both the parameter is dropped: S9 falls to 1
 pub parameter-dropped : (r : MixedAnswer) → MixedCall 1021 2 2 2 (1 ∷ 1 ∷ 1 ∷ 1 ∷ []) (1 ∷ 0 ∷ []) r → r .rank ≡ 1 → ⊥
 parameter-dropped r x z = let e = x .if-accepted S9-accepted .is-rank in let f = table .s9 .is-rank in omega arith
+
+-- the verdict is taken from the number of rows, m: S8 is called determined
+S8-accepted : mixed-refusal 1021 2 2 2 (1 ∷ 1 ∷ 1 ∷ 1 ∷ []) (0 ∷ 0 ∷ []) ≡ 0
+unfolding run
+S8-accepted = refl
+
+pub square-called-determined : (r : MixedAnswer) → MixedCall 1021 2 2 2 (1 ∷ 1 ∷ 1 ∷ 1 ∷ []) (0 ∷ 0 ∷ []) r → r .verdict ≡ 1 → ⊥
+square-called-determined r x z = let e = x .if-accepted S8-accepted .is-verdict in let f = table .s8 .is-verdict in omega arith
+
+-- it refuses every mixed question
+pub refuses-mixed : (r : MixedAnswer) → MixedCall 1021 2 2 2 (1 ∷ 1 ∷ 1 ∷ 1 ∷ []) (0 ∷ 0 ∷ []) r → r .refusal ≢ 0 → ⊥
+refuses-mixed r x h = h (x .is-refusal ∙ S8-accepted)
 
 -- ---- two models modulo 2, computed
 

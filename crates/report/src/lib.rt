@@ -61,12 +61,12 @@ fn put_answer(out: &mut [u8], answer: Answer) -> usize
     let after_rank = put_number_line(out, after_verdict, b"rank", answer.rank as usize);
     let after_constants = put_column_line(out, after_rank, b"constants", answer.constants);
     let rows = answer.rows;
-    let after_parameters = put_row_line(out, after_constants, &rows);
+    let after_parameters = put_row_line(out, after_constants, rows);
     put_column_line(out, after_parameters, b"short", answer.short)
 }
 
-fn put_row_line(out: &mut [u8], at: usize, rows: &[u8]) -> usize
-    ensures { λ r. ⌜ Puts (line (ascii "parameters") (row-items 0 (now (rows .entry)))) (now (out .entry)) at (now (out .exit)) r ⌝ }
+fn put_row_line(out: &mut [u8], at: usize, rows: [u8; MOST_ROWS]) -> usize
+    ensures { λ r. ⌜ Puts (line (ascii "parameters") (row-items 0 rows)) (now (out .entry)) at (now (out .exit)) r ⌝ }
 {
     let after_word = put_bytes(out, at, b"parameters");
     let after_items = put_rows(out, after_word, rows);
@@ -74,12 +74,12 @@ fn put_row_line(out: &mut [u8], at: usize, rows: &[u8]) -> usize
 }
 
 // The rows that have a column, each with it.
-fn put_rows(out: &mut [u8], at: usize, rows: &[u8]) -> usize
-    ensures { λ r. ⌜ Puts (row-items 0 (now (rows .entry))) (now (out .entry)) at (now (out .exit)) r ⌝ }
+fn put_rows(out: &mut [u8], at: usize, rows: [u8; MOST_ROWS]) -> usize
+    ensures { λ r. ⌜ Puts (row-items 0 rows) (now (out .entry)) at (now (out .exit)) r ⌝ }
 {
     let mut place = at;
     let mut r = 0;
-    while r < rows.len() {
+    while r < MOST_ROWS {
         place = put_row(out, place, r, rows[r]);
         r = r + 1;
     }

@@ -24,9 +24,6 @@ slice-aggregate-put-column-line c = search needs
 put-column-line-requires : tie.Need-put-column-line-requires
 put-column-line-requires c κs = search needs
 
-slice-aggregate-put-row-line : tie.Need-slice-aggregate-put-row-line
-slice-aggregate-put-row-line c = search needs
-
 put-row-line-requires : tie.Need-put-row-line-requires
 put-row-line-requires c κs = search needs
 
@@ -44,7 +41,7 @@ unfolding answer-text ascii
 returns c =
     let short = c .before .before in
     let parameters = short .before .before .before .before .before in
-    let constants = parameters .before .before .before .before .before .before in
+    let constants = parameters .before .before .before .before .before in
     let rank = constants .before .before .before .before .before in
     let verdict = rank .before .before .before .before .before .before in
     puts-then (verdict .put-verdict-line .ensures) (puts-then (rank .put-number-line .ensures) (puts-then (constants .put-column-line .ensures) (puts-then (parameters .put-row-line .ensures) (short .put-column-line2 .ensures))))
@@ -59,7 +56,6 @@ put-answer-spec =
     put-number-line-requires
     slice-aggregate-put-column-line
     put-column-line-requires
-    slice-aggregate-put-row-line
     put-row-line-requires
     slice-aggregate-put-column-line-2
     put-column-line-requires-2

@@ -1,83 +1,70 @@
 -- `read::read_parameters` meets its contract. The invariant: the rows before the rest are read, and those of the rest are left.
--- The measure is the number of rows left. Assumes nothing.
-use Prim.Native.Nat.{ℕ, _-_, _*_, _≤_}
-use mathlib.Core.List.{List, _∷_}
-use mathlib.Core.Path.{_≡_, sym, ap, _∙_}
-use native.Mathlib.Omega.{arith}
-use lib.ListN.{length, take, drop, length-drop}
-use lib.Seq.{take-take}
+-- The measure is how many are left. Assumes nothing.
 use borrow.Author.Needs.{needs}
+use native.Mathlib.Omega.{arith}
+use Prim.Native.Nat.{ℕ, _+_, _-_, _≤_}
+use mathlib.Core.List.{List}
+use mathlib.Core.Path.{_≡_, refl, sym, ap, _∙_}
+use lib.ListN.{length, take}
 use Rattle.columns.specs.Bytes.{number}
-use Rattle.loader.specs.ReadLaws.{parameters-next, parameters-done, parameters-length}
-use Rattle.format.specs.File.Steps.{parameters-of}
-use Rattle.format.specs.ListLaws.{tail-part}
+use Rattle.limits.specs.Limits.{set-bytes}
+use Rattle.format.specs.File.Piece.{said-body}
+use Rattle.format.specs.File.Steps.{parameters-said}
 use Rattle.format.specs.OverLaws.{Wrote, wrote-none, wrote-set, wrote-all}
+use Rattle.loader.proofs.Reading.{parameters-next, parameters-done, parameters-length}
 use Rattle.loader.proofs.read.read_parameters.Statement.{statement}
 use Rattle.loader.proofs.read.read_parameters.Tie as tie
 
 abbrev Inv-loop : tie.InvT-loop
-Inv-loop out₀ file b rest₀ at₀ left₀ out rest at left = Wrote (parameters-of b file) (parameters-of left rest) out₀ out at × (11 * left ≤ length rest)
+Inv-loop out₀ file b rest₀ at₀ out rest at = Wrote (parameters-said b file) (parameters-said (b - at) rest) out₀ out at × (at ≤ b)
 
 abbrev μ-loop : tie.MeasureT-loop
-μ-loop out₀ file b rest₀ at₀ left₀ out rest at left = left
+μ-loop out₀ file b rest₀ at₀ out rest at = b - at
+
+-- while rows are left, the area has room for the next one
+room : (c : tie.After-of-bytes Inv-loop μ-loop) → c .before .before .before .loop .at + 1 ≤ length (c .before .before .before .loop .out)
+room c = let l = c .before .before .before .loop in omega (arith, parameters-length (c .before .before .before .before .before .before .args .b - l .at) (l .rest .now), l .inv .0 .room)
 
 loop-holds : tie.Need-loop-holds Inv-loop μ-loop
-loop-holds c =
-    let h = c .before .before .pre in
-    (wrote-none _ _ (omega (arith, parameters-length (c .before .before .args .b) (c .before .before .args .file .now), h .1)), h .0)
+loop-holds c = let a = c .before .before .args in
+    let all : a .b - 0 ≡ a .b = omega arith in
+    (rw all (wrote-none _ _ (omega (arith, parameters-length (a .b) (a .file .now)))), omega arith)
 
-sub-of-bytes : tie.Need-sub-of-bytes Inv-loop μ-loop
-sub-of-bytes c = omega arith
-
-part-of-bytes-start : tie.Need-part-of-bytes-start Inv-loop μ-loop
-part-of-bytes-start c = omega arith
-
-part-of-bytes-end : tie.Need-part-of-bytes-end Inv-loop μ-loop
-part-of-bytes-end c = omega arith
+said-body-requires : tie.Need-said-body-requires Inv-loop μ-loop
+said-body-requires c κs = search needs
 
 of-bytes-requires : tie.Need-of-bytes-requires Inv-loop μ-loop
 of-bytes-requires c κs = search needs
 
 mul-out : tie.Need-mul-out Inv-loop μ-loop
-mul-out c = omega (arith, parameters-length (c .before .before .before .loop .left) (c .before .before .before .loop .rest .now), c .before .before .before .loop .inv .0, c .before .before .before .loop .inv .1, c .before .before .before .before .before .before .good)
+mul-out c = omega (arith, room c)
 
 slice-write-out : tie.Need-slice-write-out Inv-loop μ-loop
-slice-write-out c = omega (arith, parameters-length (c .before .before .before .loop .left) (c .before .before .before .loop .rest .now), c .before .before .before .loop .inv .0, c .before .before .before .loop .inv .1, c .before .before .before .before .before .before .good)
+slice-write-out c = omega (arith, room c)
 
-sub-rest : tie.Need-sub-rest Inv-loop μ-loop
-sub-rest c = omega arith
-
-part-rest-start : tie.Need-part-rest-start Inv-loop μ-loop
-part-rest-start c = omega arith
-
-part-rest-end : tie.Need-part-rest-end Inv-loop μ-loop
-part-rest-end c = omega arith
+said-rest-requires : tie.Need-said-rest-requires Inv-loop μ-loop
+said-rest-requires c κs = search needs
 
 add-at : tie.Need-add-at Inv-loop μ-loop
-add-at c = omega (arith, parameters-length (c .before .before .before .before .loop .left) (c .before .before .before .before .loop .rest .now), c .before .before .before .before .loop .inv .0, c .before .before .before .before .loop .inv .1, c .before .before .before .before .before .before .before .good)
-
-sub-left : tie.Need-sub-left Inv-loop μ-loop
-sub-left c = omega arith
+add-at c = omega (arith, room (c .before))
 
 loop-less : tie.Need-loop-less Inv-loop μ-loop
 loop-less c = omega arith
 
 loop-again : tie.Need-loop-again Inv-loop μ-loop
-loop-again c =
-    let l = c .before .before .before .before .loop in
+loop-again c = let l = c .before .before .before .before .loop in
     let r = l .rest .now in
-    let t : take (length r - 11) (drop 11 r) ≡ drop 11 r = tail-part 11 r in
-    let set : c .before .of-bytes .result ≡ number (take 8 (drop 3 r)) = c .before .of-bytes .ensures ∙ ap number (take-take 8 8 (drop 3 r) (omega arith)) in (
-      wrote-set (c .before .of-bytes .result) _ (l .inv .0)
-          (parameters-next (l .left) r (c .before .before .before .loop-test .taken) ∙ ap (λ (x : ℕ). x ∷ parameters-of (l .left - 1) (drop 11 r)) (sym set) ∙ ap (λ (s : List ℕ). c .before .of-bytes .result ∷ parameters-of (l .left - 1) s) (sym t)),
-      rw (t, length-drop) (omega arith),
-    )
+    let b = c .before .before .before .before .before .before .before .args .b in
+    let set = c .before .of-bytes in
+    let q : b - l .at - 1 ≡ b - (l .at + 1) = omega arith in
+    let body : number (take set-bytes (said-body r)) ≡ set .result = ap (λ (t : List ℕ). number (take set-bytes t)) (sym (c .before .before .said-body .ensures)) ∙ sym (set .ensures) in
+    (wrote-set (set .result) _ (l .inv .0) (parameters-next (b - l .at) r (omega arith) ∙ rw (q, body, ← c .said-rest .ensures .bytes-are) refl), omega arith)
 
 same-length : tie.Need-same-length Inv-loop μ-loop
 same-length c = c .before .loop .inv .0 .same
 
 returns : tie.Need-returns Inv-loop μ-loop
-returns c = wrote-all (c .before .loop .inv .0) (parameters-done _ _ (c .loop-test .left))
+returns c = let l = c .before .loop in wrote-all (l .inv .0) (parameters-done _ _ (omega arith))
 
 pub read-parameters-spec : {M : Type 1} → statement M
 read-parameters-spec =
@@ -86,17 +73,12 @@ read-parameters-spec =
     Inv-loop
     μ-loop
     loop-holds
-    sub-of-bytes
-    part-of-bytes-start
-    part-of-bytes-end
+    said-body-requires
     of-bytes-requires
     mul-out
     slice-write-out
-    sub-rest
-    part-rest-start
-    part-rest-end
+    said-rest-requires
     add-at
-    sub-left
     loop-less
     loop-again
     same-length
