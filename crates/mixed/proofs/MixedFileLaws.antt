@@ -17,7 +17,7 @@ use Rattle.format.specs.RefusalLaws.{then-refused, then-passed}
 use Rattle.format.specs.File.Piece.{closed}
 use Rattle.format.specs.File.Format.{fields, judge, decode, ReadCall}
 use Rattle.layered.specs.Answers.{RankCall}
-use Rattle.layered.specs.FileLaws.{own-constants, own-parameters, own-refusal, own-accepted, own-sizes, own-made, judged, call-refused, call-as}
+use Rattle.layered.proofs.FileLaws.{own-constants, own-parameters, own-refusal, own-accepted, own-sizes, own-made, judged, call-refused, call-as}
 use Rattle.mixed.specs.declared.MixedAnswer.{MixedAnswer}
 use Rattle.mixed.specs.MixedAnswers.{MixedRefused, MixedAnswered, MixedCall, mixed-question, MixedFileCall}
 
