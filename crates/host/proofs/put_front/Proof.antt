@@ -64,9 +64,9 @@ returns c =
     let second = bytes-of set-bytes (a .second) in
     let third = bytes-of set-bytes (a .third) in
     let w₁ = wrote-first (front-bytes (a .verdict) (a .rank) (a .first) (a .second) (a .third)) (a .verdict ∷ a .rank ∷ []) (first ++ (second ++ third)) 2 refl (start .pre) (at-numbers .put-numbers .ensures) refl in
-    let w₂ = wrote-room first (second ++ third) _ set-bytes w₁ refl (at-first .put-set .ensures) refl in
-    let w₃ = wrote-room second third _ set-bytes w₂ refl (at-second .put-set2 .ensures) refl in
-    wrote-all (wrote-room third [] _ set-bytes w₃ (sym (append-nil third)) (at-third .put-set3 .ensures) refl) refl
+    let w₂ = wrote-room first (second ++ third) _ set-bytes w₁ refl (at-first .put-set .ensures .bytes-are) refl in
+    let w₃ = wrote-room second third _ set-bytes w₂ refl (at-second .put-set2 .ensures .bytes-are) refl in
+    wrote-all (wrote-room third [] _ set-bytes w₃ (sym (append-nil third)) (at-third .put-set3 .ensures .bytes-are) refl) refl
 
 pub put-front-spec : {M : Type 1} → statement M
 put-front-spec =
