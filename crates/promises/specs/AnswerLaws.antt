@@ -24,7 +24,7 @@ use Rattle.mixed_models.specs.MixedTheorem.{form-rank}
 use Rattle.limits.specs.Limits.{most-columns}
 use Rattle.format.specs.Lists.{rows-of, over}
 use Rattle.format.specs.Refusals.{Tests, unless, _then_, first-refusal, where-accepted, area-short, not-mixed, area-test, model-tests, refusal, mixed-test, mixed-tests, mixed-refusal}
-use Rattle.format.specs.File.Format.{FileModel, encode, file-length, handed-over, write-refusal, bytes-written, WriteCall}
+use Rattle.format.specs.File.Format.{FileModel, encode, handed-over, write-refusal, bytes-written, WriteCall}
 use Rattle.format.specs.RefusalLaws.{then-zero, unless-zero}
 use Rattle.format.specs.TestLaws.{area-reads}
 use Rattle.layered.specs.Answers.{LayeredCall}
@@ -76,7 +76,7 @@ module _ (p n a b : ℕ) (cs ds ws vs : List ℕ) (ec : take (a * n) cs ≡ take
 
   write-refusal-same : (out : List ℕ) → write-refusal p n a b cs ws out ≡ write-refusal p n a b ds vs out
   unfolding write-refusal
-  write-refusal-same out = ap (λ (ts : Tests). first-refusal (ts then unless (area-test (file-length n a b) (length out)) area-short)) tests-same
+  write-refusal-same out = ap₂ (λ (ts : Tests) (m : FileModel). first-refusal (ts then unless (area-test (length (encode m)) (length out)) area-short)) tests-same handed-same
 
   bytes-same : (out : List ℕ) → bytes-written p n a b cs ws out ≡ bytes-written p n a b ds vs out
   unfolding bytes-written

@@ -9,14 +9,13 @@ use lib.ListN.{length, take}
 use lib.Seq.{take-all}
 use Rattle.columns.specs.Words.Bytes.{AreBytes}
 use Rattle.format.specs.Lists.{over}
-use Rattle.limits.specs.Limits.{most-columns, most-rows}
+use Rattle.limits.specs.Limits.{longest-file}
 use Rattle.format.specs.Refusals.{Tests, _then_, first-refusal}
 use Rattle.format.specs.RefusalLaws.{then-refused, where-refused}
 use Rattle.format.specs.File.Piece.{closed}
-use Rattle.format.specs.File.Format.{FileModel, fields, judge, decode, file-length, no-model, read-refusal, model-read, ReadCall}
+use Rattle.format.specs.File.Format.{FileModel, fields, judge, decode, no-model, read-refusal, model-read, ReadCall}
 use Rattle.format.specs.File.FormatLaws.{decoded-valid, encode-decode}
-use Rattle.format.specs.File.WriteLaws.{encode-length}
-use Rattle.format.specs.File.JudgeLaws.{rows-most}
+use Rattle.format.specs.File.WriteLaws.{file-length}
 use Rattle.layered.specs.FileModel.{file-model}
 use Rattle.mixed.specs.MixedAnswers.{MixedAnswered, file-mixed, mixed-question}
 use Rattle.host.specs.AreaCall.{area-refusal, AreaCall}
@@ -26,16 +25,16 @@ use Rattle.text.specs.Text.{refused-line, Prints}
 use Rattle.text.specs.declared.Printed.{Printed}
 use Rattle.report.specs.FileReport.{Reports, FileReport}
 use Rattle.mixed_report.specs.MixedReport.{mixed-answer-text, MixedFileReport}
-use Rattle.promises.specs.CutLaws.{judge-cut}
+use Rattle.promises.specs.CutLaws.{rows-most, judge-cut}
 
 -- an accepted file is no longer than the longest
-pub accepted-most : (s : List ℕ) → AreBytes s → judge s ≡ 0 → length s ≤ file-length most-columns most-rows most-rows
+pub accepted-most : (s : List ℕ) → AreBytes s → judge s ≡ 0 → length s ≤ longest-file
 accepted-most s bytes e =
     let v = decoded-valid s bytes e in
-    let l : length s ≡ file-length (decode s .n) (decode s .a) (decode s .b) = sym (ap length (encode-decode s bytes e)) ∙ encode-length (decode s) v in
+    let l = sym (ap length (encode-decode s bytes e)) ∙ file-length (decode s) v in
     omega (arith, rows-most (decode s .a) (decode s .n) (v .a-most) (v .n-most), v .b-most)
 
-module _ (k : ℕ) (s : List ℕ) (bytes : AreBytes s) (h : file-length most-columns most-rows most-rows < k) where
+module _ (k : ℕ) (s : List ℕ) (bytes : AreBytes s) (h : longest-file < k) where
   -- an accepted file is not cut
   pub accepted-whole : judge s ≡ 0 → take k s ≡ s
   accepted-whole e = take-all k s (omega (arith, accepted-most s bytes e))

@@ -6,18 +6,18 @@ use mathlib.Core.Bool.{Bool}
 use mathlib.Core.List.{List, [], _∷_}
 use native.Mathlib.Omega.{arith}
 use native.Mathlib.Decide.{ℕ-discrete}
-use native.Mathlib.Nat.{suc-mul, zero-mul}
+use native.Mathlib.Nat.{suc-mul, zero-mul, mul-le-mul}
 use lib.ListN.{length, getD, take, drop}
 use lib.Seq.{take-nil, getD-take, take-take}
 use Rattle.counting.specs.Bools.{iff-eq}
-use Rattle.limits.specs.Limits.{most-columns, most-rows}
+use Rattle.limits.specs.Limits.{most-columns, most-rows, longest-file}
 use Rattle.format.specs.Refusals.{Tests, unless, _then_, first-refusal, trailing, head-test, body-test, due-test, end-test}
 use Rattle.format.specs.RefusalLaws.{then-zero, unless-zero}
 use Rattle.format.specs.TestLaws.{head-reads, body-reads, end-reads, size-reads}
 use Rattle.format.specs.File.Piece.{Body, Piece, head-tests, field, many, many-tests, many-dec, many-rest, seq, closed}
 use Rattle.format.specs.File.Format.{sizes-body, prime-body, constant-body, parameter-body, end-body, constant-row, parameter-row, end-field, row-fields}
-use Rattle.format.specs.File.Format.{size-fields, fields, judge, file-length}
-use Rattle.format.specs.File.JudgeLaws.{seq-refused, seq-passed, rows-most}
+use Rattle.format.specs.File.Format.{prime-tag, sizes-tag, constant-tag, parameter-tag, end-tag, prime-field, sizes-field, parameter-size, size-fields, fields, judge}
+use Rattle.format.proofs.Judging.{seq-refused, seq-passed}
 
 -- ---- the front of a list
 
@@ -151,8 +151,8 @@ parameters-same : (n b k : ℕ) (s : List ℕ) → 3 + 11 * b < k
 unfolding parameter-row end-field
 parameters-same n b k s h =
     let P = many b (parameter-row n) in
-    seq-same P (λ _. end-field) (b * 11) (many-local b (parameter-row n) 11 (field-local 4 (parameter-body n))) k s (omega arith)
-    (λ _. ap first-refusal (closed-same end-field 3 (field-local 5 end-body) (k - b * 11) (P .rest s) (omega arith)))
+    seq-same P (λ _. end-field) (b * 11) (many-local b (parameter-row n) 11 (field-local parameter-tag (parameter-body n))) k s (omega arith)
+    (λ _. ap first-refusal (closed-same end-field 3 (field-local end-tag end-body) (k - b * 11) (P .rest s) (omega arith)))
 
 rows-same : (p n a b k : ℕ) (s : List ℕ) → 3 + a * (3 + 2 * n) + 11 * b < k
     → first-refusal (closed (row-fields p (n, a, b)) (take k s)) ≡ first-refusal (closed (row-fields p (n, a, b)) s)
@@ -160,26 +160,30 @@ unfolding row-fields constant-row
 rows-same p n a b k s h =
     let P = many a (constant-row p n) in
     let u = a * (3 + 2 * n) in
-    seq-same P (λ _. parameter-fields n b) u (many-local a (constant-row p n) (3 + 2 * n) (field-local 3 (constant-body p n))) k s (omega arith)
+    seq-same P (λ _. parameter-fields n b) u (many-local a (constant-row p n) (3 + 2 * n) (field-local constant-tag (constant-body p n))) k s (omega arith)
     (λ _. parameters-same n b (k - u) (P .rest s) (omega arith))
 
-sizes-within : (s : List ℕ) → first-refusal (field 2 sizes-body .tests s) ≡ 0
-    → (1 ≤ field 2 sizes-body .dec s .0) × (field 2 sizes-body .dec s .0 ≤ most-columns)
-    × (field 2 sizes-body .dec s .1 ≤ most-rows) × (field 2 sizes-body .dec s .2 ≤ most-rows)
-sizes-within s e = size-reads _ _ _ .0 (unless-zero _ _ (then-zero (head-tests 2 3 s) _ e .1))
+sizes-within : (s : List ℕ) → first-refusal (field sizes-tag sizes-body .tests s) ≡ 0
+    → (1 ≤ field sizes-tag sizes-body .dec s .0) × (field sizes-tag sizes-body .dec s .0 ≤ most-columns)
+    × (field sizes-tag sizes-body .dec s .1 ≤ most-rows) × (field sizes-tag sizes-body .dec s .2 ≤ most-rows)
+sizes-within s e = size-reads _ _ _ .0 (unless-zero _ _ (then-zero (head-tests sizes-tag 3 s) _ e .1))
 
-sizes-same : (p k : ℕ) (s : List ℕ) → file-length most-columns most-rows most-rows < k + 5
+-- the most rows of both kinds
+pub rows-most : (a n : ℕ) → a ≤ most-rows → n ≤ most-columns → a * (3 + 2 * n) ≤ most-rows * (3 + 2 * most-columns)
+rows-most a n l m = mul-le-mul l (let w : 3 + 2 * n ≤ 3 + 2 * most-columns = omega arith in w)
+
+sizes-same : (p k : ℕ) (s : List ℕ) → longest-file < k + 5
     → first-refusal (closed (size-fields p) (take k s)) ≡ first-refusal (closed (size-fields p) s)
-unfolding size-fields
+unfolding size-fields sizes-field
 sizes-same p k s h =
-    seq-same (field 2 sizes-body) (λ z. row-fields p z) 6 (field-local 2 sizes-body) k s (omega arith) (λ e.
-    let z = field 2 sizes-body .dec s in
+    seq-same (field sizes-tag sizes-body) (λ z. row-fields p z) 6 (field-local sizes-tag sizes-body) k s (omega arith) (λ e.
+    let z = field sizes-tag sizes-body .dec s in
     let v = sizes-within s e in
-    rows-same p (z .0) (z .1) (z .2) (k - 6) (field 2 sizes-body .rest s) (omega (arith, rows-most (z .1) (z .0) (v .2) (v .1), v .3)))
+    rows-same p (z .0) (z .1) (z .2) (k - 6) (field sizes-tag sizes-body .rest s) (omega (arith, rows-most (z .1) (z .0) (v .2) (v .1), v .3)))
 
 -- any bound above the longest file
-pub judge-cut : (k : ℕ) (s : List ℕ) → file-length most-columns most-rows most-rows < k → judge (take k s) ≡ judge s
-unfolding judge fields
+pub judge-cut : (k : ℕ) (s : List ℕ) → longest-file < k → judge (take k s) ≡ judge s
+unfolding judge fields prime-field
 judge-cut k s h =
-    seq-same (field 1 prime-body) (λ p. size-fields p) 5 (field-local 1 prime-body) k s (omega arith)
-    (λ _. sizes-same (field 1 prime-body .dec s) (k - 5) (field 1 prime-body .rest s) (omega arith))
+    seq-same (field prime-tag prime-body) (λ p. size-fields p) 5 (field-local prime-tag prime-body) k s (omega arith)
+    (λ _. sizes-same (field prime-tag prime-body .dec s) (k - 5) (field prime-tag prime-body .rest s) (omega arith))

@@ -10,7 +10,7 @@ use Rattle.mixed_models.specs.Starred.Models.{S2}
 use Rattle.format.specs.Lists.{all-pass}
 use Rattle.format.specs.Refusals.{first-refusal, head-test, body-test, due-test, prime-test, size-test, constant-test, end-test}
 use Rattle.format.specs.File.Piece.{head-tests, closed}
-use Rattle.format.specs.File.Format.{FileModel, entries, constant-row, parameter-row, end-field, row-fields, size-fields, fields, judge, decode}
+use Rattle.format.specs.File.Format.{FileModel, entries, prime-field, sizes-field, constant-row, parameter-row, end-field, row-fields, size-fields, fields, judge, decode}
 use Rattle.layered.specs.FileModel.{file-model}
 
 -- document 01's 32 bytes
@@ -25,7 +25,7 @@ unfolding is-prime undivided all members within all-pass first-refusal head-test
 tests = 0
 
 unfoldable run : ℕ
-unfolding document-file tests closed entries constant-row parameter-row end-field row-fields size-fields fields judge decode
+unfolding document-file tests closed entries prime-field sizes-field constant-row parameter-row end-field row-fields size-fields fields judge decode
 run = 0
 
 pub document-accepted : judge document-file ≡ 0

@@ -9,9 +9,9 @@ use Rattle.columns.specs.Columns.{width}
 use Rattle.columns.specs.Words.Bytes.{AreBytes}
 use Rattle.mixed_models.specs.Starred.Models.{S2}
 use Rattle.format.specs.Lists.{over}
-use Rattle.limits.specs.Limits.{most-columns, most-rows, longest-file}
+use Rattle.limits.specs.Limits.{longest-file}
 use Rattle.format.specs.Refusals.{refusal, mixed-refusal}
-use Rattle.format.specs.File.Format.{judge, file-length, ReadCall, WriteCall}
+use Rattle.format.specs.File.Format.{judge, ReadCall, WriteCall}
 use Rattle.layered.specs.Answers.{LayeredCall}
 use Rattle.layered.specs.declared.Answer.{Answer}
 use Rattle.layered.specs.FileModel.{file-model}
@@ -47,7 +47,7 @@ write-then-read = written-then-read
 -- ---- input cut off
 
 -- A file cut off anywhere behind the longest file is judged as the whole.
-pub cut-input : (k : ℕ) (s : List ℕ) → file-length most-columns most-rows most-rows < k → judge (take k s) ≡ judge s
+pub cut-input : (k : ℕ) (s : List ℕ) → longest-file < k → judge (take k s) ≡ judge s
 cut-input = judge-cut
 
 -- One byte more than the longest file, which is what the programs read, is enough.
@@ -55,26 +55,26 @@ pub cut-input-behind-the-longest : (s : List ℕ) → judge (take (longest-file 
 cut-input-behind-the-longest s = judge-cut (longest-file + 1) s (omega arith)
 
 -- What is promised of the part is promised of the whole: of the reading into areas,
-pub cut-input-read : (k : ℕ) (s : List ℕ) → AreBytes s → file-length most-columns most-rows most-rows < k
+pub cut-input-read : (k : ℕ) (s : List ℕ) → AreBytes s → longest-file < k
     → (cs ws : List ℕ) (the-refusal p n a b : ℕ) (cs′ ws′ : List ℕ)
     → ReadCall (take k s) cs ws the-refusal p n a b cs′ ws′ → ReadCall s cs ws the-refusal p n a b cs′ ws′
 cut-input-read = reading-cut
 
 -- of the C calls,
-pub cut-input-host : (k : ℕ) (s : List ℕ) → AreBytes s → file-length most-columns most-rows most-rows < k
+pub cut-input-host : (k : ℕ) (s : List ℕ) → AreBytes s → longest-file < k
     → (area : List ℕ) (number : ℕ) (area′ : List ℕ) → HostAnswer (take k s) area number area′ → HostAnswer s area number area′
 cut-input-host = host-cut
 
-pub cut-input-host-mixed : (k : ℕ) (s : List ℕ) → AreBytes s → file-length most-columns most-rows most-rows < k
+pub cut-input-host-mixed : (k : ℕ) (s : List ℕ) → AreBytes s → longest-file < k
     → (area : List ℕ) (number : ℕ) (area′ : List ℕ) → HostMixedAnswer (take k s) area number area′ → HostMixedAnswer s area number area′
 cut-input-host-mixed = host-mixed-cut
 
 -- and of the reports that the programs write.
-pub cut-input-report : (k : ℕ) (s : List ℕ) → AreBytes s → file-length most-columns most-rows most-rows < k
+pub cut-input-report : (k : ℕ) (s : List ℕ) → AreBytes s → longest-file < k
     → (area : List ℕ) (r : Printed) (area′ : List ℕ) → FileReport (take k s) area r area′ → FileReport s area r area′
 cut-input-report = report-cut
 
-pub cut-input-report-mixed : (k : ℕ) (s : List ℕ) → AreBytes s → file-length most-columns most-rows most-rows < k
+pub cut-input-report-mixed : (k : ℕ) (s : List ℕ) → AreBytes s → longest-file < k
     → (area : List ℕ) (r : Printed) (area′ : List ℕ) → MixedFileReport (take k s) area r area′ → MixedFileReport s area r area′
 cut-input-report-mixed = mixed-report-cut
 

@@ -14,10 +14,9 @@ use Rattle.format.specs.Refusals.{where-accepted, model-tests, refusal}
 use Rattle.format.specs.RefusalLaws.{acceptance-reads, then-zero, zero-then, zero-unless}
 use Rattle.format.specs.TestLaws.{prime-reads, size-reads, constant-reads, parameter-reads, area-reads, model-accepted}
 use Rattle.format.specs.File.Piece.{closed}
-use Rattle.format.specs.File.Format.{FileModel, ValidModel, fields, judge, decode, encode, file-length, no-model, read-refusal, model-read, ReadCall}
+use Rattle.format.specs.File.Format.{FileModel, ValidModel, fields, judge, decode, encode, no-model, read-refusal, model-read, ReadCall}
 use Rattle.format.specs.File.Format.{handed-over, write-refusal, bytes-written, WriteCall}
 use Rattle.format.specs.File.FormatLaws.{decoded-valid, encode-decode}
-use Rattle.format.specs.File.WriteLaws.{encode-length}
 use Rattle.writer.specs.HandedLaws.{written-accepted, written-read}
 use Rattle.promises.specs.RowLaws.{over-front, flat-length, flat-all, all-second, rows-of-over, flat-of-rows}
 
@@ -95,7 +94,7 @@ module _ (m : FileModel) (v : ValidModel m) (cs ws : List ℕ) (f : Fits (m .n) 
 -- ---- a model written
 
 module _ (p n a b : ℕ) (cs ws out : List ℕ) where
-  pub zero-write : refusal p n a b cs ws ≡ 0 → file-length n a b ≤ length out → write-refusal p n a b cs ws out ≡ 0
+  pub zero-write : refusal p n a b cs ws ≡ 0 → length (encode (handed-over p n a b cs ws)) ≤ length out → write-refusal p n a b cs ws out ≡ 0
   unfolding write-refusal refusal
   zero-write e l = zero-then _ _ e (zero-unless _ _ (area-reads _ _ .1 l))
 
@@ -126,7 +125,7 @@ read-then-written s cs ws bytes p n a b cs′ ws′ h out l r len out′ w =
     let taken : refusal p n a b cs′ ws′ ≡ 0 = rw (ep, en, ea, eb, ec, ew) (stored-accepted m v cs ws (z .1)) in
     let handed : handed-over p n a b cs′ ws′ ≡ m = rw (ep, en, ea, eb, ec, ew) (stored-handed-over m v cs ws (z .1)) in
     let whole : encode m ≡ s = encode-decode s bytes (z .0) in
-    let size : file-length n a b ≡ length s = rw (en, ea, eb) (sym (encode-length m v) ∙ ap length whole) in
+    let size : length (encode (handed-over p n a b cs′ ws′)) ≡ length s = ap length (ap encode handed ∙ whole) in
     let ok : write-refusal p n a b cs′ ws′ out ≡ 0 = zero-write p n a b cs′ ws′ out taken (omega (arith, size, l)) in
     let same : bytes-written p n a b cs′ ws′ out ≡ s = write-whole p n a b cs′ ws′ out ok ∙ ap encode handed ∙ whole in
     (w .refusal-is ∙ ok, w .length-is ∙ ap length same, w .bytes-are ∙ ap (λ (t : List ℕ). over t out) same)

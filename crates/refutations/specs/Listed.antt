@@ -19,7 +19,7 @@ use Rattle.format.specs.Refusals.{first-refusal, head-test, body-test, due-test
 use Rattle.promises.specs.DocumentFile.{document-file}
 use Rattle.refutations.specs.Computing.{computing}
 use Rattle.format.specs.File.Piece.{head-tests, closed}
-use Rattle.format.specs.File.Format.{entries, entry-bytes, constant-row, parameter-row, end-field, row-fields, size-fields, fields, judge, decode, read-refusal, model-read, ReadCall}
+use Rattle.format.specs.File.Format.{entries, prime-field, sizes-field, constant-row, parameter-row, end-field, row-fields, size-fields, fields, judge, decode, read-refusal, model-read, ReadCall}
 
 -- what judging opens, beside what the definitions open
 unfoldable run : ℕ
@@ -27,7 +27,7 @@ unfolding computing within all-pass first-refusal prime-test size-test constant-
 run = 0
 
 unfoldable file-run : ℕ
-unfolding flatMap flatten is-prime undivided all members within all-pass over first-refusal head-test body-test due-test prime-test size-test constant-test area-test end-test head-tests closed entries constant-row parameter-row end-field row-fields size-fields fields judge decode read-refusal model-read
+unfolding flatMap flatten is-prime undivided all members within all-pass over first-refusal head-test body-test due-test prime-test size-test constant-test area-test end-test head-tests closed entries prime-field sizes-field constant-row parameter-row end-field row-fields size-fields fields judge decode read-refusal model-read
 file-run = 0
 
 -- p 2, n 2, a 1, constants 0 1: column 0 is blocked, column 1 is not
