@@ -24,7 +24,7 @@ abbrev μ-loop : tie.MeasureT-loop
 -- while rows are left, the area has room for the next one
 room : (c : tie.In-loop Inv-loop μ-loop) → let l = c .before .loop in
     (l .at + length (entries (said-body (l .rest .now))) ≤ length (l .out)) × (length (entries (said-body (l .rest .now))) ≤ length (take (length (l .out) - l .at) (drop (l .at) (l .out))))
-room c = let l = c .before .loop in room-left (entries (said-body (l .rest .now))) _ (l .inv) (constants-next (l .todo) (l .rest .now) (c .loop-test .taken))
+room c = let l = c .before .loop in room-left (entries (said-body (l .rest .now))) _ (l .inv) (constants-next (l .todo) (l .rest .now) (omega arith))
 
 -- its constants are put there
 read : (c : tie.After-read-entries Inv-loop μ-loop) → let l = c .before .before .before .before .loop in
@@ -68,7 +68,7 @@ loop-again : tie.Need-loop-again Inv-loop μ-loop
 loop-again c =
     let l = c .before .before .before .before .before .before .before .loop in
     let r = l .rest .now in
-    wrote-put (entries (said-body r)) _ _ (l .inv) (constants-next (l .todo) r (c .before .before .before .before .before .before .loop-test .taken) ∙ ap (λ (s : List ℕ). entries (said-body r) ++ constants-said (l .todo - 1) s) (sym (c .said-rest .ensures .bytes-are))) (read (c .before .before .before))
+    wrote-put (entries (said-body r)) _ _ (l .inv) (constants-next (l .todo) r (omega arith) ∙ ap (λ (s : List ℕ). entries (said-body r) ++ constants-said (l .todo - 1) s) (sym (c .said-rest .ensures .bytes-are))) (read (c .before .before .before))
 
 same-length : tie.Need-same-length Inv-loop μ-loop
 same-length c = c .before .loop .inv .same
