@@ -51,7 +51,8 @@ add-result-4 : tie.Need-add-result-4
 add-result-4 c = rw (c .parameter-size .ensures) (omega (arith, rows c))
 
 returns : tie.Need-returns
-returns c = let a = c .before .before .before .args in
+returns c =
+    let a = c .before .before .before .args in
     rw (c .parameter-size .ensures) (sym (handed-over-length (a .p) (a .n) (a .a) (a .b) (a .constants .now) (a .parameters .now) (c .before .before .before .pre .3) (c .before .before .before .pre .4)))
 
 pub file-length-spec : {M : Type 1} → statement M

@@ -43,7 +43,8 @@ same-length : tie.Need-same-length
 same-length c = search needs
 
 returns : tie.Need-returns
-returns c = let a = c .before .before .before .before .before .before .before .before .before .before .args in
+returns c =
+    let a = c .before .before .before .before .before .before .before .before .before .before .args in
     parameter-row-put (a .n) (a .set) (c .before .before .before .before .before .before .before .before .parameter-size .ensures) (c .before .before .before .before .before .before .put-head .ensures) (c .before .before .put-set-front .ensures) (c .before .before .before .before .before .before .before .before .before .before .pre)
 
 pub put-parameter-row-spec : {M : Type 1} → statement M

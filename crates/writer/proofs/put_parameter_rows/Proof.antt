@@ -58,7 +58,8 @@ loop-less : tie.Need-loop-less Inv-loop μ-loop
 loop-less c = simp (length-take, length-drop) (omega arith)
 
 loop-again : tie.Need-loop-again Inv-loop μ-loop
-loop-again c = let l = c .before .before .before .before .before .before .before .loop in
+loop-again c =
+    let l = c .before .before .before .before .before .before .before .loop in
     let r = l .rest .now in
     let n = c .before .before .before .before .before .before .before .before .before .before .args .n in
     wrote-put (parameter-bytes n (getD r 0 0)) _ _ (l .inv)

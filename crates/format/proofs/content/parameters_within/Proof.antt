@@ -44,7 +44,8 @@ loop-less : tie.Need-loop-less Inv-loop μ-loop
 loop-less c = simp (length-take, length-drop) (omega arith)
 
 loop-again : tie.Need-loop-again Inv-loop μ-loop
-loop-again c = let l = c .before .before .before .before .before .loop in
+loop-again c =
+    let l = c .before .before .before .before .before .loop in
     passing-next (l .inv) (first-rest (l .rest .now) (c .before .before .before .before .loop-test .taken)) (sym (c .before .before .within .ensures) ∙ not-false _ (c .before .if1 .left)) (tail-part 1 (l .rest .now))
 
 returns-2 : tie.Need-returns-2 Inv-loop μ-loop

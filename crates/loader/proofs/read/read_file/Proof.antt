@@ -56,7 +56,8 @@ returns : tie.Need-returns
 returns c = reading-refused _ _ _ (numbers (c .before .before)) (c .if1 .taken)
 
 mul-if2 : tie.Need-mul-if2
-mul-if2 c = let z = c .before .before .before .sizes-of in
+mul-if2 c =
+    let z = c .before .before .before .sizes-of in
     let m : z .result .a * z .result .n ≤ 256 * 256 = mul-le-mul (le-of-lt (z .ensures .6)) (le-of-lt (z .ensures .5)) in
     omega arith
 
@@ -64,7 +65,8 @@ no-sizes-requires : tie.Need-no-sizes-requires
 no-sizes-requires c κs = search needs
 
 returns-2 : tie.Need-returns-2
-returns-2 c = let z = c .no-sizes .ensures in
+returns-2 c =
+    let z = c .no-sizes .ensures in
     let d = c .before .before .before in
     rw (z .0, z .1, z .2, z .3, z .4) (constants-short _ _ _ (accepted d) (sizes d) (c .before .if2 .taken))
 
@@ -72,7 +74,8 @@ no-sizes-requires-2 : tie.Need-no-sizes-requires-2
 no-sizes-requires-2 c κs = search needs
 
 returns-3 : tie.Need-returns-3
-returns-3 c = let z = c .no-sizes2 .ensures in
+returns-3 c =
+    let z = c .no-sizes2 .ensures in
     let d = c .before .before .before .before in
     rw (z .0, z .1, z .2, z .3, z .4) (parameters-short _ _ _ (accepted d) (sizes d) (c .before .before .if2 .left) (c .before .if3 .taken))
 
@@ -92,7 +95,8 @@ part-rows-end : tie.Need-part-rows-end
 part-rows-end c = search needs
 
 read-constants-requires : tie.Need-read-constants-requires
-read-constants-requires c κs = let d = c .before .before .before .before .before .before in
+read-constants-requires c κs =
+    let d = c .before .before .before .before .before .before in
     let x = sizes d in
     rw (rows (c .before .before), x .a-is, constants-count _ (bytes (c .before .before .before .before .before .before .before .before .before .before .before .before)) (accepted d)) (rw (x .a-is, x .n-is) at (c .before .before .before .before .if2 .left))
 
@@ -121,7 +125,8 @@ same-length-2 : tie.Need-same-length-2
 same-length-2 c = search needs
 
 returns-4 : tie.Need-returns-4
-returns-4 c = let args = c .before .before .before .before .before .before .before .before .before .before .before .before .before .before .before .before .before .before .before .before .before .before .args in
+returns-4 c =
+    let args = c .before .before .before .before .before .before .before .before .before .before .before .before .before .before .before .before .before .before .before .before .before .before .args in
     let d = c .before .before .before .before .before .before .before .before .before .before .before .before .before .before .before in
     let z = c .before .before .before .before .before .before .before .before .before .before .before .before .before .before .before .before .before .sizes-of in
     let t = rows (c .before .before .before .before .before .before .before .before .before .before .before) in

@@ -26,7 +26,8 @@ room : (c : tie.After-of-bytes Inv-loop μ-loop) → c .before .before .before .
 room c = let l = c .before .before .before .loop in omega (arith, parameters-length (c .before .before .before .before .before .before .args .b - l .at) (l .rest .now), l .inv .0 .room)
 
 loop-holds : tie.Need-loop-holds Inv-loop μ-loop
-loop-holds c = let a = c .before .before .args in
+loop-holds c =
+    let a = c .before .before .args in
     let all : a .b - 0 ≡ a .b = omega arith in
     (rw all (wrote-none _ _ (omega (arith, parameters-length (a .b) (a .file .now)))), omega arith)
 
@@ -52,12 +53,13 @@ loop-less : tie.Need-loop-less Inv-loop μ-loop
 loop-less c = omega arith
 
 loop-again : tie.Need-loop-again Inv-loop μ-loop
-loop-again c = let l = c .before .before .before .before .loop in
+loop-again c =
+    let l = c .before .before .before .before .loop in
     let r = l .rest .now in
     let b = c .before .before .before .before .before .before .before .args .b in
     let set = c .before .of-bytes in
     let q : b - l .at - 1 ≡ b - (l .at + 1) = omega arith in
-    let body : number (take set-bytes (said-body r)) ≡ set .result = ap (λ (t : List ℕ). number (take set-bytes t)) (sym (c .before .before .said-body .ensures)) ∙ sym (set .ensures) in
+    let body : number (take set-bytes (said-body r)) ≡ set .result = ap (λ (t : List ℕ). number (take set-bytes t)) (sym (c .before .before .said-body .ensures .bytes-are)) ∙ sym (set .ensures) in
     (wrote-set (set .result) _ (l .inv .0) (parameters-next (b - l .at) r (omega arith) ∙ rw (q, body, ← c .said-rest .ensures .bytes-are) refl), omega arith)
 
 same-length : tie.Need-same-length Inv-loop μ-loop
