@@ -1,0 +1,31 @@
+-- What the code's sets of columns and areas of parameter rows mean: a set is a number, its bits are the columns, and an area is the list of its rows'
+-- numbers. Definitions only.
+use Prim.Native.Nat.{ℕ, _^_, _<_}
+use mathlib.Core.List.{List}
+use lib.ListN.{set}
+use Rattle.columns.specs.Columns.{width}
+use Rattle.columns.specs.declared.ColumnSet.{ColumnSet}
+
+-- the number of a set
+unfoldable pub whole : ColumnSet → ℕ
+whole s = s .word
+
+-- the set with no column
+unfoldable pub no-columns : ColumnSet
+no-columns = record { word = 0 }
+
+-- what the type of a set says of its number
+abbrev pub Fits : ColumnSet → Type 0
+Fits s = s .word < 2 ^ width
+
+-- how many words an area has for each parameter row
+abbrev pub row-words : ℕ
+row-words = 1
+
+-- the numbers of the rows of an area
+unfoldable pub rows : List ℕ → List ℕ
+rows ws = ws
+
+-- the area with the number w for row r, where it has such a row
+unfoldable pub with-row : List ℕ → ℕ → ℕ → List ℕ
+with-row ws r w = set ws r w

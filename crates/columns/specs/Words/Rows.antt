@@ -1,0 +1,19 @@
+-- The laws of areas of parameter rows. Assumes nothing.
+use Prim.Native.Nat.{ℕ, _/_}
+use mathlib.Core.Path.{_≡_, refl, sym}
+use mathlib.Core.List.{List}
+use native.Mathlib.Nat.{div-one}
+use lib.ListN.{length, set, length-set}
+use Rattle.columns.specs.ColumnSets.{row-words, rows, with-row}
+
+pub rows-length : (ws : List ℕ) → length (rows ws) ≡ length ws / row-words
+unfolding rows
+rows-length ws = sym (div-one (length ws))
+
+pub rows-with-row : (ws : List ℕ) (r w : ℕ) → rows (with-row ws r w) ≡ set (rows ws) r w
+unfolding rows with-row
+rows-with-row ws r w = refl
+
+pub with-row-length : (ws : List ℕ) (r w : ℕ) → length (with-row ws r w) ≡ length ws
+unfolding with-row
+with-row-length ws r w = length-set ws r w
