@@ -23,8 +23,8 @@ abbrev pub row-words : ℕ
 row-words = 1
 
 -- the numbers of the rows of an area
-unfoldable pub rows : List ℕ → List ℕ
-rows ws = ws
+unfoldable pub rows-of : List ℕ → List ℕ
+rows-of ws = ws
 
 -- the area with the number w for row r, where it has such a row
 unfoldable pub with-row : List ℕ → ℕ → ℕ → List ℕ

@@ -4,14 +4,14 @@ use mathlib.Core.Path.{_≡_, refl, sym}
 use mathlib.Core.List.{List}
 use native.Mathlib.Nat.{div-one}
 use lib.ListN.{length, set, length-set}
-use Rattle.columns.specs.ColumnSets.{row-words, rows, with-row}
+use Rattle.columns.specs.ColumnSets.{row-words, rows-of, with-row}
 
-pub rows-length : (ws : List ℕ) → length (rows ws) ≡ length ws / row-words
-unfolding rows
+pub rows-length : (ws : List ℕ) → length (rows-of ws) ≡ length ws / row-words
+unfolding rows-of
 rows-length ws = sym (div-one (length ws))
 
-pub rows-with-row : (ws : List ℕ) (r w : ℕ) → rows (with-row ws r w) ≡ set (rows ws) r w
-unfolding rows with-row
+pub rows-with-row : (ws : List ℕ) (r w : ℕ) → rows-of (with-row ws r w) ≡ set (rows-of ws) r w
+unfolding rows-of with-row
 rows-with-row ws r w = refl
 
 pub with-row-length : (ws : List ℕ) (r w : ℕ) → length (with-row ws r w) ≡ length ws
