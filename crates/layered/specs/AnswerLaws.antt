@@ -31,7 +31,8 @@ use Rattle.limits.specs.Limits.{largest-prime, most-columns, most-rows}
 use Rattle.format.specs.Refusals.{prime-test, size-test, area-test, constant-test, parameter-test, model-tests, refusal, first-refusal}
 use Rattle.format.specs.RefusalLaws.{acceptance-reads}
 use Rattle.format.specs.TestLaws.{prime-reads, size-reads, constant-reads, area-reads, Accepted, model-accepted, constant-below}
-use Rattle.layered.specs.Answers.{Answered}
+use Rattle.layered.specs.declared.Answer.{Answer}
+use Rattle.layered.specs.Answers.{verdict-number, Answered}
 
 -- the tests that the solver does not make
 unfoldable pub beforehand : (p n b : ℕ) → List ℕ → Bool
@@ -104,20 +105,21 @@ module _ (p n a b : ℕ) (cs ws : List ℕ) (offered : ℕ) (m : members offered
 pub rank-small : (M : Model) → rank M ≤ M .n
 rank-small M = omega (arith, placed-size M, #-le (M .n) (placed M))
 
-pub answered : (p n a b : ℕ) (cs ws : List ℕ) (the-verdict the-rank the-placed the-side the-short : ℕ) (rows : List ℕ) → the-placed < 2 ^ width → the-short < 2 ^ width
-    → the-verdict ≡ cond (eqb the-rank n) 1 0 → Solved (listed-model p n a b cs ws) the-rank (members the-placed) (members the-side) (members the-short) rows
-    → Answered (listed-model p n a b cs ws) the-verdict the-rank the-placed the-side the-short rows
+pub answered : (p n a b : ℕ) (cs ws : List ℕ) (r : Answer) → r .placed < 2 ^ width → r .short < 2 ^ width → length (r .rows) ≡ most-rows
+    → r .verdict ≡ verdict-number (r .rank) n → Solved (listed-model p n a b cs ws) (r .rank) (members (r .placed)) (members (r .constants)) (members (r .short)) (r .rows)
+    → Answered (listed-model p n a b cs ws) r
 unfolding verdict indicator decide
-answered p n a b cs ws the-verdict the-rank the-placed the-side the-short rows hp hs hv s =
+answered p n a b cs ws r hp hs k hv s =
     let M = listed-model p n a b cs ws in
     let all-pass : # n (M .E) ≡ n = #-all n (M .E) (λ x l. refl) in
     record {
-      is-verdict = hv ∙ elim (ℕ-discrete (rank M) (# n (M .E))) as (λ z. cond (eqb the-rank n) 1 0 ≡ indicator (decide z)) [
-        | yes e ↦ ap (λ t. cond t 1 0) (eq-eqb the-rank n (s .is-rank ∙ e ∙ all-pass))
-        | no ne ↦ ap (λ t. cond t 1 0) (ne-eqb the-rank n (λ z. ne (sym (s .is-rank) ∙ z ∙ sym all-pass)))
+      is-verdict = hv ∙ elim (ℕ-discrete (rank M) (# n (M .E))) as (λ z. verdict-number (r .rank) n ≡ indicator (decide z)) [
+        | yes e ↦ ap (λ t. cond t 1 0) (eq-eqb (r .rank) n (s .is-rank ∙ e ∙ all-pass))
+        | no ne ↦ ap (λ t. cond t 1 0) (ne-eqb (r .rank) n (λ z. ne (sym (s .is-rank) ∙ z ∙ sym all-pass)))
       ];
-      placed-word = word-members width the-placed hp ∙ ap (word-of width) (fun-ext (s .is-placed));
-      short-word = word-members width the-short hs ∙ ap (word-of width) (fun-ext (s .is-short));
+      placed-word = word-members width (r .placed) hp ∙ ap (word-of width) (fun-ext (s .is-placed));
+      short-word = word-members width (r .short) hs ∙ ap (word-of width) (fun-ext (s .is-short));
+      row-count = k;
       solved = s;
-      demand = demand3-reported M the-rank (members the-short) (s .is-rank) (s .is-short);
+      demand = demand3-reported M (r .rank) (members (r .short)) (s .is-rank) (s .is-short);
     }

@@ -2,14 +2,16 @@
 ghost use mathlib.Core.Path.{_≡_};
 ghost use lib.ListN.{take};
 ghost use Rattle.format.specs.Refusals.{parameter-test};
-ghost use Rattle.layered.specs.Answers.{verdict-number, Refused, LayeredAnswer};
+ghost use Rattle.layered.specs.Answers.{verdict-number, Refused, LayeredCall};
 ghost use Rattle.layered.specs.AnswerLaws.{beforehand};
 use format::judge_model;
 use format::parameters_within;
 use limits::LARGEST_PRIME;
+use limits::MOST_ROWS;
+use limits::NO_COLUMN;
 
 // The refusal or 0; the verdict, 1 "determined" or 0 "open"; the rank; the placed columns, those of them on the constant side, and
-// the short set, as words; and the column of each parameter row, 255 for none.
+// the short set, as words; and the column of each parameter row, or that it has none.
 pub struct Answer {
     pub refusal: u32,
     pub verdict: u8,
@@ -17,11 +19,11 @@ pub struct Answer {
     pub placed: u64,
     pub constants: u64,
     pub short: u64,
-    pub rows: [u8; 64],
+    pub rows: [u8; MOST_ROWS],
 }
 
 fn refuse(number: u32) -> Answer
-    ensures { λ r. ⌜ (r .refusal ≡ number) × Refused (r .verdict) (r .rank) (r .placed) (r .constants) (r .short) (r .rows) ⌝ }
+    ensures { λ r. ⌜ (r .refusal ≡ number) × Refused r ⌝ }
 {
     Answer {
         refusal: number,
@@ -30,7 +32,7 @@ fn refuse(number: u32) -> Answer
         placed: 0,
         constants: 0,
         short: 0,
-        rows: [255u8; 64],
+        rows: [NO_COLUMN; MOST_ROWS],
     }
 }
 
@@ -77,7 +79,7 @@ pub fn layered_rank(
     constants: &[u16],
     parameters: &[u64],
 ) -> Answer
-    ensures { λ r. ⌜ LayeredAnswer p n a b (now (constants .entry)) (now (parameters .entry)) (r .refusal) (r .verdict) (r .rank) (r .placed) (r .constants) (r .short) (r .rows) ⌝ }
+    ensures { λ r. ⌜ LayeredCall p n a b (now (constants .entry)) (now (parameters .entry)) r ⌝ }
 {
     if !passes_beforehand(p, n, b, parameters) {
         return refuse(judge_model(p, n, a, b, constants, parameters));

@@ -34,10 +34,12 @@ use Rattle.mixed_models.specs.Mixed.{Mixed, unit, mixed-sum, mixed-rank, mixed-
 use Rattle.mixed_models.specs.MixedTheorem.{form-rank, shown-reach}
 use Rattle.mixed_models.specs.MixedTheorem.Form.{served-iff, shown-I-iff}
 use Rattle.mixed.specs.MixedForm.{form-entry, form-row, serves}
-use Rattle.limits.specs.Limits.{most-columns}
+use Rattle.limits.specs.Limits.{most-columns, no-column}
 use Rattle.format.specs.Refusals.{unless, not-mixed, mixed-test, mixed-tests, mixed-refusal, model-tests, refusal, first-refusal}
 use Rattle.format.specs.RefusalLaws.{first-fails, then-refused, then-passed, then-zero, zero-then, unless-zero, zero-unless}
 use Rattle.format.specs.TestLaws.{Accepted, model-accepted, constant-below}
+use Rattle.mixed.specs.declared.MixedAnswer.{MixedAnswer}
+use Rattle.layered.specs.Answers.{verdict-number}
 use Rattle.mixed.specs.MixedAnswers.{MixedAnswered}
 
 one-at-most : (b : Bool) → indicator b ≤ 1
@@ -168,7 +170,7 @@ module _ (X : Mixed) (the-rank : ℕ) (placed-set side short-set : Set) (rows : 
   full-size = #-ext (m + n) (placing (shown (m + n) m side rows)) (placed (layered-form X)) (λ x l. s .places-it x) ∙ placed-size (layered-form X)
 
   -- a row serves an original column where it shows one
-  served-shown : (i : ℕ) → i < m → m + n < 255 → (i ∈ served X A) ↔ serves m (getD rows i 0)
+  served-shown : (i : ℕ) → i < m → m + n < no-column → (i ∈ served X A) ↔ serves m (getD rows i 0)
   unfolding A
   served-shown i li small = (
     (λ e.
@@ -186,26 +188,26 @@ module _ (X : Mixed) (the-rank : ℕ) (placed-set side short-set : Set) (rows : 
     ],
   )
 
-  pub mixed-answered : (the-verdict the-rows the-columns the-short : ℕ) → m + n < 255 → the-short < 2 ^ width → the-verdict ≡ cond (eqb (the-rank - m) n) 1 0
-      → ((i : ℕ) → (i ∈ members the-rows) ↔ ((i < m) × (serves m (getD rows i 0) → ⊥))) → ((x : ℕ) → members the-columns x ≡ side (m + x)) → ((x : ℕ) → members the-short x ≡ short-set x)
-      → MixedAnswered X the-verdict (the-rank - m) the-rows the-columns the-short
+  pub mixed-answered : (t : MixedAnswer) → m + n < no-column → t .short < 2 ^ width → t .rank ≡ the-rank - m → t .verdict ≡ verdict-number (t .rank) n
+      → ((i : ℕ) → (i ∈ members (t .rows)) ↔ ((i < m) × (serves m (getD rows i 0) → ⊥))) → ((x : ℕ) → members (t .columns) x ≡ side (m + x)) → ((x : ℕ) → members (t .short) x ≡ short-set x)
+      → MixedAnswered X t
   unfolding A mixed-verdict indicator decide
-  mixed-answered the-verdict the-rows the-columns the-short small hs hv rows-are columns-are short-are =
-      let r : the-rank - m ≡ mixed-rank X = omega (arith, rank-of-form) in
-      let I : members the-rows ≡ shown-I X (shown (m + n) m side rows) = fun-ext (λ i. iff-eq (members the-rows i) (shown-I X (shown (m + n) m side rows) i)
+  mixed-answered t small hs hr hv rows-are columns-are short-are =
+      let r : t .rank ≡ mixed-rank X = omega (arith, rank-of-form) in
+      let I : members (t .rows) ≡ shown-I X (shown (m + n) m side rows) = fun-ext (λ i. iff-eq (members (t .rows) i) (shown-I X (shown (m + n) m side rows) i)
       (λ e. let w = rows-are i .0 e in shown-I-iff X (shown (m + n) m side rows) i .1 (w .0, not-true _ (λ k. w .1 (served-shown i (w .0) small .0 k))))
       (λ e. let w = shown-I-iff X (shown (m + n) m side rows) i .0 e in rows-are i .1 (w .0, λ k. true≢false (sym (served-shown i (w .0) small .1 k) ∙ w .1)))) in
-      let J : members the-columns ≡ shown-J X (shown (m + n) m side rows) = fun-ext (λ x. columns-are x ∙ s .side-shown (m + x)) in
+      let J : members (t .columns) ≡ shown-J X (shown (m + n) m side rows) = fun-ext (λ x. columns-are x ∙ s .side-shown (m + x)) in
       record {
-        is-verdict = hv ∙ elim (ℕ-discrete (mixed-rank X) n) as (λ z. cond (eqb (the-rank - m) n) 1 0 ≡ indicator (decide z)) [
-          | yes e ↦ ap (λ t. cond t 1 0) (eq-eqb (the-rank - m) n (r ∙ e))
-          | no ne ↦ ap (λ t. cond t 1 0) (ne-eqb (the-rank - m) n (λ z. ne (sym r ∙ z)))
+        is-verdict = hv ∙ elim (ℕ-discrete (mixed-rank X) n) as (λ z. verdict-number (t .rank) n ≡ indicator (decide z)) [
+          | yes e ↦ ap (λ b. cond b 1 0) (eq-eqb (t .rank) n (r ∙ e))
+          | no ne ↦ ap (λ b. cond b 1 0) (ne-eqb (t .rank) n (λ z. ne (sym r ∙ z)))
         ];
         is-rank = r;
         rows-below = λ i e. rows-are i .0 e .0;
         columns-below = λ x e. omega (arith, s .is-legal .offered (m + x) (constant-placed (shown (m + n) m side rows (m + x)) (sym (s .side-shown (m + x)) ∙ sym (columns-are x) ∙ e)) .0);
         they-reach = rw (I, J) (shown-reach X (shown (m + n) m side rows) (s .is-legal) full-size);
-        short-word = word-members width the-short hs ∙ ap (word-of width) (fun-ext (λ x. short-are x ∙ s .is-short x));
+        short-word = word-members width (t .short) hs ∙ ap (word-of width) (fun-ext (λ x. short-are x ∙ s .is-short x));
       }
 
 -- ---- the judgement

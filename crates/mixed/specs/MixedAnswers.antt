@@ -8,27 +8,28 @@ use Rattle.columns.specs.Columns.{width, members, word-of}
 use Rattle.rank.specs.Layered.Rank.{short}
 use Rattle.mixed_models.specs.Mixed.{Mixed, mixed-sum, mixed-rank, mixed-verdict, layered-form, mixed}
 use Rattle.format.specs.Refusals.{mixed-refusal}
+use Rattle.mixed.specs.declared.MixedAnswer.{MixedAnswer}
 
 -- a refusal has every other number 0 and every set empty
-pub record MixedRefused (the-verdict the-rank the-rows the-columns the-short : ℕ) : Type 0 where
-  pub no-verdict : the-verdict ≡ 0
-  pub no-rank : the-rank ≡ 0
-  pub no-rows : the-rows ≡ 0
-  pub no-columns : the-columns ≡ 0
-  pub none-short : the-short ≡ 0
+pub record MixedRefused (r : MixedAnswer) : Type 0 where
+  pub no-verdict : r .verdict ≡ 0
+  pub no-rank : r .rank ≡ 0
+  pub no-rows : r .rows ≡ 0
+  pub no-columns : r .columns ≡ 0
+  pub none-short : r .short ≡ 0
 
 -- the answer to an accepted mixed model. Which rows I and columns J it shows is left open: they are rows and columns of the model and reach the rank,
 -- and this is all that holds of them.
-pub record MixedAnswered (X : Mixed) (the-verdict the-rank the-rows the-columns the-short : ℕ) : Type 0 where
-  pub is-verdict : the-verdict ≡ mixed-verdict X
-  pub is-rank : the-rank ≡ mixed-rank X
-  pub rows-below : (i : ℕ) → i ∈ members the-rows → i < X .m
-  pub columns-below : (x : ℕ) → x ∈ members the-columns → x < X .n
-  pub they-reach : mixed-sum X (members the-rows) (members the-columns) ≡ mixed-rank X
-  pub short-word : the-short ≡ word-of width (short (layered-form X))
+pub record MixedAnswered (X : Mixed) (r : MixedAnswer) : Type 0 where
+  pub is-verdict : r .verdict ≡ mixed-verdict X
+  pub is-rank : r .rank ≡ mixed-rank X
+  pub rows-below : (i : ℕ) → i ∈ members (r .rows) → i < X .m
+  pub columns-below : (x : ℕ) → x ∈ members (r .columns) → x < X .n
+  pub they-reach : mixed-sum X (members (r .rows)) (members (r .columns)) ≡ mixed-rank X
+  pub short-word : r .short ≡ word-of width (short (layered-form X))
 
 -- the mixed rank call
-pub record MixedAnswer (p n a b : ℕ) (cs ws : List ℕ) (the-refusal the-verdict the-rank the-rows the-columns the-short : ℕ) : Type 0 where
-  pub is-refusal : the-refusal ≡ mixed-refusal p n a b cs ws
-  pub if-refused : mixed-refusal p n a b cs ws ≢ 0 → MixedRefused the-verdict the-rank the-rows the-columns the-short
-  pub if-accepted : mixed-refusal p n a b cs ws ≡ 0 → MixedAnswered (mixed p a n cs ws) the-verdict the-rank the-rows the-columns the-short
+pub record MixedCall (p n a b : ℕ) (cs ws : List ℕ) (r : MixedAnswer) : Type 0 where
+  pub is-refusal : r .refusal ≡ mixed-refusal p n a b cs ws
+  pub if-refused : mixed-refusal p n a b cs ws ≢ 0 → MixedRefused r
+  pub if-accepted : mixed-refusal p n a b cs ws ≡ 0 → MixedAnswered (mixed p a n cs ws) r

@@ -3,6 +3,7 @@ use Prim.Native.Nat.{ℕ, _+_, _*_, _/_, _%_, _<_, _≤_}
 use mathlib.Core.List.{List}
 use lib.ListN.{getD}
 use lib.Dec.{eqb}
+use Rattle.limits.specs.Limits.{no-column}
 use Rattle.counting.specs.Sets.{Set, indicator}
 use Rattle.counting.specs.Beside.{beside}
 use Rattle.columns.specs.Columns.{inserted, moved-up}
@@ -17,4 +18,4 @@ form-row m own i = inserted (moved-up own m) i
 
 -- the column y that a row of the form shows is an original one
 abbrev pub serves : (m y : ℕ) → Type 0
-serves m y = (m ≤ y) × (y < 255)
+serves m y = (m ≤ y) × (y < no-column)

@@ -8,7 +8,7 @@ ghost use Rattle.counting.specs.Sets.{_∈_};
 ghost use Rattle.columns.specs.Columns.{members};
 ghost use Rattle.format.specs.Refusals.{mixed-refusal};
 ghost use Rattle.mixed.specs.MixedForm.{form-entry, form-row, serves};
-ghost use Rattle.mixed.specs.MixedAnswers.{MixedRefused, MixedAnswer};
+ghost use Rattle.mixed.specs.MixedAnswers.{MixedRefused, MixedCall};
 use format::judge_model;
 use format::refusals::NOT_MIXED;
 use layered::verdict_of;
@@ -16,7 +16,7 @@ use limits::MOST_COLUMNS;
 
 // The refusal or 0; the verdict, 1 where the rank equals n; the rank; rows I and columns J that reach it; and the short set of the
 // layered form.
-pub struct MixedReport {
+pub struct MixedAnswer {
     pub refusal: u32,
     pub verdict: u8,
     pub rank: u8,
@@ -25,10 +25,10 @@ pub struct MixedReport {
     pub short: u64,
 }
 
-fn refuse(number: u32) -> MixedReport
-    ensures { λ r. ⌜ (r .refusal ≡ number) × MixedRefused (r .verdict) (r .rank) (r .rows) (r .columns) (r .short) ⌝ }
+fn refuse(number: u32) -> MixedAnswer
+    ensures { λ r. ⌜ (r .refusal ≡ number) × MixedRefused r ⌝ }
 {
-    MixedReport {
+    MixedAnswer {
         refusal: number,
         verdict: 0,
         rank: 0,
@@ -140,8 +140,8 @@ pub fn mixed_rank(
     b: usize,
     constants: &[u16],
     parameters: &[u64],
-) -> MixedReport
-    ensures { λ r. ⌜ MixedAnswer p n a b (now (constants .entry)) (now (parameters .entry)) (r .refusal) (r .verdict) (r .rank) (r .rows) (r .columns) (r .short) ⌝ }
+) -> MixedAnswer
+    ensures { λ r. ⌜ MixedCall p n a b (now (constants .entry)) (now (parameters .entry)) r ⌝ }
 {
     let number = judge_mixed(p, n, a, b, constants, parameters);
     if number != 0 {
@@ -158,7 +158,7 @@ pub fn mixed_rank(
     let shown = s.rows;
     let rows = idle_rows(shown, a);
     let columns = columns::lowered(s.constants, a);
-    MixedReport {
+    MixedAnswer {
         refusal: 0,
         verdict,
         rank: rank as u8,

@@ -1,5 +1,5 @@
 // One line for a model: its name, and what the mixed rank call answers.
-use solvability::MixedReport;
+use solvability::MixedAnswer;
 
 pub fn number(n: u64) {
     io::write_all(1, b" ");
@@ -11,12 +11,12 @@ fn lies_below(set: u64, end: usize) -> bool {
     end >= 64 || set >> end == 0
 }
 
-fn tell(report: MixedReport, m: usize, n: usize) {
-    number(report.refusal as u64);
-    number(report.verdict as u64);
-    number(report.rank as u64);
-    number(report.short);
-    if lies_below(report.rows, m) && lies_below(report.columns, n) {
+fn tell(answer: MixedAnswer, m: usize, n: usize) {
+    number(answer.refusal as u64);
+    number(answer.verdict as u64);
+    number(answer.rank as u64);
+    number(answer.short);
+    if lies_below(answer.rows, m) && lies_below(answer.columns, n) {
         io::write_all(1, b" yes\n");
     } else {
         io::write_all(1, b" no\n");

@@ -3,24 +3,15 @@ use Prim.Native.Nat.{ℕ}
 use mathlib.Core.Path.{_≡_}
 use mathlib.Core.Logic.{_≢_}
 use mathlib.Core.List.{List}
-use lib.ListN.{length}
 use Rattle.rank.specs.Layered.Model.{Model}
 use Rattle.format.specs.File.Format.{judge}
-use Rattle.layered.specs.Answers.{Answered}
+use Rattle.layered.specs.Answers.{Answered, AnswerShown}
 use Rattle.layered.specs.FileModel.{file-model}
 use Rattle.report.specs.Report.{answer-text, refused-line, Reporting}
 
 -- the five lines of an answer to the model, written over the front of the area; which side and row a placed column takes is as open as in `Answered`
-pub record AnswerReported (M : Model) (out : List ℕ) (len : ℕ) (out′ : List ℕ) : Type 0 where
-  pub the-verdict : ℕ
-  pub the-rank : ℕ
-  pub the-placed : ℕ
-  pub the-side : ℕ
-  pub the-short : ℕ
-  pub rows : List ℕ
-  pub row-count : length rows ≡ 64
-  pub is-answer : Answered M the-verdict the-rank the-placed the-side the-short rows
-  pub reports-it : Reporting (answer-text the-verdict the-rank the-side the-short rows) out len out′
+abbrev pub AnswerReported : (M : Model) (out : List ℕ) (len : ℕ) (out′ : List ℕ) → Type 0
+AnswerReported M out len out′ = AnswerShown (Answered M) (λ r. Reporting (answer-text (r .verdict) (r .rank) (r .constants) (r .short) (r .rows)) out len out′)
 
 -- the report of a file: the one line of its refusal, or the five of an answer to its model
 pub record FileReport (file out : List ℕ) (len : ℕ) (out′ : List ℕ) : Type 0 where

@@ -10,7 +10,8 @@ use Rattle.format.specs.Lists.{over}
 use Rattle.limits.specs.Limits.{most-columns, most-rows}
 use Rattle.format.specs.File.Piece.{closed}
 use Rattle.format.specs.File.Format.{fields, judge, read-refusal, ReadCall}
-use Rattle.layered.specs.Answers.{Answered, LayeredAnswer}
+use Rattle.layered.specs.declared.Answer.{Answer}
+use Rattle.layered.specs.Answers.{Answered, LayeredCall}
 use Rattle.layered.specs.FileLaws.{read-judged, own-constants, own-parameters, judged, own-model, own-accepted}
 use Rattle.solvability.specs.AreaLaws.{area-refused, area-too-short, area-done}
 use Rattle.solvability.specs.Host.{answer-length, answer-bytes, HostAnswer}
@@ -25,19 +26,11 @@ module _ (s : List ℕ) (bytes : AreBytes s) (cs ws : List ℕ) (l : most-rows *
   host-short ok u = area-too-short (closed fields s) answer-length _ area (sym (read-judged s bytes cs ws l m) ∙ ok) u
 
 module _ (s : List ℕ) (bytes : AreBytes s) (area : List ℕ) (p n a b : ℕ) (cs′ ws′ : List ℕ) (r : ReadCall s own-constants own-parameters 0 p n a b cs′ ws′) where
-  pub host-done : answer-length ≤ length area → (the-refusal the-verdict the-rank the-placed the-side the-short : ℕ) (rows : List ℕ) → length rows ≡ 64
-      → LayeredAnswer p n a b cs′ ws′ the-refusal the-verdict the-rank the-placed the-side the-short rows
-      → HostAnswer s area 0 (over (answer-bytes the-verdict the-rank the-placed the-side the-short rows) area)
+  pub host-done : answer-length ≤ length area → (t : Answer) → LayeredCall p n a b cs′ ws′ t → HostAnswer s area 0 (over (answer-bytes t) area)
   unfolding HostAnswer judge
-  host-done u the-refusal the-verdict the-rank the-placed the-side the-short rows k h =
+  host-done u t h =
       area-done (closed fields s) answer-length _ area (judged s bytes p n a b cs′ ws′ r) u _ (record {
-        the-verdict = the-verdict;
-        the-rank = the-rank;
-        the-placed = the-placed;
-        the-side = the-side;
-        the-short = the-short;
-        rows = rows;
-        row-count = k;
-        is-answer = subst (λ (M : Model). Answered M the-verdict the-rank the-placed the-side the-short rows) (own-model s bytes p n a b cs′ ws′ r) (h .if-accepted (own-accepted s bytes p n a b cs′ ws′ r));
-        bytes-are = refl;
+        answer = t;
+        is-answer = subst (λ (M : Model). Answered M t) (own-model s bytes p n a b cs′ ws′ r) (h .if-accepted (own-accepted s bytes p n a b cs′ ws′ r));
+        is-shown = refl;
       })

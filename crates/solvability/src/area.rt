@@ -5,15 +5,16 @@ ghost use lib.ListN.{length};
 ghost use Rattle.format.specs.Lists.{over};
 ghost use Rattle.solvability.specs.Area.{mixed-length, mixed-bytes, LayeredBytes, MixedBytes};
 use crate::host::ANSWER_LENGTH;
+use crate::host::FRONT_LENGTH;
 use crate::host::put_answer;
-use crate::host::put_numbers;
-use format::put_set;
+use crate::host::put_front;
 use format::refusals;
 use layered::layered_rank;
+use mixed::MixedAnswer;
 use mixed::mixed_rank;
 
 // How many bytes a mixed answer takes.
-const MIXED_LENGTH: usize = 26;
+const MIXED_LENGTH: usize = FRONT_LENGTH;
 
 // Judges the model, then the area; where both are accepted, writes the answer over the front of the area.
 pub fn layered_bytes(
@@ -34,28 +35,23 @@ pub fn layered_bytes(
     if answer.len() < ANSWER_LENGTH {
         return refusals::AREA_SHORT;
     }
-    let rows = r.rows;
-    put_answer(
-        answer,
-        r.verdict,
-        r.rank,
-        r.placed,
-        r.constants,
-        r.short,
-        rows,
-    );
+    put_answer(answer, r);
     0
 }
 
 // The bytes of a mixed answer: verdict, rank, the rows and columns shown, and the short set of the layered form.
-fn put_mixed(out: &mut [u8], verdict: u8, rank: u8, rows: u64, columns: u64, short: u64)
+fn put_mixed(out: &mut [u8], answer: MixedAnswer)
     requires { ⌜ mixed-length ≤ length (now out) ⌝ }
-    ensures { λ _. ⌜ now (out .exit) ≡ over (mixed-bytes verdict rank rows columns short) (now (out .entry)) ⌝ }
+    ensures { λ _. ⌜ now (out .exit) ≡ over (mixed-bytes answer) (now (out .entry)) ⌝ }
 {
-    put_numbers(out, verdict, rank);
-    put_set(&mut out[2..], rows);
-    put_set(&mut out[10..], columns);
-    put_set(&mut out[18..], short);
+    put_front(
+        out,
+        answer.verdict,
+        answer.rank,
+        answer.rows,
+        answer.columns,
+        answer.short,
+    );
 }
 
 // The same for the mixed question.
@@ -77,6 +73,6 @@ pub fn mixed_bytes(
     if answer.len() < MIXED_LENGTH {
         return refusals::AREA_SHORT;
     }
-    put_mixed(answer, r.verdict, r.rank, r.rows, r.columns, r.short);
+    put_mixed(answer, r);
     0
 }

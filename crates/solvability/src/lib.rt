@@ -19,7 +19,7 @@ pub use loader::Sizes;
 pub use loader::judge_row;
 pub use loader::read_file;
 pub use loader::row;
-pub use mixed::MixedReport;
+pub use mixed::MixedAnswer;
 pub use mixed::judge_mixed;
 pub use mixed::mixed_rank;
 pub use writer::Written;

@@ -2,8 +2,10 @@
 use Prim.Native.Nat.{ℕ, _<_, _≤_}
 use mathlib.Core.Path.{_≡_, sym, ap, _∙_}
 use mathlib.Core.Bool.{true, true≢false}
+use lib.ListN.{length}
 use borrow.Author.Tests.{not-true, not-false}
 use Rattle.counting.specs.Sets.{Set}
+use Rattle.limits.specs.Limits.{most-rows}
 use Rattle.columns.specs.Columns.{width, members, upto}
 use Rattle.exchange.specs.Solve.{admissible}
 use Rattle.exchange.specs.SolveLaws.{admissible-reads, fitting-reads}
@@ -15,6 +17,10 @@ use borrow.Author.Needs.{needs}
 use native.Mathlib.Omega.{arith}
 use Rattle.layered.proofs.layered_rank.Statement.{statement}
 use Rattle.layered.proofs.layered_rank.Tie as tie
+
+-- the solver's answer has a place for each row
+rows-long : (c : tie.After-solve) → length (c .solve .result .rows) ≡ most-rows
+rows-long c = search (needs, c .solve .ok)
 
 passes-beforehand-requires : tie.Need-passes-beforehand-requires
 passes-beforehand-requires c κs = search needs
@@ -77,7 +83,7 @@ returns-3 c =
     record {
       is-refusal = sym zero;
       if-refused = λ z. absurd (z zero);
-      if-accepted = λ z. answered (a .p) (a .n) (a .a) (a .b) (a .constants .now) (a .parameters .now) _ _ _ _ _ _ (known .1 .1 .0 .fits) (known .1 .1 .1 .1 .0 .fits) (c .before .before .verdict-of .ensures) s;
+      if-accepted = λ z. answered (a .p) (a .n) (a .a) (a .b) (a .constants .now) (a .parameters .now) _ (known .1 .1 .0 .fits) (known .1 .1 .1 .1 .0 .fits) (rows-long (c .before .before .before .before .before)) (c .before .before .verdict-of .ensures) s;
     }
 
 pub layered-rank-spec : {M : Type 1} → statement M

@@ -108,7 +108,7 @@ returns-2 c =
     record {
       is-refusal = sym zero;
       if-refused = λ z. absurd (z zero);
-      if-accepted = λ z. mixed-answered (mixed (a .p) (a .a) (a .n) (a .constants .now) (a .parameters .now)) _ _ _ _ _ (form-solved (c .before .before .before .before .before)) _ _ _ _ (omega (arith, h .1)) (known .1 .1 .1 .1 .0 .fits)
+      if-accepted = λ z. mixed-answered (mixed (a .p) (a .a) (a .n) (a .constants .now) (a .parameters .now)) _ _ _ _ _ (form-solved (c .before .before .before .before .before)) _ (omega (arith, h .1)) (known .1 .1 .1 .1 .0 .fits) refl
           (c .before .before .before .verdict-of .ensures) (c .before .idle-rows .ensures) (λ x. ap (λ (S : Set). S x) down) (λ x. refl);
     }
 

@@ -52,7 +52,7 @@ returns-2 c =
     let a = c .before .before .before .before .before .before .before .before .before .before .before .before .before .before .before .before .args in
     let zero = c .before .before .before .before .before .before .before .if1 .left in
     let r : ReadCall (a .file .now) own-constants own-parameters 0 _ _ _ _ _ _ = rw zero at (c .before .before .before .before .before .before .before .before .before .before .before .read-file .ensures) in
-    answer-reported (a .file .now) (bytes (c .before .before .before .before .before .before .before .before .before .before .before .before .before .before .before)) (a .out .now) _ _ _ _ _ _ _ _ r _ _ _ _ _ _ _ (search needs) (c .before .before .before .before .layered-rank .ensures) (c .before .before .write-report .ensures)
+    answer-reported (a .file .now) (bytes (c .before .before .before .before .before .before .before .before .before .before .before .before .before .before .before)) (a .out .now) _ _ _ _ _ _ _ _ r (c .before .before .before .before .layered-rank .result) (c .before .before .before .before .layered-rank .ensures) (c .before .before .write-report .ensures)
 
 pub report-file-spec : {M : Type 1} → statement M
 report-file-spec =

@@ -33,21 +33,11 @@ same-length c = search needs
 returns-3 : tie.Need-returns-3
 unfolding LayeredBytes refusal
 returns-3 c =
-    let a = c .before .before .before .before .before .before .before .before .before .before .before .before .args in
-    let h = c .before .before .before .before .before .before .before .before .layered-rank .ensures in
-    let zero = sym (h .is-refusal) ∙ c .before .before .before .before .before .before .if1 .left in
-    area-done (model-tests (a .p) (a .n) (a .a) (a .b) (a .constants .now) (a .parameters .now)) answer-length (AnswerWritten (listed-model (a .p) (a .n) (a .a) (a .b) (a .constants .now) (a .parameters .now))) (a .answer .now) zero (c .before .before .before .before .before .if2 .left) _
-    (record {
-      the-verdict = _;
-      the-rank = _;
-      the-placed = _;
-      the-side = _;
-      the-short = _;
-      rows = _;
-      row-count = put-answer-requires (c .before .before .before) (c .before .before .put-answer .lifetimes) .1;
-      is-answer = h .if-accepted zero;
-      bytes-are = c .before .before .put-answer .ensures;
-    })
+    let a = c .before .before .before .before .before .before .before .before .before .before .before .args in
+    let h = c .before .before .before .before .before .before .before .layered-rank .ensures in
+    let zero = sym (h .is-refusal) ∙ c .before .before .before .before .before .if1 .left in
+    area-done (model-tests (a .p) (a .n) (a .a) (a .b) (a .constants .now) (a .parameters .now)) answer-length (AnswerWritten (listed-model (a .p) (a .n) (a .a) (a .b) (a .constants .now) (a .parameters .now))) (a .answer .now) zero (c .before .before .before .before .if2 .left) _
+    (record { answer = _; is-answer = h .if-accepted zero; is-shown = c .before .before .put-answer .ensures })
 
 pub layered-bytes-spec : {M : Type 1} → statement M
 layered-bytes-spec = tie.close (tie.spec layered-rank-requires returns returns-2 put-answer-requires same-length returns-3)

@@ -36,15 +36,7 @@ returns-3 c =
     let h = c .before .before .before .before .before .before .before .mixed-rank .ensures in
     let zero = sym (h .is-refusal) ∙ c .before .before .before .before .before .if1 .left in
     area-done (mixed-tests (a .p) (a .n) (a .a) (a .b) (a .constants .now) (a .parameters .now)) mixed-length (MixedWritten (mixed (a .p) (a .a) (a .n) (a .constants .now) (a .parameters .now))) (a .answer .now) zero (c .before .before .before .before .if2 .left) _
-    (record {
-      the-verdict = _;
-      the-rank = _;
-      the-rows = _;
-      the-columns = _;
-      the-short = _;
-      is-answer = h .if-accepted zero;
-      bytes-are = c .before .before .put-mixed .ensures;
-    })
+    (record { answer = _; is-answer = h .if-accepted zero; is-shown = c .before .before .put-mixed .ensures })
 
 pub mixed-bytes-spec : {M : Type 1} → statement M
 mixed-bytes-spec = tie.close (tie.spec mixed-rank-requires returns returns-2 put-mixed-requires same-length returns-3)

@@ -50,11 +50,11 @@ same-length c = search needs
 
 returns-3 : tie.Need-returns-3
 returns-3 c =
-    let a = c .before .before .before .before .before .before .before .before .before .before .before .before .before .before .before .before .before .before .args in
-    let zero = c .before .before .before .before .before .before .before .before .before .if1 .left in
-    let r : ReadCall (a .file .now) own-constants own-parameters 0 _ _ _ _ _ _ = rw zero at (c .before .before .before .before .before .before .before .before .before .before .before .before .before .read-file .ensures) in
+    let a = c .before .before .before .before .before .before .before .before .before .before .before .before .before .before .before .before .before .args in
+    let zero = c .before .before .before .before .before .before .before .before .if1 .left in
+    let r : ReadCall (a .file .now) own-constants own-parameters 0 _ _ _ _ _ _ = rw zero at (c .before .before .before .before .before .before .before .before .before .before .before .before .read-file .ensures) in
     rw (c .before .before .put-answer .ensures)
-    (host-done (a .file .now) (bytes (c .before .before .before .before .before .before .before .before .before .before .before .before .before .before .before .before .before)) (a .answer .now) _ _ _ _ _ _ r (c .before .before .before .before .before .before .before .before .if2 .left) _ _ _ _ _ _ _ (put-answer-requires (c .before .before .before) (c .before .before .put-answer .lifetimes) .1) (c .before .before .before .before .before .layered-rank .ensures))
+    (host-done (a .file .now) (bytes (c .before .before .before .before .before .before .before .before .before .before .before .before .before .before .before .before)) (a .answer .now) _ _ _ _ _ _ r (c .before .before .before .before .before .before .before .if2 .left) _ (c .before .before .before .before .layered-rank .ensures))
 
 pub wundreska-check-spec : {M : Type 1} → statement M
 wundreska-check-spec =

@@ -1,12 +1,13 @@
--- `area::put_mixed` meets its contract: part after part, each into what is left of the area. Assumes nothing.
+-- `host::put_front` meets its contract: part after part, each into what is left of the area. Assumes nothing.
 use mathlib.Core.List.{[], _∷_, _++_, append-nil}
 use mathlib.Core.Path.{refl, sym}
 use borrow.Author.Needs.{needs}
+use Rattle.limits.specs.Limits.{set-bytes}
 use Rattle.columns.specs.Bytes.{bytes-of}
-use Rattle.solvability.specs.Area.{mixed-bytes}
+use Rattle.solvability.specs.Host.{front-bytes}
 use Rattle.format.specs.OverLaws.{wrote-first, wrote-room, wrote-all}
-use Rattle.solvability.proofs.area.put_mixed.Statement.{statement}
-use Rattle.solvability.proofs.area.put_mixed.Tie as tie
+use Rattle.solvability.proofs.host.put_front.Statement.{statement}
+use Rattle.solvability.proofs.host.put_front.Tie as tie
 
 put-numbers-requires : tie.Need-put-numbers-requires
 put-numbers-requires c κs = search needs
@@ -51,19 +52,19 @@ same-length : tie.Need-same-length
 same-length c = search needs
 
 returns : tie.Need-returns
-unfolding mixed-bytes
+unfolding front-bytes
 returns c =
     let a = c .before .before .before .before .before .before .before .before .before .before .before .before .before .before .before .before .before .args in
-    let rows = bytes-of 8 (a .rows) in
-    let columns = bytes-of 8 (a .columns) in
-    let short = bytes-of 8 (a .short) in
-    let w₁ = wrote-first (mixed-bytes (a .verdict) (a .rank) (a .rows) (a .columns) (a .short)) (a .verdict ∷ a .rank ∷ []) (rows ++ (columns ++ short)) 2 refl (c .before .before .before .before .before .before .before .before .before .before .before .before .before .before .before .before .before .pre) (c .before .before .before .before .before .before .before .before .before .before .before .before .before .before .put-numbers .ensures) refl in
-    let w₂ = wrote-room rows (columns ++ short) _ 8 w₁ refl (c .before .before .before .before .before .before .before .before .before .before .put-set .ensures) refl in
-    let w₃ = wrote-room columns short _ 8 w₂ refl (c .before .before .before .before .before .before .put-set2 .ensures) refl in
-    wrote-all (wrote-room short [] _ 8 w₃ (sym (append-nil short)) (c .before .before .put-set3 .ensures) refl) refl
+    let first = bytes-of set-bytes (a .first) in
+    let second = bytes-of set-bytes (a .second) in
+    let third = bytes-of set-bytes (a .third) in
+    let w₁ = wrote-first (front-bytes (a .verdict) (a .rank) (a .first) (a .second) (a .third)) (a .verdict ∷ a .rank ∷ []) (first ++ (second ++ third)) 2 refl (c .before .before .before .before .before .before .before .before .before .before .before .before .before .before .before .before .before .pre) (c .before .before .before .before .before .before .before .before .before .before .before .before .before .before .put-numbers .ensures) refl in
+    let w₂ = wrote-room first (second ++ third) _ set-bytes w₁ refl (c .before .before .before .before .before .before .before .before .before .before .put-set .ensures) refl in
+    let w₃ = wrote-room second third _ set-bytes w₂ refl (c .before .before .before .before .before .before .put-set2 .ensures) refl in
+    wrote-all (wrote-room third [] _ set-bytes w₃ (sym (append-nil third)) (c .before .before .put-set3 .ensures) refl) refl
 
-pub put-mixed-spec : {M : Type 1} → statement M
-put-mixed-spec =
+pub put-front-spec : {M : Type 1} → statement M
+put-front-spec =
     tie.close
     (tie.spec
     put-numbers-requires
