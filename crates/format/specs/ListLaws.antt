@@ -2,7 +2,7 @@
 use Prim.Native.Nat.{ℕ, zero, suc, _-_, _≤_, _<_}
 use mathlib.Core.Path.{_≡_, refl}
 use mathlib.Core.Logic.{_↔_}
-use mathlib.Core.Bool.{Bool, true, false}
+use mathlib.Core.Bool.{Bool, true, false, _&&_}
 use mathlib.Core.List.{List, [], _∷_}
 use native.Mathlib.Omega.{arith}
 use lib.ListN.{length, getD, take, drop, length-drop}
@@ -40,6 +40,24 @@ all-pass-next f x xs e = rw e refl
 pub all-pass-done : (f : ℕ → Bool) → all-pass f [] ≡ true
 unfolding all-pass
 all-pass-done f = refl
+
+-- by their numbers: the first k pass, and so does the next; or one of them does not
+pub all-pass-more : (f : ℕ → Bool) (xs : List ℕ) (k : ℕ) → k < length xs → all-pass f (take k xs) ≡ true → f (getD xs k 0) ≡ true → all-pass f (take (suc k) xs) ≡ true
+unfolding all-pass
+all-pass-more f [] k l e d = absurd (omega arith)
+all-pass-more f (x ∷ xs) zero l e d = and-in d refl
+all-pass-more f (x ∷ xs) (suc k) l e d = and-in (and-left (f x) (all-pass f (take k xs)) e) (all-pass-more f xs k (omega arith) (and-right (f x) (all-pass f (take k xs)) e) d)
+
+pub all-pass-misses : (f : ℕ → Bool) (xs : List ℕ) (k i : ℕ) → i < k → i < length xs → f (getD xs i 0) ≡ false → all-pass f (take k xs) ≡ false
+unfolding all-pass
+all-pass-misses f xs zero i l m d = absurd (omega arith)
+all-pass-misses f [] (suc k) i l m d = absurd (omega arith)
+all-pass-misses f (x ∷ xs) (suc k) zero l m d = rw d refl
+all-pass-misses f (x ∷ xs) (suc k) (suc i) l m d = rw (all-pass-misses f xs k i (omega arith) (omega arith) d) (and-false (f x))
+  where
+    and-false : (b : Bool) → (b && false) ≡ false
+    and-false true = refl
+    and-false false = refl
 
 -- a list by its first element and the rest
 pub first-rest : (xs : List ℕ) → 0 < length xs → xs ≡ getD xs 0 0 ∷ drop 1 xs

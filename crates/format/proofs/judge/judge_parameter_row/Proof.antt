@@ -7,6 +7,7 @@ use borrow.Author.Needs.{needs}
 use borrow.Author.Tests.{not-true, not-false}
 use Rattle.columns.specs.Bytes.{number}
 use Rattle.columns.specs.Columns.{within}
+use Rattle.columns.specs.ColumnSets.{whole}
 use Rattle.format.specs.File.Format.{parameter-row}
 use Rattle.format.specs.File.PieceLaws.{head-good}
 use Rattle.format.specs.RefusalLaws.{first-fails, first-passes, first-none, then-refused, then-passed}
@@ -39,7 +40,7 @@ returns-2 : tie.Need-returns-2
 unfolding parameter-row
 returns-2 c =
     let a = c .before .before .before .before .before .before .before .args in
-    let set : c .before .before .of-bytes .result ≡ number (take 8 (drop 3 (a .rest .now))) = c .before .before .of-bytes .ensures ∙ ap number (take-take 8 8 (drop 3 (a .rest .now)) (omega arith)) in
+    let set : whole (c .before .before .of-bytes .result) ≡ number (take 8 (drop 3 (a .rest .now))) = c .before .before .of-bytes .ensures ∙ ap number (take-take 8 8 (drop 3 (a .rest .now)) (omega arith)) in
     then-passed _ _ _ (sym (c .before .before .before .before .before .judge-head .ensures) ∙ c .before .before .before .before .if1 .left)
     (first-fails _ _ _ (sym (ap (within (a .n)) set) ∙ sym (c .before .within .ensures) ∙ not-true _ (c .if2 .taken)))
 
@@ -47,7 +48,7 @@ returns-3 : tie.Need-returns-3
 unfolding parameter-row
 returns-3 c =
     let a = c .before .before .before .before .before .before .before .args in
-    let set : c .before .before .of-bytes .result ≡ number (take 8 (drop 3 (a .rest .now))) = c .before .before .of-bytes .ensures ∙ ap number (take-take 8 8 (drop 3 (a .rest .now)) (omega arith)) in
+    let set : whole (c .before .before .of-bytes .result) ≡ number (take 8 (drop 3 (a .rest .now))) = c .before .before .of-bytes .ensures ∙ ap number (take-take 8 8 (drop 3 (a .rest .now)) (omega arith)) in
     then-passed _ _ _ (sym (c .before .before .before .before .before .judge-head .ensures) ∙ c .before .before .before .before .if1 .left)
     (first-passes _ _ _ _ (sym (ap (within (a .n)) set) ∙ sym (c .before .within .ensures) ∙ not-false _ (c .if2 .left)) first-none)
 

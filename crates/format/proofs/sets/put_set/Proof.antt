@@ -8,16 +8,18 @@ use native.Mathlib.Omega.{arith}
 use lib.ListN.{length, drop}
 use lib.Seq.{drop-cons}
 use borrow.Author.Needs.{needs}
+use Rattle.limits.specs.Limits.{set-bytes}
 use Rattle.columns.specs.Bytes.{bytes-of}
+use Rattle.columns.specs.ColumnSets.{whole}
 use Rattle.format.specs.OverLaws.{over-room-fits, over-no-room, Wrote, wrote-none, wrote-set, wrote-all}
 use Rattle.format.proofs.sets.put_set.Statement.{statement}
 use Rattle.format.proofs.sets.put_set.Tie as tie
 
 abbrev Inv-loop : tie.InvT-loop
-Inv-loop out₀ set at₀ out at = Wrote (bytes-of 8 set) (drop at (bytes-of 8 set)) out₀ out at × (at ≤ 8)
+Inv-loop out₀ set at₀ out at = Wrote (bytes-of set-bytes (whole set)) (drop at (bytes-of set-bytes (whole set))) out₀ out at × (at ≤ set-bytes)
 
 abbrev μ-loop : tie.MeasureT-loop
-μ-loop out₀ set at₀ out at = 8 - at
+μ-loop out₀ set at₀ out at = set-bytes - at
 
 returns : tie.Need-returns Inv-loop μ-loop
 returns c = over-no-room _ _ (c .if1 .taken)
@@ -29,7 +31,7 @@ byte-requires : tie.Need-byte-requires Inv-loop μ-loop
 byte-requires c κs = search needs
 
 slice-write-out : tie.Need-slice-write-out Inv-loop μ-loop
-slice-write-out c = let l = c .before .before .loop in omega (arith, l .inv .0, ap length (drop-cons (bytes-of 8 (c .before .before .before .before .before .args .set)) (l .at) 0 (c .before .loop-test .taken)))
+slice-write-out c = let l = c .before .before .loop in omega (arith, l .inv .0, ap length (drop-cons (bytes-of set-bytes (whole (c .before .before .before .before .before .args .set))) (l .at) 0 (c .before .loop-test .taken)))
 
 add-at : tie.Need-add-at Inv-loop μ-loop
 add-at c = omega arith
@@ -40,7 +42,7 @@ loop-less c = omega arith
 loop-again : tie.Need-loop-again Inv-loop μ-loop
 loop-again c =
     let l = c .before .before .loop in
-    let bytes = bytes-of 8 (c .before .before .before .before .before .args .set) in
+    let bytes = bytes-of set-bytes (whole (c .before .before .before .before .before .args .set)) in
     let next : drop (l .at) bytes ≡ c .byte .result ∷ drop (l .at + 1) bytes = drop-cons bytes (l .at) 0 (c .before .loop-test .taken) ∙ rw (c .byte .ensures, add-one) refl in
     (wrote-set (c .byte .result) _ (l .inv .0) next, omega arith)
 
@@ -51,8 +53,8 @@ returns-2 : tie.Need-returns-2 Inv-loop μ-loop
 returns-2 c =
     let l = c .before .loop in
     let a = c .before .before .before .before .args in
-    let all : l .at ≡ 8 = omega arith in
-    wrote-all (l .inv .0) (ap (λ (k : ℕ). drop k (bytes-of 8 (a .set))) all) ∙ sym (over-room-fits (bytes-of 8 (a .set)) (a .out .now) (c .before .before .if1 .left))
+    let all : l .at ≡ set-bytes = omega arith in
+    wrote-all (l .inv .0) (ap (λ (k : ℕ). drop k (bytes-of set-bytes (whole (a .set)))) all) ∙ sym (over-room-fits (bytes-of set-bytes (whole (a .set))) (a .out .now) (c .before .before .if1 .left))
 
 pub put-set-spec : {M : Type 1} → statement M
 put-set-spec =
