@@ -11,8 +11,8 @@ unfoldable pub whole : ColumnSet → ℕ
 whole s = s .word
 
 -- the set with no column
-unfoldable pub no-columns : ColumnSet
-no-columns = record { word = 0 }
+unfoldable pub empty-set : ColumnSet
+empty-set = record { word = 0 }
 
 -- what the type of a set says of its number
 abbrev pub Fits : ColumnSet → Type 0

@@ -7,7 +7,7 @@ ghost use lib.ListN.{length, getD, take};
 ghost use Rattle.counting.specs.Sets.{_∪_, _∩_, ∁, #};
 ghost use Rattle.columns.specs.Bytes.{number, bytes-of};
 ghost use Rattle.columns.specs.Columns.{width, set-bytes, members, upto, inserted, removed, moved-up, moved-down, least, within};
-ghost use Rattle.columns.specs.ColumnSets.{row-words, no-columns, whole, rows-of, with-row};
+ghost use Rattle.columns.specs.ColumnSets.{row-words, empty-set, whole, rows-of, with-row};
 
 // How many columns a set has room for, and in how many bytes.
 pub const WIDTH: usize = 64;
@@ -47,7 +47,7 @@ const FULL: u64 = 18446744073709551615;
 
 // The empty set.
 pub fn empty() -> ColumnSet
-    ensures { λ r. ⌜ r ≡ no-columns ⌝ }
+    ensures { λ r. ⌜ r ≡ empty-set ⌝ }
 {
     ColumnSet { word: EMPTY }
 }

@@ -9,7 +9,7 @@ use Rattle.limits.specs.Limits.{most-columns, most-rows, no-column}
 use Rattle.residue.specs.Arithmetic.{is-prime}
 use Rattle.counting.specs.Sets.{Set, all}
 use Rattle.columns.specs.Columns.{members, within}
-use Rattle.columns.specs.ColumnSets.{whole, no-columns}
+use Rattle.columns.specs.ColumnSets.{whole, empty-set}
 use Rattle.columns.specs.declared.ColumnSet.{ColumnSet}
 use Rattle.rank.specs.Modulus.{modulus, field-of, residue-of}
 use Rattle.rank.specs.ModelModulo.{model-modulo}
@@ -38,9 +38,9 @@ pub record Shown (p n a b offered : ℕ) (cs ws : List ℕ) (Q : ℕ → ℕ →
 -- an answer that says nothing
 pub record Nothing (r : Solution) : Type 0 where
   pub no-rank : r .rank ≡ 0
-  pub none-placed : r .placed ≡ no-columns
-  pub none-constant : r .constants ≡ no-columns
-  pub none-short : r .short ≡ no-columns
+  pub none-placed : r .placed ≡ empty-set
+  pub none-constant : r .constants ≡ empty-set
+  pub none-short : r .short ≡ empty-set
   pub no-rows : r .rows ≡ replicate most-rows no-column
 
 -- the answer to M

@@ -3,7 +3,7 @@ use Prim.Native.Nat.{ℕ, _^_, _<_}
 use mathlib.Core.Path.{_≡_, refl, ap, _∙_}
 use Rattle.counting.specs.Sets.{_∈_}
 use Rattle.columns.specs.Columns.{width, members, none}
-use Rattle.columns.specs.ColumnSets.{whole, no-columns, Fits}
+use Rattle.columns.specs.ColumnSets.{whole, empty-set, Fits}
 use Rattle.columns.specs.Words.Operations.{members-zero, members-below}
 use Rattle.columns.specs.declared.ColumnSet.{ColumnSet}
 
@@ -17,12 +17,12 @@ columns-below s x f e = members-below (whole s) x (whole-below s f) e
 
 -- ---- the empty set
 
-pub no-columns-zero : whole no-columns ≡ 0
-unfolding whole no-columns
-no-columns-zero = refl
+pub empty-set-zero : whole empty-set ≡ 0
+unfolding whole empty-set
+empty-set-zero = refl
 
-pub empty-zero : {s : ColumnSet} → s ≡ no-columns → whole s ≡ 0
-empty-zero e = ap whole e ∙ no-columns-zero
+pub empty-zero : {s : ColumnSet} → s ≡ empty-set → whole s ≡ 0
+empty-zero e = ap whole e ∙ empty-set-zero
 
-pub empty-none : {s : ColumnSet} → s ≡ no-columns → members (whole s) ≡ none
+pub empty-none : {s : ColumnSet} → s ≡ empty-set → members (whole s) ≡ none
 empty-none e = ap members (empty-zero e) ∙ members-zero
