@@ -1,8 +1,9 @@
 -- What the code's sets of columns and areas of parameter rows mean: a set is a number, its bits are the columns, and an area is the list of its rows'
 -- numbers. Definitions only.
-use Prim.Native.Nat.{ℕ, _^_, _<_}
+use Prim.Native.Nat.{ℕ, _*_, _^_, _<_}
 use mathlib.Core.List.{List}
 use lib.ListN.{set}
+use Rattle.limits.specs.Limits.{most-rows}
 use Rattle.columns.specs.Columns.{width}
 use Rattle.columns.specs.declared.ColumnSet.{ColumnSet}
 
@@ -18,9 +19,12 @@ empty-set = record { word = 0 }
 abbrev pub Fits : ColumnSet → Type 0
 Fits s = s .word < 2 ^ width
 
--- how many words an area has for each parameter row
+-- how many words an area has for each parameter row, and for those of every model
 abbrev pub row-words : ℕ
 row-words = 1
+
+abbrev pub most-words : ℕ
+most-words = most-rows * row-words
 
 -- the numbers of the rows of an area
 unfoldable pub rows-of : List ℕ → List ℕ

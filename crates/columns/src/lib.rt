@@ -7,15 +7,18 @@ ghost use lib.ListN.{length, getD, take};
 ghost use Rattle.counting.specs.Sets.{_∪_, _∩_, ∁, #};
 ghost use Rattle.columns.specs.Bytes.{number, bytes-of};
 ghost use Rattle.columns.specs.Columns.{width, set-bytes, members, upto, inserted, removed, moved-up, moved-down, least, within};
-ghost use Rattle.columns.specs.ColumnSets.{row-words, empty-set, whole, rows-of, with-row};
+ghost use Rattle.columns.specs.ColumnSets.{row-words, most-words, empty-set, whole, rows-of, with-row};
+use limits::MOST_ROWS;
 
 // How many columns a set has room for, and in how many bytes.
 pub const WIDTH: usize = 64;
 
 const BYTES: usize = WIDTH / 8;
 
-// How many words an area has for each parameter row.
+// How many words an area has for each parameter row, and for those of every model.
 pub const ROW_WORDS: usize = 1;
+
+pub const MOST_WORDS: usize = MOST_ROWS * ROW_WORDS;
 
 fn width_tied() -> usize
     ensures { λ r. ⌜ r ≡ width ⌝ }
@@ -33,6 +36,12 @@ fn row_words_tied() -> usize
     ensures { λ r. ⌜ r ≡ row-words ⌝ }
 {
     ROW_WORDS
+}
+
+fn most_words_tied() -> usize
+    ensures { λ r. ⌜ r ≡ most-words ⌝ }
+{
+    MOST_WORDS
 }
 
 // A set of columns.

@@ -9,6 +9,10 @@ most-columns = 64
 abbrev pub most-rows : ℕ
 most-rows = 64
 
+-- how many constants a model has at most
+abbrev pub most-constants : ℕ
+most-constants = most-rows * most-columns
+
 -- the largest prime that two bytes hold
 abbrev pub largest-prime : ℕ
 largest-prime = 65521

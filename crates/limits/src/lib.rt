@@ -1,13 +1,16 @@
 // The limits of models, files and answers. Each constant has a twin in specs/ that contracts cite; a private function's promise ties the two,
 // so that they cannot part.
 ghost use mathlib.Core.Path.{_≡_};
-ghost use Rattle.limits.specs.Limits.{most-columns, most-rows, largest-prime, set-bytes, no-column, longest-file};
+ghost use Rattle.limits.specs.Limits.{most-columns, most-rows, most-constants, largest-prime, set-bytes, no-column, longest-file};
 
 // n is 1 to so many columns.
 pub const MOST_COLUMNS: usize = 64;
 
 // a and b are 0 to so many rows each.
 pub const MOST_ROWS: usize = 64;
+
+// How many constants a model has at most.
+pub const MOST_CONSTANTS: usize = MOST_ROWS * MOST_COLUMNS;
 
 // The largest prime that two bytes hold.
 pub const LARGEST_PRIME: u32 = 65521;
@@ -33,6 +36,12 @@ fn rows_tied() -> usize
     ensures { λ r. ⌜ r ≡ most-rows ⌝ }
 {
     MOST_ROWS
+}
+
+fn constants_tied() -> usize
+    ensures { λ r. ⌜ r ≡ most-constants ⌝ }
+{
+    MOST_CONSTANTS
 }
 
 fn prime_tied() -> u32

@@ -3,12 +3,18 @@ use Prim.Native.Nat.{ℕ, _/_}
 use mathlib.Core.Path.{_≡_, refl, sym}
 use mathlib.Core.List.{List}
 use native.Mathlib.Nat.{div-one}
+use native.Mathlib.Omega.{arith}
 use lib.ListN.{length, set, length-set}
-use Rattle.columns.specs.ColumnSets.{row-words, rows-of, with-row}
+use Rattle.limits.specs.Limits.{most-rows}
+use Rattle.columns.specs.ColumnSets.{row-words, most-words, rows-of, with-row}
 
 pub rows-length : (ws : List ℕ) → length (rows-of ws) ≡ length ws / row-words
 unfolding rows-of
 rows-length ws = sym (div-one (length ws))
+
+-- an area of the largest size has room for the rows of every model
+pub most-words-rows : (ws : List ℕ) → length ws ≡ most-words → length (rows-of ws) ≡ most-rows
+most-words-rows ws e = omega (arith, rows-length ws)
 
 pub rows-with-row : (ws : List ℕ) (r w : ℕ) → rows-of (with-row ws r w) ≡ set (rows-of ws) r w
 unfolding rows-of with-row
