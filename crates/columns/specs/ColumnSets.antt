@@ -27,8 +27,8 @@ abbrev pub most-words : ℕ
 most-words = most-rows * row-words
 
 -- the numbers of the rows of an area
-unfoldable pub rows-of : List ℕ → List ℕ
-rows-of ws = ws
+unfoldable pub row-numbers : List ℕ → List ℕ
+row-numbers ws = ws
 
 -- the area with the number w for row r, where it has such a row
 unfoldable pub with-row : List ℕ → ℕ → ℕ → List ℕ

@@ -7,7 +7,7 @@ ghost use lib.ListN.{length, getD, take};
 ghost use Rattle.counting.specs.Sets.{_∪_, _∩_, ∁, #};
 ghost use Rattle.columns.specs.Bytes.{number, bytes-of};
 ghost use Rattle.columns.specs.Columns.{width, set-bytes, members, upto, inserted, removed, moved-up, moved-down, least, within};
-ghost use Rattle.columns.specs.ColumnSets.{row-words, most-words, empty-set, whole, rows-of, with-row};
+ghost use Rattle.columns.specs.ColumnSets.{row-words, most-words, empty-set, whole, row-numbers, with-row};
 use limits::MOST_ROWS;
 
 // How many columns a set has room for, and in how many bytes.
@@ -216,14 +216,14 @@ pub fn byte(set: ColumnSet, k: usize) -> u8
 
 // How many parameter rows an area holds.
 pub fn rows(words: &[u64]) -> usize
-    ensures { λ r. ⌜ r ≡ length (rows-of (now (words .entry))) ⌝ }
+    ensures { λ r. ⌜ r ≡ length (row-numbers (now (words .entry))) ⌝ }
 {
     words.len() / ROW_WORDS
 }
 
 // The columns of parameter row r of an area, and none where the area has no such row.
 pub fn row(words: &[u64], r: usize) -> ColumnSet
-    ensures { λ s. ⌜ whole s ≡ getD (rows-of (now (words .entry))) r 0 ⌝ }
+    ensures { λ s. ⌜ whole s ≡ getD (row-numbers (now (words .entry))) r 0 ⌝ }
 {
     if r < words.len() {
         let word = words[r];

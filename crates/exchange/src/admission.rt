@@ -2,7 +2,7 @@
 ghost use mathlib.Core.Path.{_≡_};
 ghost use Prim.Native.Nat.{_*_, _<_, _≤_};
 ghost use lib.ListN.{length};
-ghost use Rattle.columns.specs.ColumnSets.{whole, rows-of};
+ghost use Rattle.columns.specs.ColumnSets.{whole, row-numbers};
 ghost use Rattle.exchange.specs.Solve.{all-below, fitting, admissible};
 ghost use Rattle.exchange.specs.SolveLaws.{Largest};
 use columns::ColumnSet;
@@ -58,7 +58,7 @@ pub fn is_admissible(
     constants: &[u16],
     parameters: &[u64],
 ) -> bool
-    ensures { λ r. ⌜ r ≡ admissible p n a b (whole offered) (now (constants .entry)) (rows-of (now (parameters .entry))) ⌝ }
+    ensures { λ r. ⌜ r ≡ admissible p n a b (whole offered) (now (constants .entry)) (row-numbers (now (parameters .entry))) ⌝ }
 {
     if !fits(n, a, b, constants.len(), columns::rows(parameters)) {
         return false;

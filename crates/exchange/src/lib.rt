@@ -9,7 +9,7 @@ ghost use Rattle.limits.specs.Limits.{most-columns, most-rows};
 ghost use Rattle.residue.specs.Arithmetic.{is-prime};
 ghost use Rattle.counting.specs.Sets.{_∈_};
 ghost use Rattle.columns.specs.Columns.{members, within};
-ghost use Rattle.columns.specs.ColumnSets.{whole, rows-of};
+ghost use Rattle.columns.specs.ColumnSets.{whole, row-numbers};
 ghost use Rattle.exchange.specs.Solve.{Nothing, SolvedBy, Solves};
 ghost use Rattle.exchange.specs.Code.Cells.{Tableau};
 ghost use Rattle.exchange.specs.Code.Held.{Given, model-of, ShowsConstants};
@@ -62,7 +62,7 @@ fn answer(
     offered: ColumnSet,
 ) -> Solution
     requires { ⌜ Tableau p (now t) × (n ≤ most-columns) × (a ≤ most-rows) × (b ≤ most-rows) × (within n (whole offered) ≡ true) × (is-prime p ≡ true) ⌝ }
-    ensures { λ r. ⌜ (r .valid ≡ true) × ((G : Given p n b (rows-of (now (parameters .entry)))) → ShowsConstants p n a b (rows-of (now (parameters .entry))) G (now (t .entry)) → ((x : ℕ) → (x ∈ members (whole offered)) ↔ ((x < n) × (x ∈ G .E))) → SolvedBy (model-of p n a b (rows-of (now (parameters .entry))) G) r) ⌝ }
+    ensures { λ r. ⌜ (r .valid ≡ true) × ((G : Given p n b (row-numbers (now (parameters .entry)))) → ShowsConstants p n a b (row-numbers (now (parameters .entry))) G (now (t .entry)) → ((x : ℕ) → (x ∈ members (whole offered)) ↔ ((x < n) × (x ∈ G .E))) → SolvedBy (model-of p n a b (row-numbers (now (parameters .entry))) G) r) ⌝ }
 {
     let mut owner = [n as u8; LINES];
     let placed = offering::offer_all(t, &mut owner, parameters, p, n, a, b, offered);
@@ -92,7 +92,7 @@ pub fn solve(
     constants: &[u16],
     parameters: &[u64],
 ) -> Solution
-    ensures { λ r. ⌜ Solves p n a b offered (now (constants .entry)) (rows-of (now (parameters .entry))) r ⌝ }
+    ensures { λ r. ⌜ Solves p n a b offered (now (constants .entry)) (row-numbers (now (parameters .entry))) r ⌝ }
 {
     if !admission::is_admissible(p, n, a, b, offered, constants, parameters) {
         return nothing();

@@ -4,7 +4,7 @@ ghost use Prim.Native.Nat.{_≤_};
 ghost use lib.ListN.{length};
 ghost use Rattle.limits.specs.Limits.{most-columns, most-rows};
 ghost use Rattle.columns.specs.Columns.{members};
-ghost use Rattle.columns.specs.ColumnSets.{whole, rows-of};
+ghost use Rattle.columns.specs.ColumnSets.{whole, row-numbers};
 ghost use Rattle.exchange.specs.Sizes.{lines};
 ghost use Rattle.exchange.specs.Code.Scanning.{Arrays};
 ghost use Rattle.exchange.specs.Code.Held.{Given};
@@ -29,8 +29,8 @@ pub fn offer_all(
     b: usize,
     offered: ColumnSet,
 ) -> ColumnSet
-    requires { ⌜ Arrays p n a b (now t) (now owner) × ((G : Given p n b (rows-of (now parameters))) × Offers p n a b (rows-of (now parameters)) (members (whole offered)) (now t) (now owner) G) ⌝ }
-    ensures { λ r. ⌜ Arrays p n a b (now (t .exit)) (now (owner .exit)) × ((G : Given p n b (rows-of (now (parameters .entry)))) → Offers p n a b (rows-of (now (parameters .entry))) (members (whole offered)) (now (t .entry)) (now (owner .entry)) G → Offered-all p n a b (rows-of (now (parameters .entry))) G (now (t .exit)) (now (owner .exit)) (members (whole r))) ⌝ }
+    requires { ⌜ Arrays p n a b (now t) (now owner) × ((G : Given p n b (row-numbers (now parameters))) × Offers p n a b (row-numbers (now parameters)) (members (whole offered)) (now t) (now owner) G) ⌝ }
+    ensures { λ r. ⌜ Arrays p n a b (now (t .exit)) (now (owner .exit)) × ((G : Given p n b (row-numbers (now (parameters .entry)))) → Offers p n a b (row-numbers (now (parameters .entry))) (members (whole offered)) (now (t .entry)) (now (owner .entry)) G → Offered-all p n a b (row-numbers (now (parameters .entry))) G (now (t .exit)) (now (owner .exit)) (members (whole r))) ⌝ }
 {
     let mut rest = offered;
     let mut placed = columns::empty();

@@ -4,7 +4,7 @@ ghost use mathlib.Core.Bool.{true};
 ghost use Prim.Native.Nat.{ℕ, _<_, _≤_};
 ghost use lib.ListN.{length};
 ghost use Rattle.limits.specs.Limits.{most-columns};
-ghost use Rattle.columns.specs.ColumnSets.{rows-of};
+ghost use Rattle.columns.specs.ColumnSets.{row-numbers};
 ghost use Rattle.rank.specs.Graph.States.{Placed};
 ghost use Rattle.exchange.specs.Sizes.{lines};
 ghost use Rattle.exchange.specs.Code.Cells.{Below};
@@ -72,8 +72,8 @@ pub fn place(
     b: usize,
     j: usize,
 ) -> bool
-    requires { ⌜ Arrays p n a b (now t) (now owner) × (j < n) × ((G : Given p n b (rows-of (now parameters))) × (G .E j ≡ true) × Held p n a b (rows-of (now parameters)) G (now t) (now owner)) ⌝ }
-    ensures { λ r. ⌜ Arrays p n a b (now (t .exit)) (now (owner .exit)) × ((G : Given p n b (rows-of (now (parameters .entry)))) (h : Held p n a b (rows-of (now (parameters .entry))) G (now (t .entry)) (now (owner .entry))) → G .E j ≡ true → (Placed (h .s) j → ⊥) → Placing p n a b (rows-of (now (parameters .entry))) G (now (t .entry)) (now (owner .entry)) (now (t .exit)) (now (owner .exit)) j r h) ⌝ }
+    requires { ⌜ Arrays p n a b (now t) (now owner) × (j < n) × ((G : Given p n b (row-numbers (now parameters))) × (G .E j ≡ true) × Held p n a b (row-numbers (now parameters)) G (now t) (now owner)) ⌝ }
+    ensures { λ r. ⌜ Arrays p n a b (now (t .exit)) (now (owner .exit)) × ((G : Given p n b (row-numbers (now (parameters .entry)))) (h : Held p n a b (row-numbers (now (parameters .entry))) G (now (t .entry)) (now (owner .entry))) → G .E j ≡ true → (Placed (h .s) j → ⊥) → Placing p n a b (row-numbers (now (parameters .entry))) G (now (t .entry)) (now (owner .entry)) (now (t .exit)) (now (owner .exit)) j r h) ⌝ }
 {
     let rows = a + b;
     let start = columns::with(columns::empty(), j);

@@ -2,7 +2,7 @@
 ghost use mathlib.Core.Path.{_≡_};
 ghost use Prim.Native.Nat.{_+_, _*_, _<_};
 ghost use lib.ListN.{take};
-ghost use Rattle.columns.specs.ColumnSets.{rows-of};
+ghost use Rattle.columns.specs.ColumnSets.{row-numbers};
 ghost use Rattle.format.specs.Refusals.{prime-test, size-test, constant-test, parameter-test};
 ghost use Rattle.format.specs.File.Format.{entries};
 use limits::LARGEST_PRIME;
@@ -78,7 +78,7 @@ fn widened(x: u16) -> u32
 
 // Whether none of the first b parameter rows, or of all that the area holds, has a parameter at column n or later.
 pub fn parameters_within(parameters: &[u64], b: usize, n: usize) -> bool
-    ensures { λ r. ⌜ r ≡ parameter-test n (take b (rows-of (now (parameters .entry)))) ⌝ }
+    ensures { λ r. ⌜ r ≡ parameter-test n (take b (row-numbers (now (parameters .entry)))) ⌝ }
 {
     let held = columns::rows(parameters);
     for r in 0..b {

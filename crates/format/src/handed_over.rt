@@ -1,6 +1,6 @@
 // A model handed over without a file, judged.
 ghost use mathlib.Core.Path.{_≡_};
-ghost use Rattle.columns.specs.ColumnSets.{rows-of};
+ghost use Rattle.columns.specs.ColumnSets.{row-numbers};
 ghost use Rattle.format.specs.Refusals.{refusal};
 use crate::content::constants_below;
 use crate::content::parameters_within;
@@ -17,7 +17,7 @@ pub fn judge_model(
     constants: &[u16],
     parameters: &[u64],
 ) -> u32
-    ensures { λ r. ⌜ r ≡ refusal p n a b (now (constants .entry)) (rows-of (now (parameters .entry))) ⌝ }
+    ensures { λ r. ⌜ r ≡ refusal p n a b (now (constants .entry)) (row-numbers (now (parameters .entry))) ⌝ }
 {
     if !prime_within(p) {
         return refusals::NOT_PRIME;

@@ -1,6 +1,6 @@
 // The layered rank call: the answer to a model handed over without a file.
 ghost use mathlib.Core.Path.{_≡_};
-ghost use Rattle.columns.specs.ColumnSets.{rows-of};
+ghost use Rattle.columns.specs.ColumnSets.{row-numbers};
 ghost use Rattle.layered.specs.Answers.{verdict-number, Refused, LayeredCall};
 ghost use Rattle.layered.specs.AnswerLaws.{beforehand};
 use columns::ColumnSet;
@@ -48,7 +48,7 @@ pub fn verdict_of(rank: usize, n: usize) -> u8
 
 // The tests that the solver does not make.
 fn passes_beforehand(p: u32, n: usize, b: usize, parameters: &[u64]) -> bool
-    ensures { λ r. ⌜ r ≡ beforehand p n b (rows-of (now (parameters .entry))) ⌝ }
+    ensures { λ r. ⌜ r ≡ beforehand p n b (row-numbers (now (parameters .entry))) ⌝ }
 {
     if p > LARGEST_PRIME {
         return false;
@@ -69,7 +69,7 @@ pub fn layered_rank(
     constants: &[u16],
     parameters: &[u64],
 ) -> Answer
-    ensures { λ r. ⌜ LayeredCall p n a b (now (constants .entry)) (rows-of (now (parameters .entry))) r ⌝ }
+    ensures { λ r. ⌜ LayeredCall p n a b (now (constants .entry)) (row-numbers (now (parameters .entry))) r ⌝ }
 {
     if !passes_beforehand(p, n, b, parameters) {
         return refuse(judge_model(p, n, a, b, constants, parameters));

@@ -7,7 +7,7 @@ ghost use lib.ListN.{length, getD};
 ghost use Rattle.limits.specs.Limits.{most-columns, most-rows, most-constants};
 ghost use Rattle.counting.specs.Sets.{_∈_};
 ghost use Rattle.columns.specs.Columns.{members};
-ghost use Rattle.columns.specs.ColumnSets.{whole, rows-of};
+ghost use Rattle.columns.specs.ColumnSets.{whole, row-numbers};
 ghost use Rattle.format.specs.Refusals.{mixed-refusal};
 ghost use Rattle.mixed.specs.MixedForm.{form-entry, form-row, serves};
 ghost use Rattle.mixed.specs.MixedAnswers.{MixedRefused, MixedCall};
@@ -54,7 +54,7 @@ pub fn judge_mixed(
     constants: &[u16],
     parameters: &[u64],
 ) -> u32
-    ensures { λ r. ⌜ r ≡ mixed-refusal p n a b (now (constants .entry)) (rows-of (now (parameters .entry))) ⌝ }
+    ensures { λ r. ⌜ r ≡ mixed-refusal p n a b (now (constants .entry)) (row-numbers (now (parameters .entry))) ⌝ }
 {
     let number = judge_model(p, n, a, b, constants, parameters);
     if number != 0 {
@@ -99,8 +99,8 @@ fn fill_constants(form: &mut [u16; MOST_CONSTANTS], constants: &[u16], m: usize,
 
 // Parameter row i of the form: a parameter at column i, and its own parameters m columns up.
 fn fill_parameters(words: &mut [u64], parameters: &[u64], m: usize)
-    requires { ⌜ m ≤ length (rows-of (now words)) ⌝ }
-    ensures { λ _. ⌜ (length (rows-of (now (words .exit))) ≡ length (rows-of (now (words .entry)))) × ((i : ℕ) → i < m → members (getD (rows-of (now (words .exit))) i 0) ≡ form-row m (members (getD (rows-of (now (parameters .entry))) i 0)) i) ⌝ }
+    requires { ⌜ m ≤ length (row-numbers (now words)) ⌝ }
+    ensures { λ _. ⌜ (length (row-numbers (now (words .exit))) ≡ length (row-numbers (now (words .entry)))) × ((i : ℕ) → i < m → members (getD (row-numbers (now (words .exit))) i 0) ≡ form-row m (members (getD (row-numbers (now (parameters .entry))) i 0)) i) ⌝ }
 {
     for i in 0..m {
         let own = columns::raised(columns::row(parameters, i), m);
@@ -147,7 +147,7 @@ pub fn mixed_rank(
     constants: &[u16],
     parameters: &[u64],
 ) -> MixedAnswer
-    ensures { λ r. ⌜ MixedCall p n a b (now (constants .entry)) (rows-of (now (parameters .entry))) r ⌝ }
+    ensures { λ r. ⌜ MixedCall p n a b (now (constants .entry)) (row-numbers (now (parameters .entry))) r ⌝ }
 {
     let number = judge_mixed(p, n, a, b, constants, parameters);
     if number != 0 {

@@ -6,18 +6,18 @@ use native.Mathlib.Nat.{div-one}
 use native.Mathlib.Omega.{arith}
 use lib.ListN.{length, set, length-set}
 use Rattle.limits.specs.Limits.{most-rows}
-use Rattle.columns.specs.ColumnSets.{row-words, most-words, rows-of, with-row}
+use Rattle.columns.specs.ColumnSets.{row-words, most-words, row-numbers, with-row}
 
-pub rows-length : (ws : List ℕ) → length (rows-of ws) ≡ length ws / row-words
-unfolding rows-of
+pub rows-length : (ws : List ℕ) → length (row-numbers ws) ≡ length ws / row-words
+unfolding row-numbers
 rows-length ws = sym (div-one (length ws))
 
 -- an area of the largest size has room for the rows of every model
-pub most-words-rows : (ws : List ℕ) → length ws ≡ most-words → length (rows-of ws) ≡ most-rows
+pub most-words-rows : (ws : List ℕ) → length ws ≡ most-words → length (row-numbers ws) ≡ most-rows
 most-words-rows ws e = omega (arith, rows-length ws)
 
-pub rows-with-row : (ws : List ℕ) (r w : ℕ) → rows-of (with-row ws r w) ≡ set (rows-of ws) r w
-unfolding rows-of with-row
+pub rows-with-row : (ws : List ℕ) (r w : ℕ) → row-numbers (with-row ws r w) ≡ set (row-numbers ws) r w
+unfolding row-numbers with-row
 rows-with-row ws r w = refl
 
 pub with-row-length : (ws : List ℕ) (r w : ℕ) → length (with-row ws r w) ≡ length ws

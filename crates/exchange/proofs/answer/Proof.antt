@@ -7,7 +7,7 @@ use mathlib.Core.List.{List}
 use lib.ListN.{getD-replicate, replicate}
 use Rattle.counting.specs.Sets.{_∈_}
 use Rattle.columns.specs.Columns.{width, members, within}
-use Rattle.columns.specs.ColumnSets.{whole, rows-of}
+use Rattle.columns.specs.ColumnSets.{whole, row-numbers}
 use Rattle.columns.specs.Words.Operations.{within-iff}
 use Rattle.columns.specs.Words.Sets.{columns-below}
 use Rattle.exchange.specs.Sizes.{lines}
@@ -37,7 +37,7 @@ offer-all-requires c κs =
         below = k .pre .0 .below;
         prime = k .pre .5;
       },
-      offers-some (a .p) (a .n) (a .a) (a .b) (rows-of (a .parameters .now)) (a .t .now) (replicate lines (a .n)) (none-owned (a .n) (a .a + a .b) (omega arith)) (members (whole (a .offered))) below,
+      offers-some (a .p) (a .n) (a .a) (a .b) (row-numbers (a .parameters .now)) (a .t .now) (replicate lines (a .n)) (none-owned (a .n) (a .a + a .b) (omega arith)) (members (whole (a .offered))) below,
     )
 
 difference-requires : tie.Need-difference-requires
@@ -68,7 +68,7 @@ returns c =
     let offers = c .before .before .before .before .before .before .before .before .before .before .offer-all in
     let k = c .before .before .before .before .before .before .before .before .before .before .before .before .before .before in
     let a = k .args in
-    let ws = rows-of (a .parameters .now) in
+    let ws = row-numbers (a .parameters .now) in
     let t = offers .last .0 in
     let o = offers .last .1 .0 in
     let in-set = members (whole (offers .result)) in

@@ -8,7 +8,7 @@ use borrow.Author.Tests.{not-true, not-false}
 use Rattle.residue.specs.Primes.{is-prime-reads}
 use Rattle.counting.specs.Sets.{Set, _∈_}
 use Rattle.columns.specs.Columns.{members}
-use Rattle.columns.specs.ColumnSets.{whole, rows-of}
+use Rattle.columns.specs.ColumnSets.{whole, row-numbers}
 use Rattle.columns.specs.Words.Operations.{within-iff}
 use Rattle.columns.specs.Words.Sets.{columns-below}
 use Rattle.rank.specs.Modulus.{residue-of}
@@ -23,11 +23,11 @@ use Rattle.exchange.proofs.solve.Statement.{statement}
 use Rattle.exchange.proofs.solve.Tie as tie
 
 -- what holds where the model is taken
-taken : (c : tie.Else1) → let a = c .before .before .before .before .args in admissible (a .p) (a .n) (a .a) (a .b) (whole (a .offered)) (a .constants .now) (rows-of (a .parameters .now)) ≡ true
+taken : (c : tie.Else1) → let a = c .before .before .before .before .args in admissible (a .p) (a .n) (a .a) (a .b) (whole (a .offered)) (a .constants .now) (row-numbers (a .parameters .now)) ≡ true
 taken c = sym (c .before .is-admissible .ensures) ∙ not-false _ (c .if1 .left)
 
-good : (c : tie.Else1) → let a = c .before .before .before .before .args in Admissible (a .p) (a .n) (a .a) (a .b) (whole (a .offered)) (a .constants .now) (rows-of (a .parameters .now))
-good c = let a = c .before .before .before .before .args in admissible-reads (a .p) (a .n) (a .a) (a .b) (whole (a .offered)) (a .constants .now) (rows-of (a .parameters .now)) (taken c)
+good : (c : tie.Else1) → let a = c .before .before .before .before .args in Admissible (a .p) (a .n) (a .a) (a .b) (whole (a .offered)) (a .constants .now) (row-numbers (a .parameters .now))
+good c = let a = c .before .before .before .before .args in admissible-reads (a .p) (a .n) (a .a) (a .b) (whole (a .offered)) (a .constants .now) (row-numbers (a .parameters .now)) (taken c)
 
 is-admissible-requires : tie.Need-is-admissible-requires
 is-admissible-requires c κs = search needs
@@ -38,7 +38,7 @@ nothing-requires c κs = search needs
 returns : tie.Need-returns
 returns c =
     let a = c .before .before .before .before .before .args in
-    let refused : admissible (a .p) (a .n) (a .a) (a .b) (whole (a .offered)) (a .constants .now) (rows-of (a .parameters .now)) ≡ false = sym (c .before .before .is-admissible .ensures) ∙ not-true _ (c .before .if1 .taken) in
+    let refused : admissible (a .p) (a .n) (a .a) (a .b) (whole (a .offered)) (a .constants .now) (row-numbers (a .parameters .now)) ≡ false = sym (c .before .before .is-admissible .ensures) ∙ not-true _ (c .before .if1 .taken) in
     record {
       is-valid = c .nothing .ensures .0 ∙ sym refused;
       if-not = λ z. c .nothing .ensures .1;
@@ -84,7 +84,7 @@ returns-2 c =
       is-valid = c .answer .ensures .0 ∙ sym (taken k);
       if-not = λ z. absurd (true≢false (sym (taken k) ∙ z));
       if-valid = λ z Q T E m.
-          let G : Given (a .p) (a .n) (a .b) (rows-of (a .parameters .now)) = record { Q = Q; T = T; E = E; parameters = m .parameters } in
+          let G : Given (a .p) (a .n) (a .b) (row-numbers (a .parameters .now)) = record { Q = Q; T = T; E = E; parameters = m .parameters } in
           c .answer .ensures .1 G (λ i x li lx. ap (residue-of (a .p)) (filled .1 .done i x li lx) ∙ sym (m .constants i x li lx))
           (λ x. ((λ e. (below x e, m .columns x (below x e) ∙ e)), λ w. sym (m .columns x (w .0)) ∙ w .1));
     }

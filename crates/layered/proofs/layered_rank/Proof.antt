@@ -5,7 +5,7 @@ use mathlib.Core.Bool.{true, true≢false}
 use lib.ListN.{length}
 use borrow.Author.Tests.{not-true, not-false}
 use Rattle.limits.specs.Limits.{most-columns, most-rows}
-use Rattle.columns.specs.ColumnSets.{whole, Fits, rows-of}
+use Rattle.columns.specs.ColumnSets.{whole, Fits, row-numbers}
 use Rattle.exchange.specs.Solve.{admissible, SolvedBy}
 use Rattle.exchange.specs.SolveLaws.{admissible-reads}
 use Rattle.rank.specs.ListedModel.{listed-model}
@@ -26,16 +26,16 @@ sets-fit c = search (needs, c .solve .ok)
 -- what holds where the solver takes the model
 
 taken : (c : tie.Else2) → let s = c .before .before in let a = s .before .before .before .before .before .before .args in
-    admissible (a .p) (a .n) (a .a) (a .b) (whole (s .before .below .result)) (a .constants .now) (rows-of (a .parameters .now)) ≡ true
+    admissible (a .p) (a .n) (a .a) (a .b) (whole (s .before .below .result)) (a .constants .now) (row-numbers (a .parameters .now)) ≡ true
 taken c = sym (c .before .before .solve .ensures .is-valid) ∙ not-false _ (c .if2 .left)
 
 solved-by : (c : tie.Else2) → let s = c .before .before in let a = s .before .before .before .before .before .before .args in
-    SolvedBy (listed-model (a .p) (a .n) (a .a) (a .b) (a .constants .now) (rows-of (a .parameters .now))) (s .solve .result)
+    SolvedBy (listed-model (a .p) (a .n) (a .a) (a .b) (a .constants .now) (row-numbers (a .parameters .now))) (s .solve .result)
 solved-by c =
     let s = c .before .before in
     let a = s .before .before .before .before .before .before .args in
     let columns : a .n ≤ most-columns = admissible-reads _ _ _ _ _ _ _ (taken c) .fits .columns in
-    s .solve .ensures .if-valid (taken c) _ _ _ (shows-model (a .p) (a .n) (a .a) (a .b) (a .constants .now) (rows-of (a .parameters .now)) _ (s .before .below .ensures) (omega arith))
+    s .solve .ensures .if-valid (taken c) _ _ _ (shows-model (a .p) (a .n) (a .a) (a .b) (a .constants .now) (row-numbers (a .parameters .now)) _ (s .before .below .ensures) (omega arith))
 
 passes-beforehand-requires : tie.Need-passes-beforehand-requires
 passes-beforehand-requires c κs = search needs
@@ -53,7 +53,7 @@ returns c =
     record {
       is-refusal = c .refuse .ensures .0 ∙ c .before .judge-model .ensures;
       if-refused = λ z. c .refuse .ensures .1;
-      if-accepted = λ z. absurd (true≢false (sym (accepted-beforehand (a .p) (a .n) (a .a) (a .b) (a .constants .now) (rows-of (a .parameters .now)) z) ∙ sym (tested .passes-beforehand .ensures) ∙ not-true _ (c .before .before .if1 .taken)));
+      if-accepted = λ z. absurd (true≢false (sym (accepted-beforehand (a .p) (a .n) (a .a) (a .b) (a .constants .now) (row-numbers (a .parameters .now)) z) ∙ sym (tested .passes-beforehand .ensures) ∙ not-true _ (c .before .before .if1 .taken)));
     }
 
 below-requires : tie.Need-below-requires
@@ -75,7 +75,7 @@ returns-2 c =
     record {
       is-refusal = c .refuse2 .ensures .0 ∙ c .before .judge-model2 .ensures;
       if-refused = λ z. c .refuse2 .ensures .1;
-      if-accepted = λ z. absurd (true≢false (sym (accepted-taken (a .p) (a .n) (a .a) (a .b) (a .constants .now) (rows-of (a .parameters .now)) _ (s .before .below .ensures) z) ∙ sym (s .solve .ensures .is-valid) ∙ not-true _ (c .before .before .if2 .taken)));
+      if-accepted = λ z. absurd (true≢false (sym (accepted-taken (a .p) (a .n) (a .a) (a .b) (a .constants .now) (row-numbers (a .parameters .now)) _ (s .before .below .ensures) z) ∙ sym (s .solve .ensures .is-valid) ∙ not-true _ (c .before .before .if2 .taken)));
     }
 
 verdict-of-requires : tie.Need-verdict-of-requires
@@ -86,7 +86,7 @@ cast-rank c =
     let accepted = c .before .before in
     let a = accepted .before .before .before .before .before .before .before .before .args in
     let columns : a .n ≤ most-columns = admissible-reads _ _ _ _ _ _ _ (taken accepted) .fits .columns in
-    omega (arith, solved-by accepted .is-rank, rank-small (listed-model (a .p) (a .n) (a .a) (a .b) (a .constants .now) (rows-of (a .parameters .now))))
+    omega (arith, solved-by accepted .is-rank, rank-small (listed-model (a .p) (a .n) (a .a) (a .b) (a .constants .now) (row-numbers (a .parameters .now))))
 
 returns-3 : tie.Need-returns-3
 returns-3 c =
@@ -94,12 +94,12 @@ returns-3 c =
     let s = accepted .before .before in
     let tested = s .before .before .before in
     let a = tested .before .before .before .args in
-    let passed : beforehand (a .p) (a .n) (a .b) (rows-of (a .parameters .now)) ≡ true = sym (tested .passes-beforehand .ensures) ∙ not-false _ (s .before .before .if1 .left) in
-    let zero : refusal (a .p) (a .n) (a .a) (a .b) (a .constants .now) (rows-of (a .parameters .now)) ≡ 0 = taken-accepted (a .p) (a .n) (a .a) (a .b) (a .constants .now) (rows-of (a .parameters .now)) _ (s .before .below .ensures) passed (taken accepted) in
+    let passed : beforehand (a .p) (a .n) (a .b) (row-numbers (a .parameters .now)) ≡ true = sym (tested .passes-beforehand .ensures) ∙ not-false _ (s .before .before .if1 .left) in
+    let zero : refusal (a .p) (a .n) (a .a) (a .b) (a .constants .now) (row-numbers (a .parameters .now)) ≡ 0 = taken-accepted (a .p) (a .n) (a .a) (a .b) (a .constants .now) (row-numbers (a .parameters .now)) _ (s .before .below .ensures) passed (taken accepted) in
     record {
       is-refusal = sym zero;
       if-refused = λ z. absurd (z zero);
-      if-accepted = λ z. answered (a .p) (a .n) (a .a) (a .b) (a .constants .now) (rows-of (a .parameters .now)) _ (sets-fit s .0) (sets-fit s .1) (rows-long s) (c .before .before .before .before .before .verdict-of .ensures) (solved-by accepted);
+      if-accepted = λ z. answered (a .p) (a .n) (a .a) (a .b) (a .constants .now) (row-numbers (a .parameters .now)) _ (sets-fit s .0) (sets-fit s .1) (rows-long s) (c .before .before .before .before .before .verdict-of .ensures) (solved-by accepted);
     }
 
 pub layered-rank-spec : {M : Type 1} → statement M

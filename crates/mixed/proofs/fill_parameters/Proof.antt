@@ -7,7 +7,7 @@ use lib.ListN.{length, getD, set, length-set}
 use lib.Seq.{getD-set-same, getD-set-other}
 use Rattle.counting.specs.Sets.{Set}
 use Rattle.columns.specs.Columns.{members, inserted, moved-up}
-use Rattle.columns.specs.ColumnSets.{whole, rows-of}
+use Rattle.columns.specs.ColumnSets.{whole, row-numbers}
 use Rattle.columns.specs.Words.Rows.{rows-with-row, with-row-length}
 use Rattle.mixed.specs.MixedForm.{form-row}
 use borrow.Author.Needs.{needs}
@@ -16,7 +16,7 @@ use Rattle.mixed.proofs.fill_parameters.Statement.{statement}
 use Rattle.mixed.proofs.fill_parameters.Tie as tie
 
 abbrev Inv-loop : tie.InvT-loop
-Inv-loop words₀ parameters m i₀ words i = (i ≤ m) × (length (rows-of words) ≡ length (rows-of words₀)) × ((k : ℕ) → k < i → members (getD (rows-of words) k 0) ≡ form-row m (members (getD (rows-of parameters) k 0)) k) × (length words ≡ length words₀)
+Inv-loop words₀ parameters m i₀ words i = (i ≤ m) × (length (row-numbers words) ≡ length (row-numbers words₀)) × ((k : ℕ) → k < i → members (getD (row-numbers words) k 0) ≡ form-row m (members (getD (row-numbers parameters) k 0)) k) × (length words ≡ length words₀)
 
 abbrev μ-loop : tie.MeasureT-loop
 μ-loop words₀ parameters m i₀ words i = m - i
@@ -51,14 +51,14 @@ loop-again c =
     let k = c .before .before .before .before .before .before .before .before in
     let l = k .loop in
     let a = k .before .before .before .args in
-    let ws = rows-of (l .words) in
+    let ws = row-numbers (l .words) in
     let w = whole (made .result) in
-    let rows-are : rows-of (put .last .0) ≡ set ws (l .i) w = ap rows-of (put .ensures) ∙ rows-with-row (l .words) (l .i) w in
+    let rows-are : row-numbers (put .last .0) ≡ set ws (l .i) w = ap row-numbers (put .ensures) ∙ rows-with-row (l .words) (l .i) w in
     let inside : l .i < length ws = omega arith in
-    let is-made : members w ≡ form-row (a .m) (members (getD (rows-of (a .parameters .now)) (l .i) 0)) (l .i) = made .ensures ∙ ap (λ (S : Set). inserted S (l .i)) (moved .ensures ∙ ap (λ (v : ℕ). moved-up (members v) (a .m)) (own .ensures)) in (
+    let is-made : members w ≡ form-row (a .m) (members (getD (row-numbers (a .parameters .now)) (l .i) 0)) (l .i) = made .ensures ∙ ap (λ (S : Set). inserted S (l .i)) (moved .ensures ∙ ap (λ (v : ℕ). moved-up (members v) (a .m)) (own .ensures)) in (
       search needs,
       ap length rows-are ∙ length-set ws (l .i) w ∙ l .inv .1,
-      rw rows-are (below-more (λ k. members (getD (set ws (l .i) w) k 0) ≡ form-row (a .m) (members (getD (rows-of (a .parameters .now)) k 0)) k) (l .i)
+      rw rows-are (below-more (λ k. members (getD (set ws (l .i) w) k 0) ≡ form-row (a .m) (members (getD (row-numbers (a .parameters .now)) k 0)) k) (l .i)
           (λ k m. ap members (getD-set-other ws (l .i) k w 0 (λ z. omega arith)) ∙ l .inv .2 k m)
           (ap members (getD-set-same ws (l .i) w 0 inside) ∙ is-made)),
       ap length (put .ensures) ∙ with-row-length (l .words) (l .i) w ∙ l .inv .3,

@@ -5,7 +5,7 @@ use Rattle.counting.specs.Sets.{Set}
 use lib.ListN.{replicate}
 use Rattle.limits.specs.Limits.{most-columns}
 use Rattle.columns.specs.Columns.{moved-down}
-use Rattle.columns.specs.ColumnSets.{Fits, most-words, rows-of}
+use Rattle.columns.specs.ColumnSets.{Fits, most-words, row-numbers}
 use Rattle.columns.specs.Words.Rows.{most-words-rows}
 use Rattle.exchange.specs.Solve.{SolvedBy}
 use Rattle.format.specs.Refusals.{mixed-refusal}
@@ -19,15 +19,15 @@ use Rattle.mixed.proofs.mixed_rank.Statement.{statement}
 use Rattle.mixed.proofs.mixed_rank.Tie as tie
 
 -- the question is accepted
-none-refused : (c : tie.Else1) → let a = c .before .before .before .before .args in mixed-refusal (a .p) (a .n) (a .a) (a .b) (a .constants .now) (rows-of (a .parameters .now)) ≡ 0
+none-refused : (c : tie.Else1) → let a = c .before .before .before .before .args in mixed-refusal (a .p) (a .n) (a .a) (a .b) (a .constants .now) (row-numbers (a .parameters .now)) ≡ 0
 none-refused c = sym (c .before .judge-mixed .ensures) ∙ c .if1 .left
 
-accepted : (c : tie.Else1) → let a = c .before .before .before .before .args in Accepted (a .p) (a .n) (a .a) (a .a) (a .constants .now) (rows-of (a .parameters .now)) × (a .a + a .n ≤ most-columns)
-accepted c = let a = c .before .before .before .before .args in mixed-accepted (a .p) (a .n) (a .a) (a .b) (a .constants .now) (rows-of (a .parameters .now)) (none-refused c)
+accepted : (c : tie.Else1) → let a = c .before .before .before .before .args in Accepted (a .p) (a .n) (a .a) (a .a) (a .constants .now) (row-numbers (a .parameters .now)) × (a .a + a .n ≤ most-columns)
+accepted c = let a = c .before .before .before .before .args in mixed-accepted (a .p) (a .n) (a .a) (a .b) (a .constants .now) (row-numbers (a .parameters .now)) (none-refused c)
 
 -- the solver takes the form, and answers it
 form-solved : (c : tie.After-solve) → let a = c .before .before .before .before .before .before .before .before .before .before .before .before .before .args in
-    SolvedBy (layered-form (mixed (a .p) (a .a) (a .n) (a .constants .now) (rows-of (a .parameters .now)))) (c .solve .result)
+    SolvedBy (layered-form (mixed (a .p) (a .a) (a .n) (a .constants .now) (row-numbers (a .parameters .now)))) (c .solve .result)
 form-solved c =
     let k = c .before .before .before .before .before .before .before .before .before in
     let a = k .before .before .before .before .args in
@@ -37,8 +37,8 @@ form-solved c =
     let all = c .before .before .before .below .ensures in
     let lent = parameters .0 ∙ most-words-rows _ refl in
     c .solve .ensures .if-valid
-    (form-admissible (a .p) (a .a) (a .n) (a .constants .now) (rows-of (a .parameters .now)) (h .0) (h .1) _ _ _ (constants .0) lent (constants .1) all) _ _ _
-    (shows-form (a .p) (a .a) (a .n) (a .constants .now) (rows-of (a .parameters .now)) (h .0) (h .1) _ _ _ (constants .0) lent (constants .1) all (parameters .1))
+    (form-admissible (a .p) (a .a) (a .n) (a .constants .now) (row-numbers (a .parameters .now)) (h .0) (h .1) _ _ _ (constants .0) lent (constants .1) all) _ _ _
+    (shows-form (a .p) (a .a) (a .n) (a .constants .now) (row-numbers (a .parameters .now)) (h .0) (h .1) _ _ _ (constants .0) lent (constants .1) all (parameters .1))
 
 sets-fit : (c : tie.After-solve) → Fits (c .solve .result .short)
 sets-fit c = search (needs, c .solve .ok)
@@ -90,7 +90,7 @@ sub-rank : tie.Need-sub-rank
 sub-rank c =
     let solved = c .before in
     let a = solved .before .before .before .before .before .before .before .before .before .before .before .before .before .args in
-    omega (arith, rank-of-form (mixed (a .p) (a .a) (a .n) (a .constants .now) (rows-of (a .parameters .now))) _ _ _ _ _ (form-solved solved))
+    omega (arith, rank-of-form (mixed (a .p) (a .a) (a .n) (a .constants .now) (row-numbers (a .parameters .now))) _ _ _ _ _ (form-solved solved))
 
 verdict-of-requires : tie.Need-verdict-of-requires
 verdict-of-requires c κs = search needs
@@ -100,7 +100,7 @@ cast-reached c =
     let solved = c .before .before in
     let k = solved .before .before .before .before .before .before .before .before .before in
     let a = k .before .before .before .before .args in
-    omega (arith, accepted k .1, form-solved solved .is-rank, rank-small (layered-form (mixed (a .p) (a .a) (a .n) (a .constants .now) (rows-of (a .parameters .now)))))
+    omega (arith, accepted k .1, form-solved solved .is-rank, rank-small (layered-form (mixed (a .p) (a .a) (a .n) (a .constants .now) (row-numbers (a .parameters .now)))))
 
 idle-rows-requires : tie.Need-idle-rows-requires
 idle-rows-requires c κs = accepted (c .before .before .before .before .before .before .before .before .before .before .before .before .before) .0 .a-most
@@ -118,7 +118,7 @@ returns-2 c =
     record {
       is-refusal = sym zero;
       if-refused = λ z. absurd (z zero);
-      if-accepted = λ z. mixed-answered (mixed (a .p) (a .a) (a .n) (a .constants .now) (rows-of (a .parameters .now))) _ _ _ _ _ (form-solved solved) _ (omega (arith, accepted k .1)) (sets-fit solved) refl
+      if-accepted = λ z. mixed-answered (mixed (a .p) (a .a) (a .n) (a .constants .now) (row-numbers (a .parameters .now))) _ _ _ _ _ (form-solved solved) _ (omega (arith, accepted k .1)) (sets-fit solved) refl
           (c .before .before .before .before .verdict-of .ensures) (c .before .idle-rows .ensures) (λ x. ap (λ (S : Set). S x) (c .lowered .ensures)) (λ x. refl);
     }
 

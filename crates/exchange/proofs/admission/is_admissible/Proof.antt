@@ -10,7 +10,7 @@ use Rattle.limits.specs.Limits.{most-columns, most-rows}
 use Rattle.residue.specs.Arithmetic.{is-prime}
 use Rattle.residue.specs.Primes.{is-prime-reads}
 use Rattle.columns.specs.Columns.{within}
-use Rattle.columns.specs.ColumnSets.{whole, rows-of}
+use Rattle.columns.specs.ColumnSets.{whole, row-numbers}
 use Rattle.exchange.specs.Solve.{fitting}
 use Rattle.exchange.specs.SolveLaws.{Fitting, fitting-reads, at-fitting, at-inside, at-short, at-prime, at-last}
 use borrow.Author.Needs.{needs}
@@ -20,10 +20,10 @@ use Rattle.exchange.proofs.admission.is_admissible.Tie as tie
 
 -- what each test says
 
-fitted : (c : tie.After-fits2) → let a = c .before .before .before .before .args in c .fits2 .result ≡ fitting (a .n) (a .a) (a .b) (length (a .constants .now)) (length (rows-of (a .parameters .now)))
+fitted : (c : tie.After-fits2) → let a = c .before .before .before .before .args in c .fits2 .result ≡ fitting (a .n) (a .a) (a .b) (length (a .constants .now)) (length (row-numbers (a .parameters .now)))
 fitted c = let a = c .before .before .before .before .args in c .fits2 .ensures ∙ ap (fitting (a .n) (a .a) (a .b) (length (a .constants .now))) (c .before .rows .ensures)
 
-fits : (c : tie.Else1) → let a = c .before .before .before .before .before .args in fitting (a .n) (a .a) (a .b) (length (a .constants .now)) (length (rows-of (a .parameters .now))) ≡ true
+fits : (c : tie.Else1) → let a = c .before .before .before .before .before .args in fitting (a .n) (a .a) (a .b) (length (a .constants .now)) (length (row-numbers (a .parameters .now))) ≡ true
 fits c = sym (fitted (c .before)) ∙ not-false _ (c .if1 .left)
 
 inside : (c : tie.Else2) → let a = c .before .before .before .before .before .before .before .args in within (a .n) (whole (a .offered)) ≡ true
@@ -36,7 +36,7 @@ prime : (c : tie.Else4) → is-prime (c .before .before .before .before .before 
 prime c = sym (c .before .is-prime .ensures) ∙ not-false _ (c .if4 .left)
 
 -- what the sizes are when all but the last test have passed
-sizes : (c : tie.Else4) → let a = c .before .before .before .before .before .before .before .before .before .before .args in Fitting (a .n) (a .a) (a .b) (length (a .constants .now)) (length (rows-of (a .parameters .now)))
+sizes : (c : tie.Else4) → let a = c .before .before .before .before .before .before .before .before .before .before .args in Fitting (a .n) (a .a) (a .b) (length (a .constants .now)) (length (row-numbers (a .parameters .now)))
 sizes c = fitting-reads _ _ _ _ _ (fits (c .before .before .before .before .before))
 
 rows-requires : tie.Need-rows-requires
@@ -48,7 +48,7 @@ fits-requires c κs = search needs
 returns : tie.Need-returns
 returns c =
     let a = c .before .before .before .before .before .args in
-    at-fitting (a .p) (a .n) (a .a) (a .b) (whole (a .offered)) (a .constants .now) (rows-of (a .parameters .now)) (sym (fitted (c .before)) ∙ not-true _ (c .if1 .taken))
+    at-fitting (a .p) (a .n) (a .a) (a .b) (whole (a .offered)) (a .constants .now) (row-numbers (a .parameters .now)) (sym (fitted (c .before)) ∙ not-true _ (c .if1 .taken))
 
 within-requires : tie.Need-within-requires
 within-requires c κs = search needs
@@ -56,12 +56,12 @@ within-requires c κs = search needs
 returns-2 : tie.Need-returns-2
 returns-2 c =
     let a = c .before .before .before .before .before .before .before .args in
-    at-inside (a .p) (a .n) (a .a) (a .b) (whole (a .offered)) (a .constants .now) (rows-of (a .parameters .now)) (fits (c .before .before)) (sym (c .before .within .ensures) ∙ not-true _ (c .if2 .taken))
+    at-inside (a .p) (a .n) (a .a) (a .b) (whole (a .offered)) (a .constants .now) (row-numbers (a .parameters .now)) (fits (c .before .before)) (sym (c .before .within .ensures) ∙ not-true _ (c .if2 .taken))
 
 returns-3 : tie.Need-returns-3
 returns-3 c =
     let a = c .before .before .before .before .before .before .before .before .args in
-    at-short (a .p) (a .n) (a .a) (a .b) (whole (a .offered)) (a .constants .now) (rows-of (a .parameters .now)) (fits (c .before .before .before)) (inside (c .before)) (le-ltb (a .p) 65536 (c .if3 .taken))
+    at-short (a .p) (a .n) (a .a) (a .b) (whole (a .offered)) (a .constants .now) (row-numbers (a .parameters .now)) (fits (c .before .before .before)) (inside (c .before)) (le-ltb (a .p) 65536 (c .if3 .taken))
 
 is-prime-requires : tie.Need-is-prime-requires
 is-prime-requires c κs = search needs
@@ -70,7 +70,7 @@ returns-4 : tie.Need-returns-4
 returns-4 c =
     let k = c .before .before in
     let a = k .before .before .before .before .before .before .before .before .args in
-    at-prime (a .p) (a .n) (a .a) (a .b) (whole (a .offered)) (a .constants .now) (rows-of (a .parameters .now)) (fits (k .before .before .before)) (inside (k .before)) (short k) (sym (c .before .is-prime .ensures) ∙ not-true _ (c .if4 .taken))
+    at-prime (a .p) (a .n) (a .a) (a .b) (whole (a .offered)) (a .constants .now) (row-numbers (a .parameters .now)) (fits (k .before .before .before)) (inside (k .before)) (short k) (sym (c .before .is-prime .ensures) ∙ not-true _ (c .if4 .taken))
 
 mul-constants-below : tie.Need-mul-constants-below
 mul-constants-below c =
@@ -86,7 +86,7 @@ returns-5 c =
     let k = c .before .before .before in
     let a = k .before .before .before .before .before .before .before .before .args in
     c .constants-below .ensures
-    ∙ at-last (a .p) (a .n) (a .a) (a .b) (whole (a .offered)) (a .constants .now) (rows-of (a .parameters .now)) (fits (k .before .before .before)) (inside (k .before)) (short k) (prime (c .before))
+    ∙ at-last (a .p) (a .n) (a .a) (a .b) (whole (a .offered)) (a .constants .now) (row-numbers (a .parameters .now)) (fits (k .before .before .before)) (inside (k .before)) (short k) (prime (c .before))
 
 pub is-admissible-spec : {M : Type 1} → statement M
 is-admissible-spec =

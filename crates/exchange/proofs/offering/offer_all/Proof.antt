@@ -8,7 +8,7 @@ use borrow.Author.Tests.{eqb-true, eqb-false, not-false}
 use Rattle.counting.specs.Bools.{not-in}
 use Rattle.counting.specs.Sets.{Set, _∈_, #}
 use Rattle.columns.specs.Columns.{width, members}
-use Rattle.columns.specs.ColumnSets.{whole, rows-of}
+use Rattle.columns.specs.ColumnSets.{whole, row-numbers}
 use Rattle.columns.specs.Words.Sets.{empty-none}
 use Rattle.columns.specs.Words.Operations.{least-first}
 use Rattle.columns.specs.Words.SetLaws.{removed-less, least-there, nothing-in}
@@ -22,7 +22,7 @@ use Rattle.exchange.proofs.offering.offer_all.Statement.{statement}
 use Rattle.exchange.proofs.offering.offer_all.Tie as tie
 
 abbrev Inv-loop : tie.InvT-loop
-Inv-loop t₀ owner₀ parameters p n a b rest₀ placed₀ t owner rest placed = Arrays p n a b t owner × ((G : Given p n b (rows-of parameters)) → Offers p n a b (rows-of parameters) (members (whole rest₀)) t₀ owner₀ G → Offering p n a b (rows-of parameters) G t owner (members (whole rest)) (members (whole placed)))
+Inv-loop t₀ owner₀ parameters p n a b rest₀ placed₀ t owner rest placed = Arrays p n a b t owner × ((G : Given p n b (row-numbers parameters)) → Offers p n a b (row-numbers parameters) (members (whole rest₀)) t₀ owner₀ G → Offering p n a b (row-numbers parameters) G t owner (members (whole rest)) (members (whole placed)))
 
 abbrev μ-loop : tie.MeasureT-loop
 μ-loop t₀ owner₀ parameters p n a b rest₀ placed₀ t owner rest placed = # width (members (whole rest))
@@ -35,7 +35,7 @@ there c =
 
 least : (c : tie.After-first Inv-loop μ-loop)
     → let l = c .before .before .before .loop in let a = c .before .before .before .before .before .before .args in
-    a .n ≤ width → (G : Given (a .p) (a .n) (a .b) (rows-of (a .parameters .now))) → Offers (a .p) (a .n) (a .a) (a .b) (rows-of (a .parameters .now)) (members (whole (a .offered))) (a .t .now) (a .owner .now) G
+    a .n ≤ width → (G : Given (a .p) (a .n) (a .b) (row-numbers (a .parameters .now))) → Offers (a .p) (a .n) (a .a) (a .b) (row-numbers (a .parameters .now)) (members (whole (a .offered))) (a .t .now) (a .owner .now) G
     → (x : ℕ) → x ∈ members (whole (l .rest)) → c .first .result ≤ x
 least c h G m x e =
     let l = c .before .before .before .loop in
@@ -48,7 +48,7 @@ loop-holds : tie.Need-loop-holds Inv-loop μ-loop
 loop-holds c =
     let k = c .before .before in
     let a = k .args in
-    (k .pre .0, λ G m. rw (empty-none (c .empty .ensures)) (offering-start (a .p) (a .n) (a .a) (a .b) (rows-of (a .parameters .now)) G (a .t .now) (a .owner .now) (members (whole (a .offered))) (m .held) (m .none-yet) (m .columns)))
+    (k .pre .0, λ G m. rw (empty-none (c .empty .ensures)) (offering-start (a .p) (a .n) (a .a) (a .b) (row-numbers (a .parameters .now)) G (a .t .now) (a .owner .now) (members (whole (a .offered))) (m .held) (m .none-yet) (m .columns)))
 
 is-empty-requires : tie.Need-is-empty-requires Inv-loop μ-loop
 is-empty-requires c κs = search needs
@@ -65,7 +65,7 @@ place-requires c κs =
     let l = f .before .before .before .loop in
     let k = f .before .before .before .before .before .before in
     let a = k .args in
-    let ws = rows-of (a .parameters .now) in
+    let ws = row-numbers (a .parameters .now) in
     let G = k .pre .1 .0 in
     let m = k .pre .1 .1 in
     let d = l .inv .1 G m in
@@ -88,7 +88,7 @@ loop-again c =
     let l = f .before .before .before .loop in
     let k = f .before .before .before .before .before .before in
     let a = k .args in
-    let ws = rows-of (a .parameters .now) in
+    let ws = row-numbers (a .parameters .now) in
     let pl = c .before .before .place in
     let t = pl .last .0 in
     let o = pl .last .1 .0 in
@@ -114,7 +114,7 @@ loop-again-2 c =
     let l = f .before .before .before .loop in
     let k = f .before .before .before .before .before .before in
     let a = k .args in
-    let ws = rows-of (a .parameters .now) in
+    let ws = row-numbers (a .parameters .now) in
     let pl = c .before .place in
     let t = pl .last .0 in
     let o = pl .last .1 .0 in
@@ -139,7 +139,7 @@ returns c =
       λ G m.
           let d = l .inv .1 G m in record {
             held = d .held;
-            all-offered = offered-last (a .p) (a .n) (a .a) (a .b) (rows-of (a .parameters .now)) G (l .t) (l .owner) (members (whole (l .rest))) (members (whole (l .placed))) d (λ x e. nothing-in width (members (whole (l .rest))) gone x (omega (arith, d .left x .0 e .0)) e);
+            all-offered = offered-last (a .p) (a .n) (a .a) (a .b) (row-numbers (a .parameters .now)) G (l .t) (l .owner) (members (whole (l .rest))) (members (whole (l .placed))) d (λ x e. nothing-in width (members (whole (l .rest))) gone x (omega (arith, d .left x .0 e .0)) e);
             are-placed = d .are-placed;
           },
     )

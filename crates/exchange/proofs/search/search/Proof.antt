@@ -7,7 +7,7 @@ use borrow.Author.Tests.{eqb-true, eqb-false}
 use Rattle.counting.specs.Sets.{Set, _∈_, _∩_, _∪_, ∁, #}
 use Rattle.counting.specs.Counts.{#-le}
 use Rattle.columns.specs.Columns.{width, members}
-use Rattle.columns.specs.ColumnSets.{whole, rows-of}
+use Rattle.columns.specs.ColumnSets.{whole, row-numbers}
 use Rattle.columns.specs.Words.SetLaws.{union-more}
 use Rattle.rank.specs.Graph.States.{State}
 use Rattle.exchange.specs.Code.Scanning.{touched, owned}
@@ -18,7 +18,7 @@ use Rattle.exchange.proofs.search.search.Statement.{statement}
 use Rattle.exchange.proofs.search.search.Tie as tie
 
 abbrev Inv-loop : tie.InvT-loop
-Inv-loop t owner parameters n a rows reached₀ front₀ depth₀ reached front depth = (depth ≤ # width (members (whole reached))) × ((E : Set) (s : State n rows) → Shows E s (touched a t (rows-of parameters)) (owned owner) → ((x : ℕ) → x ∈ members (whole reached₀) → (x < n) × (x ∈ E)) → Reaching s (members (whole reached₀)) E (members (whole reached)) (members (whole front)) depth)
+Inv-loop t owner parameters n a rows reached₀ front₀ depth₀ reached front depth = (depth ≤ # width (members (whole reached))) × ((E : Set) (s : State n rows) → Shows E s (touched a t (row-numbers parameters)) (owned owner) → ((x : ℕ) → x ∈ members (whole reached₀) → (x < n) × (x ∈ E)) → Reaching s (members (whole reached₀)) E (members (whole reached)) (members (whole front)) depth)
 
 abbrev μ-loop : tie.MeasureT-loop
 μ-loop t owner parameters n a rows reached₀ front₀ depth₀ reached front depth = width - # width (members (whole reached))

@@ -6,7 +6,7 @@ use mathlib.Core.Bool.{true≢false, false≢true}
 use mathlib.Core.List.{List}
 use Rattle.counting.specs.Sets.{Set}
 use Rattle.columns.specs.Columns.{members, none, inserted}
-use Rattle.columns.specs.ColumnSets.{whole, rows-of}
+use Rattle.columns.specs.ColumnSets.{whole, row-numbers}
 use Rattle.columns.specs.Words.Sets.{empty-none}
 use Rattle.rank.specs.Graph.Closed.{Closed}
 use Rattle.rank.specs.Graph.Layers.{layer}
@@ -20,7 +20,7 @@ use Rattle.exchange.proofs.seating.place.Statement.{statement}
 use Rattle.exchange.proofs.seating.place.Tie as tie
 
 abbrev Inv-loop : tie.InvT-loop
-Inv-loop t₀ owner₀ parameters p n a b j rows start f₀ t owner f = Arrays p n a b t owner × Finds n a b (rows-of parameters) j t owner f × Holds p n a b (rows-of parameters) j t₀ owner₀ t owner
+Inv-loop t₀ owner₀ parameters p n a b j rows start f₀ t owner f = Arrays p n a b t owner × Finds n a b (row-numbers parameters) j t owner f × Holds p n a b (row-numbers parameters) j t₀ owner₀ t owner
 
 abbrev μ-loop : tie.MeasureT-loop
 μ-loop t₀ owner₀ parameters p n a b j rows start f₀ t owner f = f .depth
@@ -34,7 +34,7 @@ starts : (c : tie.After-with Inv-loop μ-loop) → members (whole (c .with .resu
 starts c = c .with .ensures ∙ ap (λ (S : Set). inserted S (c .before .before .before .args .j)) (empty-none (c .before .empty .ensures))
 
 first-seeks : (c : tie.After-search Inv-loop μ-loop)
-    → let a = c .before .before .before .before .before .before .args in Seeks (a .n) (a .a) (a .b) (rows-of (a .parameters .now)) (a .j) (a .t .now) (a .owner .now) (c .search .result)
+    → let a = c .before .before .before .before .before .before .args in Seeks (a .n) (a .a) (a .b) (row-numbers (a .parameters .now)) (a .j) (a .t .now) (a .owner .now) (c .search .result)
 first-seeks c = seeks (c .search .result) _ (omega arith) (omega arith) (starts (c .before .before .before)) (c .search .ensures)
 
 -- where the call began, and where the loop did
@@ -51,7 +51,7 @@ turned-arrays : (c : tie.After-search2 Inv-loop μ-loop) → let a = entry (turn
 turned-arrays c = let st = c .before .before .before .seat in seated (turn c .loop .inv .0) (st .ensures .0) (st .ensures .1)
 
 turned-seeks : (c : tie.After-search2 Inv-loop μ-loop) → let a = entry (turn c) .args in let st = c .before .before .before .seat in
-    Seeks (a .n) (a .a) (a .b) (rows-of (a .parameters .now)) (a .j) (st .last .0) (st .last .1 .0) (c .search2 .result)
+    Seeks (a .n) (a .a) (a .b) (row-numbers (a .parameters .now)) (a .j) (st .last .0) (st .last .1 .0) (c .search2 .result)
 turned-seeks c =
     let given = entry (turn c) .pre in
     seeks (c .search2 .result) _ (given .1) (omega (arith, given .0 .lengths .columns)) (starts (turn c .before .before .before .before .before .before)) (c .search2 .ensures)
@@ -83,7 +83,7 @@ returns c =
       λ G h e new. (
         h,
         (λ d. absurd (false≢true d)),
-        λ d. (same-placed-refl (h .s), found .says (G .E) (h .s) (held-shows (a .p) (a .n) (a .a) (a .b) (rows-of (a .parameters .now)) G (a .t .now) (a .owner .now) (s .pre .0) h) e .1 (omega arith) .is-closed),
+        λ d. (same-placed-refl (h .s), found .says (G .E) (h .s) (held-shows (a .p) (a .n) (a .a) (a .b) (row-numbers (a .parameters .now)) G (a .t .now) (a .owner .now) (s .pre .0) h) e .1 (omega arith) .is-closed),
       ),
     )
 

@@ -9,20 +9,20 @@ use lib.Seq.{take-all}
 use borrow.Author.Needs.{needs}
 use borrow.Author.Tests.{not-true, not-false}
 use Rattle.columns.specs.Columns.{within}
-use Rattle.columns.specs.ColumnSets.{whole, rows-of}
+use Rattle.columns.specs.ColumnSets.{whole, row-numbers}
 use Rattle.format.specs.ListLaws.{all-pass-done, all-pass-more, all-pass-misses}
 use Rattle.format.specs.Refusals.{parameter-test}
 use Rattle.format.proofs.content.parameters_within.Statement.{statement}
 use Rattle.format.proofs.content.parameters_within.Tie as tie
 
 abbrev Inv-loop : tie.InvT-loop
-Inv-loop parameters b n held r₀ r = (r ≤ b) × (parameter-test n (take r (rows-of parameters)) ≡ true)
+Inv-loop parameters b n held r₀ r = (r ≤ b) × (parameter-test n (take r (row-numbers parameters)) ≡ true)
 
 abbrev μ-loop : tie.MeasureT-loop
 μ-loop parameters b n held r₀ r = b - r
 
 -- the test of row r
-tested : (c : tie.After-within Inv-loop μ-loop) → let k = c .before .before .before .before in let a = k .before .before .before .args in within (a .n) (getD (rows-of (a .parameters .now)) (k .loop .r) 0) ≡ c .within .result
+tested : (c : tie.After-within Inv-loop μ-loop) → let k = c .before .before .before .before in let a = k .before .before .before .args in within (a .n) (getD (row-numbers (a .parameters .now)) (k .loop .r) 0) ≡ c .within .result
 tested c = sym (c .within .ensures ∙ ap (within (c .before .before .before .before .before .before .before .args .n)) (c .before .row .ensures))
 
 rows-requires : tie.Need-rows-requires Inv-loop μ-loop
@@ -36,7 +36,7 @@ returns : tie.Need-returns Inv-loop μ-loop
 returns c =
     let l = c .before .before .loop in
     let a = c .before .before .before .before .before .args in
-    let ws = rows-of (a .parameters .now) in
+    let ws = row-numbers (a .parameters .now) in
     let few : length ws ≤ l .r = omega (arith, c .before .before .before .rows .ensures) in
     sym (ap (parameter-test (a .n)) (take-all (a .b) ws (omega arith) ∙ sym (take-all (l .r) ws few)) ∙ l .inv .1)
 
@@ -51,7 +51,7 @@ unfolding parameter-test
 returns-2 c =
     let k = c .before .before .before .before .before in
     let a = k .before .before .before .args in
-    let ws = rows-of (a .parameters .now) in
+    let ws = row-numbers (a .parameters .now) in
     sym (all-pass-misses (within (a .n)) ws (a .b) (k .loop .r) (omega arith) (omega (arith, k .before .rows .ensures)) (tested (c .before) ∙ not-true _ (c .if2 .taken)))
 
 add-r : tie.Need-add-r Inv-loop μ-loop
@@ -65,7 +65,7 @@ unfolding parameter-test
 loop-again c =
     let k = c .before .before .before .before .before in
     let a = k .before .before .before .args in
-    let ws = rows-of (a .parameters .now) in
+    let ws = row-numbers (a .parameters .now) in
     (omega arith, rw (add-one (k .loop .r)) (all-pass-more (within (a .n)) ws (k .loop .r) (omega (arith, k .before .rows .ensures)) (k .loop .inv .1) (tested (c .before) ∙ not-false _ (c .if2 .left))))
 
 returns-3 : tie.Need-returns-3 Inv-loop μ-loop

@@ -11,7 +11,7 @@ use borrow.Author.Needs.{needs}
 use borrow.Author.Tests.{le-leb, lt-leb, not-true, not-false}
 use Rattle.format.specs.RefusalLaws.{first-fails, first-passes, first-none}
 use Rattle.format.specs.Refusals.{Tests, unless, _then_, not-prime, sizes-beyond, area-short, first-refusal, prime-test, size-test, area-test, model-tests, refusal}
-use Rattle.columns.specs.ColumnSets.{rows-of}
+use Rattle.columns.specs.ColumnSets.{row-numbers}
 use Rattle.limits.specs.Limits.{most-columns, most-rows}
 use Rattle.format.specs.TestLaws.{size-reads}
 use Rattle.format.proofs.handed_over.judge_model.Statement.{statement}
@@ -25,13 +25,13 @@ after-sizes : (c : tie.Else2) (ts : Tests) (r : ℕ) → r ≡ first-refusal ts
     → let a = c .before .before .before .before .before .before .args in r ≡ first-refusal (unless (prime-test (a .p)) not-prime then unless (size-test (a .n) (a .a) (a .b)) sizes-beyond then ts)
 after-sizes c ts r e = after-prime (c .before .before) _ r (first-passes _ _ ts r (sym (c .before .sizes-within .ensures) ∙ not-false _ (c .if2 .left)) e)
 
-rows-lent : (c : tie.Else4) → let a = c .before .before .before .before .before .before .before .before .before .args in leb (a .b) (length (rows-of (a .parameters .now))) ≡ true
+rows-lent : (c : tie.Else4) → let a = c .before .before .before .before .before .before .before .before .before .args in leb (a .b) (length (row-numbers (a .parameters .now))) ≡ true
 rows-lent c = rw (c .before .rows .ensures) at (le-leb _ _ (c .if4 .left))
 
 after-areas : (c : tie.Else4) (ts : Tests) (r : ℕ) → r ≡ first-refusal ts
     → let a = c .before .before .before .before .before .before .before .before .before .args in
     r ≡ first-refusal (unless (prime-test (a .p)) not-prime then unless (size-test (a .n) (a .a) (a .b)) sizes-beyond
-    then unless (area-test (a .a * a .n) (length (a .constants .now))) area-short then unless (area-test (a .b) (length (rows-of (a .parameters .now)))) area-short then ts)
+    then unless (area-test (a .a * a .n) (length (a .constants .now))) area-short then unless (area-test (a .b) (length (row-numbers (a .parameters .now)))) area-short then ts)
 unfolding area-test
 after-areas c ts r e = after-sizes (c .before .before .before) _ r (first-passes _ _ _ r (le-leb _ _ (c .before .before .if3 .left)) (first-passes _ _ ts r (rows-lent c) e))
 
