@@ -1,10 +1,16 @@
 // The calls for models handed over without a file, exported to C for the tests that hold the compiled library against a
 // reference, and for measuring. The product's archive has none of them.
 ghost use Prim.Native.Nat.{ℕ};
+ghost use Rattle.columns.specs.ColumnSets.{row-numbers};
 ghost use Rattle.format.specs.File.Format.{WriteCall};
-ghost use Rattle.solvability.specs.Area.{LayeredBytes, MixedBytes};
+ghost use Rattle.harness.specs.Calls.{LayeredBytes, MixedBytes};
+use host::put_answer;
+use host::put_mixed;
+use layered::layered_rank;
+use mixed::mixed_rank;
+use writer::write_file;
 
-// The 90 bytes of the layered answer.
+// The bytes of the layered answer.
 #[no_mangle]
 pub extern "C" fn harness_layered(
     p: u32,
@@ -15,12 +21,16 @@ pub extern "C" fn harness_layered(
     parameters: &[u64],
     answer: &mut [u8],
 ) -> u32
-    ensures { λ r. ⌜ LayeredBytes p n a b (now (constants .entry)) (now (parameters .entry)) (now (answer .entry)) r (now (answer .exit)) ⌝ }
+    ensures { λ r. ⌜ LayeredBytes p n a b (now (constants .entry)) (row-numbers (now (parameters .entry))) (now (answer .entry)) r (now (answer .exit)) ⌝ }
 {
-    solvability::layered_bytes(p, n, a, b, constants, parameters, answer)
+    let r = layered_rank(p, n, a, b, constants, parameters);
+    if r.refusal != 0 {
+        return r.refusal;
+    }
+    put_answer(answer, r)
 }
 
-// The 26 bytes of the mixed answer.
+// The bytes of the mixed answer.
 #[no_mangle]
 pub extern "C" fn harness_mixed(
     p: u32,
@@ -31,9 +41,13 @@ pub extern "C" fn harness_mixed(
     parameters: &[u64],
     answer: &mut [u8],
 ) -> u32
-    ensures { λ r. ⌜ MixedBytes p n a b (now (constants .entry)) (now (parameters .entry)) (now (answer .entry)) r (now (answer .exit)) ⌝ }
+    ensures { λ r. ⌜ MixedBytes p n a b (now (constants .entry)) (row-numbers (now (parameters .entry))) (now (answer .entry)) r (now (answer .exit)) ⌝ }
 {
-    solvability::mixed_bytes(p, n, a, b, constants, parameters, answer)
+    let r = mixed_rank(p, n, a, b, constants, parameters);
+    if r.refusal != 0 {
+        return r.refusal;
+    }
+    put_mixed(answer, r)
 }
 
 // The bytes of the model's file; what a C caller does not see is how many they are.
@@ -47,8 +61,8 @@ pub extern "C" fn harness_write(
     parameters: &[u64],
     out: &mut [u8],
 ) -> u32
-    ensures { λ r. ⌜ ((written : ℕ) × WriteCall p n a b (now (constants .entry)) (now (parameters .entry)) (now (out .entry)) r written (now (out .exit))) ⌝ }
+    ensures { λ r. ⌜ ((written : ℕ) × WriteCall p n a b (now (constants .entry)) (row-numbers (now (parameters .entry))) (now (out .entry)) r written (now (out .exit))) ⌝ }
 {
-    let w = solvability::write_file(p, n, a, b, constants, parameters, out);
+    let w = write_file(p, n, a, b, constants, parameters, out);
     w.refusal
 }

@@ -15,6 +15,8 @@ use Rattle.exchange.specs.Solution.{Solved}
 use Rattle.rank.specs.ListedModel.{listed-model}
 use Rattle.rank.specs.Steps.{Demand3}
 use Rattle.format.specs.Refusals.{refusal}
+use Rattle.format.specs.File.Format.{judge}
+use Rattle.layered.specs.FileModel.{file-model}
 use Rattle.layered.specs.declared.Answer.{Answer}
 
 -- the verdict's number: 1, "determined", where the rank is the number of columns; 0, "open", where it is not
@@ -46,8 +48,16 @@ pub record AnswerShown {A : Type 0} (Holds Shows : A → Type 0) : Type 0 where
   pub is-answer : Holds answer
   pub is-shown : Shows answer
 
--- the layered rank call
-pub record LayeredCall (p n a b : ℕ) (cs ws : List ℕ) (r : Answer) : Type 0 where
-  pub is-refusal : r .refusal ≡ refusal p n a b cs ws
-  pub if-refused : refusal p n a b cs ws ≢ 0 → Refused r
-  pub if-accepted : refusal p n a b cs ws ≡ 0 → Answered (listed-model p n a b cs ws) r
+-- a rank call: the refusal given is the one due, and what then holds of the answer
+pub record RankCall (due given : ℕ) (IfRefused IfAccepted : Type 0) : Type 0 where
+  pub is-refusal : given ≡ due
+  pub if-refused : due ≢ 0 → IfRefused
+  pub if-accepted : due ≡ 0 → IfAccepted
+
+-- the layered rank call for a model handed over
+abbrev pub LayeredCall : (p n a b : ℕ) (cs ws : List ℕ) → Answer → Type 0
+LayeredCall p n a b cs ws r = RankCall (refusal p n a b cs ws) (r .refusal) (Refused r) (Answered (listed-model p n a b cs ws) r)
+
+-- the same for the model in a file
+abbrev pub LayeredFileCall : (file : List ℕ) → Answer → Type 0
+LayeredFileCall file r = RankCall (judge file) (r .refusal) (Refused r) (Answered (file-model file) r)

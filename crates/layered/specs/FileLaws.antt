@@ -1,6 +1,8 @@
--- The model in a file, read into areas of a call's own, is accepted and is the model of the file. Assumes nothing.
+-- A file read into areas of a call's own: its model is accepted and is the model of the file, so that the answer to what was read is the answer to the file.
+-- Assumes nothing.
 use Prim.Native.Nat.{ℕ, zero, suc, _+_, _-_, _*_, _≤_, _<_}
 use mathlib.Core.Path.{_≡_, refl, sym, ap, ap₂, _∙_, subst, fun-ext}
+use mathlib.Core.Logic.{_≢_}
 use mathlib.Core.Bool.{true}
 use mathlib.Core.List.{List, [], _∷_, _++_, flatten}
 use native.Mathlib.Omega.{arith}
@@ -10,30 +12,25 @@ use lib.ListN.{length, getD, take, drop, replicate, length-append, length-replic
 use lib.Seq.{getD-append-add, getD-drop, take-append-seam}
 use Rattle.residue.specs.Residues.{res}
 use Rattle.columns.specs.Columns.{members, within}
+use Rattle.columns.specs.ColumnSets.{most-words, row-numbers}
+use Rattle.columns.specs.Words.Rows.{rows-zeros}
 use Rattle.columns.specs.Words.Bytes.{AreBytes}
 use Rattle.rank.specs.Modulus.{modulus}
 use Rattle.rank.specs.ModelModulo.{model-modulo}
 use Rattle.rank.specs.Layered.Model.{Model}
-use Rattle.rank.specs.ListedModel.{listed-model}
 use Rattle.format.specs.Lists.{All, over}
 use Rattle.format.specs.OverLaws.{over-length}
-use Rattle.limits.specs.Limits.{most-columns, most-rows}
+use Rattle.limits.specs.Limits.{most-rows, most-constants}
 use Rattle.format.specs.Refusals.{where-accepted, model-tests, refusal}
 use Rattle.format.specs.RefusalLaws.{acceptance-reads, then-refused, zero-then, zero-unless}
 use Rattle.format.specs.TestLaws.{prime-reads, size-reads, constant-reads, parameter-reads, area-reads}
 use Rattle.format.specs.File.Piece.{closed}
 use Rattle.format.specs.File.Format.{FileModel, ValidModel, fields, judge, decode, no-model, read-refusal, model-read, ReadCall}
 use Rattle.format.specs.File.FormatLaws.{decoded-valid}
-use Rattle.layered.specs.FileModel.{file-model}
+use Rattle.layered.specs.declared.Answer.{Answer}
+use Rattle.layered.specs.Answers.{Answered, RankCall, LayeredCall, LayeredFileCall}
 
--- ---- models that agree in every number
-
--- a model depends on its lists by their elements alone, 0 past the end
-pub same-model : (p n a b : ℕ) (cs cs′ ws ws′ : List ℕ) → ((k : ℕ) → getD cs k 0 ≡ getD cs′ k 0) → ((k : ℕ) → getD ws k 0 ≡ getD ws′ k 0) → listed-model p n a b cs ws ≡ listed-model p n a b cs′ ws′
-same-model p n a b cs cs′ ws ws′ e f = ap₂ by-elements (fun-ext e) (fun-ext f)
-  where
-    by-elements : (ℕ → ℕ) → (ℕ → ℕ) → Model
-    by-elements c w = model-modulo (modulus p .0) (modulus p .1) n a b (λ i x. res (modulus p .0) (modulus p .1) (c (i * n + x))) (λ r x. members (w r) x) (λ x. true)
+-- ---- areas of zeros
 
 -- zeros behind a list add nothing
 zeros-default : (m k : ℕ) → _≡_ {A = ℕ} (getD (replicate m 0) k 0) 0
@@ -41,7 +38,7 @@ zeros-default zero k = refl
 zeros-default (suc m) zero = refl
 zeros-default (suc m) (suc k) = zeros-default m k
 
-pub over-zeros : (xs : List ℕ) (m k : ℕ) → getD (over xs (replicate m 0)) k 0 ≡ getD xs k 0
+over-zeros : (xs : List ℕ) (m k : ℕ) → getD (over xs (replicate m 0)) k 0 ≡ getD xs k 0
 unfolding over
 over-zeros xs m k = elim (decLt k (length xs)) [
   | yes l ↦ List·getD-append xs (drop (length xs) (replicate m 0)) 0 k l
@@ -89,11 +86,11 @@ module _ (s : List ℕ) (bytes : AreBytes s) (ok : judge s ≡ 0) where
   constants-length : length (flatten (decode s .constants)) ≡ decode s .a * decode s .n
   constants-length = flat-length (decode s .p) (decode s .n) (decode s .constants) (valid .constants-below) ∙ ap (λ (k : ℕ). k * decode s .n) (valid .constant-rows)
 
-  few-constants : decode s .a * decode s .n ≤ most-rows * most-columns
+  few-constants : decode s .a * decode s .n ≤ most-constants
   few-constants = mul-le-mul (valid .a-most) (valid .n-most)
 
   -- its model is accepted from areas that it was read into
-  file-accepted : (cs ws : List ℕ) → most-rows * most-columns ≤ length cs → most-rows ≤ length ws
+  file-accepted : (cs ws : List ℕ) → most-constants ≤ length cs → most-rows ≤ length ws
       → refusal (decode s .p) (decode s .n) (decode s .a) (decode s .b) (over (flatten (decode s .constants)) cs) (over (decode s .parameters) ws) ≡ 0
   unfolding refusal model-tests
   file-accepted cs ws l m =
@@ -125,7 +122,7 @@ module _ (s : List ℕ) (bytes : AreBytes s) (ok : judge s ≡ 0) where
 
 -- ---- a file read
 
-module _ (s : List ℕ) (bytes : AreBytes s) (cs ws : List ℕ) (l : most-rows * most-columns ≤ length cs) (m : most-rows ≤ length ws) where
+module _ (s : List ℕ) (bytes : AreBytes s) (cs ws : List ℕ) (l : most-constants ≤ length cs) (m : most-rows ≤ length ws) where
   -- areas of the largest size hold every model
   read-accepted : judge s ≡ 0 → read-refusal s cs ws ≡ 0
   unfolding read-refusal judge
@@ -134,7 +131,7 @@ module _ (s : List ℕ) (bytes : AreBytes s) (cs ws : List ℕ) (l : most-rows *
       let some = valid s bytes ok .b-most in
       zero-then _ _ ok (zero-then _ _ (zero-unless _ _ (area-reads _ _ .1 (omega arith))) (zero-unless _ _ (area-reads _ _ .1 (omega arith))))
 
-  pub read-judged : read-refusal s cs ws ≡ judge s
+  read-judged : read-refusal s cs ws ≡ judge s
   unfolding read-refusal judge
   read-judged = at (judge s) refl
     where
@@ -147,34 +144,63 @@ module _ (s : List ℕ) (bytes : AreBytes s) (cs ws : List ℕ) (l : most-rows *
   unfolding model-read
   read-all ok = ap (λ (k : ℕ). where-accepted k (decode s) no-model) ok
 
--- ---- an accepted file
+-- ---- a file read into a call's own areas
 
--- the call's own areas, before the reading
+-- the areas, before the reading
 abbrev pub own-constants : List ℕ
-own-constants = replicate (most-rows * most-columns) 0
+own-constants = replicate most-constants 0
 
 abbrev pub own-parameters : List ℕ
-own-parameters = replicate most-rows 0
+own-parameters = row-numbers (replicate most-words 0)
 
-pub own-length : most-rows * most-columns ≤ length own-constants
-own-length = le-of-eq (sym (length-replicate {A = ℕ} (most-rows * most-columns) 0))
+own-length : most-constants ≤ length own-constants
+own-length = le-of-eq (sym (length-replicate {A = ℕ} most-constants 0))
 
-pub own-count : most-rows ≤ length own-parameters
-own-count = le-of-eq (sym (length-replicate {A = ℕ} most-rows 0))
+own-count : most-rows ≤ length own-parameters
+own-count = rw rows-zeros (le-of-eq (sym (length-replicate {A = ℕ} most-rows 0)))
 
-module _ (s : List ℕ) (bytes : AreBytes s) (p n a b : ℕ) (cs′ ws′ : List ℕ) (r : ReadCall s own-constants own-parameters 0 p n a b cs′ ws′) where
-  pub judged : judge s ≡ 0
-  judged = sym (read-judged s bytes own-constants own-parameters own-length own-count) ∙ sym (r .refusal-is)
+module _ {s : List ℕ} (bytes : AreBytes s) {k p n a b : ℕ} {cs′ ws′ : List ℕ} (r : ReadCall s own-constants own-parameters k p n a b cs′ ws′) where
+  -- the areas are never too short
+  pub own-refusal : k ≡ judge s
+  own-refusal = r .refusal-is ∙ read-judged s bytes own-constants own-parameters own-length own-count
 
-  all : model-read s own-constants own-parameters ≡ decode s
-  all = read-all s bytes own-constants own-parameters own-length own-count (sym (r .refusal-is))
+  module _ (ok : k ≡ 0) where
+    pub judged : judge s ≡ 0
+    judged = sym own-refusal ∙ ok
 
-  pub own-model : listed-model p n a b cs′ ws′ ≡ file-model s
-  own-model =
-      rw (r .p-is, r .n-is, r .a-is, r .b-is, r .constants-are, r .parameters-are, all)
-      (same-model (decode s .p) (decode s .n) (decode s .a) (decode s .b) (over (flatten (decode s .constants)) own-constants) (flatten (decode s .constants)) (over (decode s .parameters) own-parameters) (decode s .parameters) (over-zeros (flatten (decode s .constants)) (most-rows * most-columns)) (over-zeros (decode s .parameters) most-rows))
+    all : model-read s own-constants own-parameters ≡ decode s
+    all = read-all s bytes own-constants own-parameters own-length own-count (sym (r .refusal-is) ∙ ok)
 
-  pub own-accepted : refusal p n a b cs′ ws′ ≡ 0
-  own-accepted =
-      rw (r .p-is, r .n-is, r .a-is, r .b-is, r .constants-are, r .parameters-are, all)
-      (file-accepted s bytes judged own-constants own-parameters own-length own-count)
+    -- what was read is accepted
+    pub own-accepted : refusal p n a b cs′ ws′ ≡ 0
+    own-accepted =
+        rw (r .p-is, r .n-is, r .a-is, r .b-is, r .constants-are, r .parameters-are, all)
+        (file-accepted s bytes judged own-constants own-parameters own-length own-count)
+
+    -- the sizes are the file's
+    pub own-sizes : (n ≡ decode s .n) × (a ≡ decode s .a) × (b ≡ decode s .b)
+    own-sizes = (r .n-is ∙ ap (λ (m : FileModel). m .n) all, r .a-is ∙ ap (λ (m : FileModel). m .a) all, r .b-is ∙ ap (λ (m : FileModel). m .b) all)
+
+    -- whatever is made of the numbers and of the areas' elements is made of the file's
+    pub own-made : {X : Type 1} (make : (p n a b : ℕ) (c w : ℕ → ℕ) → X) → make p n a b (λ i. getD cs′ i 0) (λ i. getD ws′ i 0)
+        ≡ make (decode s .p) (decode s .n) (decode s .a) (decode s .b) (λ i. getD (flatten (decode s .constants)) i 0) (λ i. getD (decode s .parameters) i 0)
+    own-made make =
+        rw (r .p-is, r .n-is, r .a-is, r .b-is, r .constants-are, r .parameters-are, all)
+        (ap₂ (make (decode s .p) (decode s .n) (decode s .a) (decode s .b)) (fun-ext (over-zeros (flatten (decode s .constants)) most-constants)) (fun-ext (λ k. ap (λ (z : List ℕ). getD (over (decode s .parameters) z) k 0) rows-zeros ∙ over-zeros (decode s .parameters) most-rows k)))
+
+-- ---- the answer to it
+
+module _ {due given : ℕ} {R A : Type 0} where
+  pub call-refused : given ≡ due → given ≢ 0 → R → RankCall due given R A
+  call-refused e h x = record { is-refusal = e; if-refused = λ _. x; if-accepted = λ z. absurd (h (e ∙ z)) }
+
+  -- the same call by another name
+  pub call-as : {due′ : ℕ} {A′ : Type 0} → due ≡ due′ → (A → A′) → RankCall due given R A → RankCall due′ given R A′
+  call-as e f h = record { is-refusal = h .is-refusal ∙ e; if-refused = λ z. h .if-refused (λ y. z (sym e ∙ y)); if-accepted = λ z. f (h .if-accepted (e ∙ z)) }
+
+pub file-answered : {s : List ℕ} (bytes : AreBytes s) {k p n a b : ℕ} {cs′ ws′ : List ℕ} → ReadCall s own-constants own-parameters k p n a b cs′ ws′ → k ≡ 0
+    → (t : Answer) → LayeredCall p n a b cs′ ws′ t → LayeredFileCall s t
+file-answered bytes r ok t h = call-as (own-accepted bytes r ok ∙ sym (judged bytes r ok)) (subst (λ (M : Model). Answered M t) (own-made bytes r ok by-elements)) h
+  where
+    by-elements : (p n a b : ℕ) (c w : ℕ → ℕ) → Model
+    by-elements p n a b c w = model-modulo (modulus p .0) (modulus p .1) n a b (λ i x. res (modulus p .0) (modulus p .1) (c (i * n + x))) (λ r x. members (w r) x) (λ x. true)

@@ -1,14 +1,17 @@
-// The layered rank call: the answer to a model handed over without a file.
+// The layered rank call: the answer to a model handed over, or in a file.
 ghost use mathlib.Core.Path.{_≡_};
 ghost use Rattle.columns.specs.ColumnSets.{row-numbers};
-ghost use Rattle.layered.specs.Answers.{verdict-number, Refused, LayeredCall};
+ghost use Rattle.layered.specs.Answers.{verdict-number, Refused, LayeredCall, LayeredFileCall};
 ghost use Rattle.layered.specs.AnswerLaws.{beforehand};
 use columns::ColumnSet;
+use columns::MOST_WORDS;
 use format::judge_model;
 use format::parameters_within;
 use limits::LARGEST_PRIME;
+use limits::MOST_CONSTANTS;
 use limits::MOST_ROWS;
 use limits::NO_COLUMN;
+use loader::read_file;
 
 // The refusal or 0; the verdict, 1 "determined" or 0 "open"; the rank; the placed columns, those of them on the constant side, and
 // the short set; and the column of each parameter row, or that it has none.
@@ -94,4 +97,17 @@ pub fn layered_rank(
         short,
         rows,
     }
+}
+
+// The answer to the layered model in a file, or the file's refusal.
+pub fn layered_file(file: &[u8]) -> Answer
+    ensures { λ r. ⌜ LayeredFileCall (now (file .entry)) r ⌝ }
+{
+    let mut constants = [0u16; MOST_CONSTANTS];
+    let mut parameters = [0u64; MOST_WORDS];
+    let sizes = read_file(file, &mut constants, &mut parameters);
+    if sizes.refusal != 0 {
+        return refuse(sizes.refusal);
+    }
+    layered_rank(sizes.p, sizes.n, sizes.a, sizes.b, &constants, &parameters)
 }

@@ -1,8 +1,7 @@
-// Runs the layered rank call: the bench models, the edges of a model handed over, S4 with its columns in other orders, and larger
-// models drawn from a fixed sequence. A line has the model's name, then refusal, verdict, rank, placed set and short set, and
-// whether the columns of the constant side and the rows with a column are as many as the rank says.
+// Runs the layered rank call: the bench models, the edges of a model handed over, and S4 with its columns in other orders. A line
+// has the model's name, then refusal, verdict, rank, placed set and short set, and whether the columns of the constant side and the
+// rows with a column are as many as the rank says.
 mod bench;
-mod drawn;
 mod edges;
 mod report;
 
@@ -10,5 +9,4 @@ fn main() {
     bench::run_all();
     edges::run_all();
     bench::run_orders();
-    drawn::run_all();
 }

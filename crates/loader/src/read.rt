@@ -2,6 +2,7 @@
 ghost use mathlib.Core.Path.{_≡_};
 ghost use Prim.Native.Nat.{_+_, _*_, _≤_};
 ghost use lib.ListN.{length};
+ghost use Rattle.columns.specs.ColumnSets.{row-numbers};
 ghost use Rattle.format.specs.Lists.{over};
 ghost use Rattle.limits.specs.Limits.{most-columns};
 ghost use Rattle.format.specs.File.Format.{entries, ReadCall};
@@ -15,7 +16,7 @@ use format::two;
 
 // The model of a file: its constants row after row over the front of their area, its parameter rows over the front of theirs.
 pub fn read_file(file: &[u8], constants: &mut [u16], parameters: &mut [u64]) -> Sizes
-    ensures { λ r. ⌜ ReadCall (now (file .entry)) (now (constants .entry)) (now (parameters .entry)) (r .refusal) (r .p) (r .n) (r .a) (r .b) (now (constants .exit)) (now (parameters .exit)) ⌝ }
+    ensures { λ r. ⌜ ReadCall (now (file .entry)) (now (constants .entry)) (row-numbers (now (parameters .entry))) (r .refusal) (r .p) (r .n) (r .a) (r .b) (now (constants .exit)) (row-numbers (now (parameters .exit))) ⌝ }
 {
     let r = judge_file(file);
     if r != 0 {
@@ -28,7 +29,7 @@ pub fn read_file(file: &[u8], constants: &mut [u16], parameters: &mut [u64]) -> 
     if constants.len() < a * n {
         return no_sizes(refusals::AREA_SHORT);
     }
-    if parameters.len() < b {
+    if columns::rows(parameters) < b {
         return no_sizes(refusals::AREA_SHORT);
     }
     read_constants(constants, &file[11..], n, a);
@@ -70,14 +71,14 @@ fn read_constants(out: &mut [u16], file: &[u8], n: usize, a: usize)
 
 // The parameter rows that stand first in the file's rest.
 fn read_parameters(out: &mut [u64], file: &[u8], b: usize)
-    requires { ⌜ (11 * b ≤ length (now file)) × (b ≤ length (now out)) ⌝ }
-    ensures { λ _. ⌜ now (out .exit) ≡ over (parameters-of b (now (file .entry))) (now (out .entry)) ⌝ }
+    requires { ⌜ (11 * b ≤ length (now file)) × (b ≤ length (row-numbers (now out))) ⌝ }
+    ensures { λ _. ⌜ row-numbers (now (out .exit)) ≡ over (parameters-of b (now (file .entry))) (row-numbers (now (out .entry))) ⌝ }
 {
     let mut rest = file;
     let mut at = 0;
     let mut left = b;
     while left > 0 {
-        out[at] = columns::of_bytes(&rest[3..11]);
+        columns::put_row(out, at, columns::of_bytes(&rest[3..11]));
         rest = &rest[11..];
         at = at + 1;
         left = left - 1;

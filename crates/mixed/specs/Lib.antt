@@ -3,3 +3,4 @@ pub mod MixedForm
 pub mod MixedEntries
 pub mod MixedAnswers
 pub mod MixedAnswerLaws
+pub mod MixedFileLaws

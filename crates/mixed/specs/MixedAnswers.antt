@@ -1,14 +1,16 @@
--- What the mixed rank call promises. Definitions only.
+-- What the mixed rank call promises, for a model handed over and for the model in a file. Definitions only.
 use Prim.Native.Nat.{ℕ, _<_}
 use mathlib.Core.Path.{_≡_}
-use mathlib.Core.Logic.{_≢_}
-use mathlib.Core.List.{List}
+use mathlib.Core.List.{List, flatten}
 use Rattle.counting.specs.Sets.{_∈_}
 use Rattle.columns.specs.Columns.{width, members, word-of}
 use Rattle.columns.specs.ColumnSets.{whole, empty-set}
 use Rattle.rank.specs.Layered.Rank.{short}
 use Rattle.mixed_models.specs.Mixed.{Mixed, mixed-sum, mixed-rank, mixed-verdict, layered-form, mixed}
-use Rattle.format.specs.Refusals.{mixed-refusal}
+use Rattle.format.specs.Refusals.{Tests, unless, _then_, first-refusal, not-mixed, mixed-test, mixed-refusal}
+use Rattle.format.specs.File.Piece.{closed}
+use Rattle.format.specs.File.Format.{fields, decode}
+use Rattle.layered.specs.Answers.{RankCall}
 use Rattle.mixed.specs.declared.MixedAnswer.{MixedAnswer}
 
 -- a refusal has every other number 0 and every set empty
@@ -29,8 +31,20 @@ pub record MixedAnswered (X : Mixed) (r : MixedAnswer) : Type 0 where
   pub they-reach : mixed-sum X (members (whole (r .rows))) (members (whole (r .columns))) ≡ mixed-rank X
   pub short-number : whole (r .short) ≡ word-of width (short (layered-form X))
 
--- the mixed rank call
-pub record MixedCall (p n a b : ℕ) (cs ws : List ℕ) (r : MixedAnswer) : Type 0 where
-  pub is-refusal : r .refusal ≡ mixed-refusal p n a b cs ws
-  pub if-refused : mixed-refusal p n a b cs ws ≢ 0 → MixedRefused r
-  pub if-accepted : mixed-refusal p n a b cs ws ≡ 0 → MixedAnswered (mixed p a n cs ws) r
+-- the mixed rank call for a model handed over
+abbrev pub MixedCall : (p n a b : ℕ) (cs ws : List ℕ) → MixedAnswer → Type 0
+MixedCall p n a b cs ws r = RankCall (mixed-refusal p n a b cs ws) (r .refusal) (MixedRefused r) (MixedAnswered (mixed p a n cs ws) r)
+
+-- ---- the model in a file
+
+-- the mixed model of the numbers, constants and parameter rows that the file has
+abbrev pub file-mixed : List ℕ → Mixed
+file-mixed s = mixed (decode s .p) (decode s .a) (decode s .n) (flatten (decode s .constants)) (decode s .parameters)
+
+-- what a mixed question asks of a file that is accepted
+abbrev pub mixed-question : List ℕ → Tests
+mixed-question s = unless (mixed-test (decode s .n) (decode s .a) (decode s .b)) not-mixed
+
+-- the call: the file's own numbers, then 10
+abbrev pub MixedFileCall : (file : List ℕ) → MixedAnswer → Type 0
+MixedFileCall file r = RankCall (first-refusal (closed fields file then mixed-question file)) (r .refusal) (MixedRefused r) (MixedAnswered (file-mixed file) r)

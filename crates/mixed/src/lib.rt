@@ -10,7 +10,7 @@ ghost use Rattle.columns.specs.Columns.{members};
 ghost use Rattle.columns.specs.ColumnSets.{whole, row-numbers};
 ghost use Rattle.format.specs.Refusals.{mixed-refusal};
 ghost use Rattle.mixed.specs.MixedForm.{form-entry, form-row, serves};
-ghost use Rattle.mixed.specs.MixedAnswers.{MixedRefused, MixedCall};
+ghost use Rattle.mixed.specs.MixedAnswers.{MixedRefused, MixedCall, MixedFileCall};
 use columns::ColumnSet;
 use columns::MOST_WORDS;
 use format::judge_model;
@@ -20,6 +20,7 @@ use limits::MOST_COLUMNS;
 use limits::MOST_CONSTANTS;
 use limits::MOST_ROWS;
 use limits::NO_COLUMN;
+use loader::read_file;
 
 // The refusal or 0; the verdict, 1 where the rank equals n; the rank; rows I and columns J that reach it; and the short set of the
 // layered form.
@@ -174,4 +175,17 @@ pub fn mixed_rank(
         columns,
         short,
     }
+}
+
+// The answer to the mixed model in a file, or the refusal of the file or of the question.
+pub fn mixed_file(file: &[u8]) -> MixedAnswer
+    ensures { λ r. ⌜ MixedFileCall (now (file .entry)) r ⌝ }
+{
+    let mut constants = [0u16; MOST_CONSTANTS];
+    let mut parameters = [0u64; MOST_WORDS];
+    let sizes = read_file(file, &mut constants, &mut parameters);
+    if sizes.refusal != 0 {
+        return refuse(sizes.refusal);
+    }
+    mixed_rank(sizes.p, sizes.n, sizes.a, sizes.b, &constants, &parameters)
 }

@@ -1,5 +1,4 @@
 // The mixed bench models, S7 to S9, and S12 at several primes; and the model where a dropped constant spoils the short set.
-use crate::area::put_constant;
 use crate::report::answer_line;
 use crate::report::line;
 use crate::report::number;
@@ -87,6 +86,13 @@ fn residue_for(x: u16, p: u32) -> u16 {
         return (std::num::wrapping_sub_u32(p, 1) % 65536) as u16;
     }
     (residue::add(p, x as u32, 0) % 65536) as u16
+}
+
+// Leaves what lies outside alone.
+fn put_constant(constants: &mut [u16], at: usize, value: u16) {
+    if at < constants.len() {
+        constants[at] = value;
+    }
 }
 
 fn fill(constants: &mut [u16], p: u32) {

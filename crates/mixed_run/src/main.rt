@@ -1,10 +1,8 @@
-// Runs the mixed rank call: the bench models, the edges of a mixed question, every 2 by 2 model of zeros and ones with every set of
-// parameters, and larger models made by formulas. A line has the model's name, then refusal, verdict, rank and short set, and
-// whether the rows and columns shown lie below m and n.
-mod area;
+// Runs the mixed rank call: the bench models, the edges of a mixed question, and every 2 by 2 model of zeros and ones with every set
+// of parameters. A line has the model's name, then refusal, verdict, rank and short set, and whether the rows and columns shown lie
+// below m and n.
 mod bench;
 mod edges;
-mod larger;
 mod report;
 mod smallest;
 
@@ -12,5 +10,4 @@ fn main() {
     bench::run_all();
     edges::run_all();
     smallest::run_all();
-    larger::run_all();
 }

@@ -7,8 +7,7 @@ ghost use Rattle.report.specs.Report.{decimal, line, item, column-items,
 ghost use Rattle.report.specs.PutLaws.{Room, Puts};
 ghost use Rattle.report.specs.FileReport.{FileReport};
 use layered::Answer;
-use layered::layered_rank;
-use loader::read_file;
+use layered::layered_file;
 
 // Every report has room in so many bytes.
 const REPORT_AREA: usize = 1024;
@@ -29,13 +28,7 @@ const NO_COLUMN: u8 = 255;
 pub fn report_file(file: &[u8], out: &mut [u8]) -> usize
     ensures { λ r. ⌜ FileReport (now (file .entry)) (now (out .entry)) r (now (out .exit)) ⌝ }
 {
-    let mut constants = [0u16; 4096];
-    let mut parameters = [0u64; 64];
-    let sizes = read_file(file, &mut constants, &mut parameters);
-    if sizes.refusal != 0 {
-        return write_refusal(sizes.refusal, out);
-    }
-    let answer = layered_rank(sizes.p, sizes.n, sizes.a, sizes.b, &constants, &parameters);
+    let answer = layered_file(file);
     write_report(answer, out)
 }
 

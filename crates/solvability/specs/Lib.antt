@@ -1,6 +1,2 @@
--- What the call for a host and the calls that lend an area promise, with the laws that their proofs use.
-pub mod AreaCall
-pub mod AreaLaws
+-- What the calls for a host in C promise.
 pub mod Host
-pub mod HostLaws
-pub mod Area

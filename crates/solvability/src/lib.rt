@@ -1,9 +1,8 @@
-// The rank of layered and mixed models, and the call for a host; what the crates below have for a caller is passed on. Every public function is total, and refuses by a number.
-mod area;
-mod host;
+// The archive: the calls for a host in C. What the crates below have for a caller is passed on. Every public function is total, and refuses by a number.
+mod calls;
 
-pub use area::layered_bytes;
-pub use area::mixed_bytes;
+pub use calls::wundreska_check;
+pub use calls::wundreska_mixed;
 pub use format::Reader;
 pub use format::after_field;
 pub use format::judge_field;
@@ -12,8 +11,8 @@ pub use format::judge_model;
 pub use format::judge_rest;
 pub use format::open_reader;
 pub use format::refusals;
-pub use host::wundreska_check;
 pub use layered::Answer;
+pub use layered::layered_file;
 pub use layered::layered_rank;
 pub use loader::Sizes;
 pub use loader::judge_row;
@@ -21,6 +20,7 @@ pub use loader::read_file;
 pub use loader::row;
 pub use mixed::MixedAnswer;
 pub use mixed::judge_mixed;
+pub use mixed::mixed_file;
 pub use mixed::mixed_rank;
 pub use writer::Written;
 pub use writer::write_file;

@@ -4,7 +4,7 @@ use mathlib.Core.Path.{_≡_, refl, sym}
 use mathlib.Core.List.{List}
 use native.Mathlib.Nat.{div-one}
 use native.Mathlib.Omega.{arith}
-use lib.ListN.{length, set, length-set}
+use lib.ListN.{length, replicate, set, length-set}
 use Rattle.limits.specs.Limits.{most-rows}
 use Rattle.columns.specs.ColumnSets.{row-words, most-words, row-numbers, with-row}
 
@@ -15,6 +15,11 @@ rows-length ws = sym (div-one (length ws))
 -- an area of the largest size has room for the rows of every model
 pub most-words-rows : (ws : List ℕ) → length ws ≡ most-words → length (row-numbers ws) ≡ most-rows
 most-words-rows ws e = omega (arith, rows-length ws)
+
+-- an area of zeros has empty rows
+pub rows-zeros : row-numbers (replicate most-words 0) ≡ replicate most-rows 0
+unfolding row-numbers
+rows-zeros = refl
 
 pub rows-with-row : (ws : List ℕ) (r w : ℕ) → row-numbers (with-row ws r w) ≡ set (row-numbers ws) r w
 unfolding row-numbers with-row

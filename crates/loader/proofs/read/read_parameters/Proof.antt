@@ -2,12 +2,14 @@
 -- The measure is the number of rows left. Assumes nothing.
 use Prim.Native.Nat.{ℕ, _-_, _*_, _≤_}
 use mathlib.Core.List.{List, _∷_}
-use mathlib.Core.Path.{_≡_, sym, ap, _∙_}
+use mathlib.Core.Path.{_≡_, refl, sym, ap, _∙_}
 use native.Mathlib.Omega.{arith}
 use lib.ListN.{length, take, drop, length-drop}
 use lib.Seq.{take-take}
 use borrow.Author.Needs.{needs}
 use Rattle.columns.specs.Bytes.{number}
+use Rattle.columns.specs.ColumnSets.{whole, row-numbers}
+use Rattle.columns.specs.Words.Rows.{rows-length, rows-with-row, with-row-length}
 use Rattle.loader.specs.ReadLaws.{parameters-next, parameters-done, parameters-length}
 use Rattle.format.specs.File.Steps.{parameters-of}
 use Rattle.format.specs.ListLaws.{tail-part}
@@ -16,7 +18,7 @@ use Rattle.loader.proofs.read.read_parameters.Statement.{statement}
 use Rattle.loader.proofs.read.read_parameters.Tie as tie
 
 abbrev Inv-loop : tie.InvT-loop
-Inv-loop out₀ file b rest₀ at₀ left₀ out rest at left = Wrote (parameters-of b file) (parameters-of left rest) out₀ out at × (11 * left ≤ length rest)
+Inv-loop out₀ file b rest₀ at₀ left₀ out rest at left = Wrote (parameters-of b file) (parameters-of left rest) (row-numbers out₀) (row-numbers out) at × (11 * left ≤ length rest) × (length out ≡ length out₀)
 
 abbrev μ-loop : tie.MeasureT-loop
 μ-loop out₀ file b rest₀ at₀ left₀ out rest at left = left
@@ -24,7 +26,7 @@ abbrev μ-loop : tie.MeasureT-loop
 loop-holds : tie.Need-loop-holds Inv-loop μ-loop
 loop-holds c =
     let h = c .before .before .pre in
-    (wrote-none _ _ (omega (arith, parameters-length (c .before .before .args .b) (c .before .before .args .file .now), h .1)), h .0)
+    (wrote-none _ _ (omega (arith, parameters-length (c .before .before .args .b) (c .before .before .args .file .now), h .1)), h .0, refl)
 
 sub-of-bytes : tie.Need-sub-of-bytes Inv-loop μ-loop
 sub-of-bytes c = omega arith
@@ -38,11 +40,8 @@ part-of-bytes-end c = omega arith
 of-bytes-requires : tie.Need-of-bytes-requires Inv-loop μ-loop
 of-bytes-requires c κs = search needs
 
-mul-out : tie.Need-mul-out Inv-loop μ-loop
-mul-out c = omega (arith, parameters-length (c .before .before .before .loop .left) (c .before .before .before .loop .rest .now), c .before .before .before .loop .inv .0, c .before .before .before .loop .inv .1, c .before .before .before .before .before .before .good)
-
-slice-write-out : tie.Need-slice-write-out Inv-loop μ-loop
-slice-write-out c = omega (arith, parameters-length (c .before .before .before .loop .left) (c .before .before .before .loop .rest .now), c .before .before .before .loop .inv .0, c .before .before .before .loop .inv .1, c .before .before .before .before .before .before .good)
+put-row-requires : tie.Need-put-row-requires Inv-loop μ-loop
+put-row-requires c κs = search needs
 
 sub-rest : tie.Need-sub-rest Inv-loop μ-loop
 sub-rest c = omega arith
@@ -54,7 +53,10 @@ part-rest-end : tie.Need-part-rest-end Inv-loop μ-loop
 part-rest-end c = omega arith
 
 add-at : tie.Need-add-at Inv-loop μ-loop
-add-at c = omega (arith, parameters-length (c .before .before .before .before .loop .left) (c .before .before .before .before .loop .rest .now), c .before .before .before .before .loop .inv .0, c .before .before .before .before .loop .inv .1, c .before .before .before .before .before .before .before .good)
+add-at c =
+    let k = c .before .before .before .before .before .before .before .before in
+    let l = k .loop in
+    omega (arith, parameters-length (l .left) (l .rest .now), l .inv .0, l .inv .2, rows-length (l .out), k .before .before .before .good)
 
 sub-left : tie.Need-sub-left Inv-loop μ-loop
 sub-left c = omega arith
@@ -64,17 +66,20 @@ loop-less c = omega arith
 
 loop-again : tie.Need-loop-again Inv-loop μ-loop
 loop-again c =
-    let l = c .before .before .before .before .loop in
+    let put = c .before .before .before .put-row in
+    let of-bytes = c .before .before .before .before .of-bytes in
+    let k = c .before .before .before .before .before .before .before .before in
+    let l = k .loop in
     let r = l .rest .now in
+    let w = whole (of-bytes .result) in
     let t : take (length r - 11) (drop 11 r) ≡ drop 11 r = tail-part 11 r in
-    let set : c .before .of-bytes .result ≡ number (take 8 (drop 3 r)) = c .before .of-bytes .ensures ∙ ap number (take-take 8 8 (drop 3 r) (omega arith)) in (
-      wrote-set (c .before .of-bytes .result) _ (l .inv .0)
-          (parameters-next (l .left) r (c .before .before .before .loop-test .taken) ∙ ap (λ (x : ℕ). x ∷ parameters-of (l .left - 1) (drop 11 r)) (sym set) ∙ ap (λ (s : List ℕ). c .before .of-bytes .result ∷ parameters-of (l .left - 1) s) (sym t)),
-      rw (t, length-drop) (omega arith),
-    )
+    let set : w ≡ number (take 8 (drop 3 r)) = of-bytes .ensures ∙ ap number (take-take 8 8 (drop 3 r) (omega arith)) in
+    let written = ap row-numbers (put .ensures) ∙ rows-with-row (l .out) (l .at) w in
+    let next = parameters-next (l .left) r (c .before .before .before .before .before .before .before .loop-test .taken) ∙ ap (λ (x : ℕ). x ∷ parameters-of (l .left - 1) (drop 11 r)) (sym set) ∙ ap (λ (s : List ℕ). w ∷ parameters-of (l .left - 1) s) (sym t) in
+    (rw written (wrote-set w _ (l .inv .0) next), rw (t, length-drop) (omega arith), ap length (put .ensures) ∙ with-row-length (l .out) (l .at) w ∙ l .inv .2)
 
 same-length : tie.Need-same-length Inv-loop μ-loop
-same-length c = c .before .loop .inv .0 .same
+same-length c = c .before .loop .inv .2
 
 returns : tie.Need-returns Inv-loop μ-loop
 returns c = wrote-all (c .before .loop .inv .0) (parameters-done _ _ (c .loop-test .left))
@@ -90,8 +95,7 @@ read-parameters-spec =
     part-of-bytes-start
     part-of-bytes-end
     of-bytes-requires
-    mul-out
-    slice-write-out
+    put-row-requires
     sub-rest
     part-rest-start
     part-rest-end

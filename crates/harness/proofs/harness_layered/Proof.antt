@@ -1,0 +1,37 @@
+-- `harness::harness_layered` meets its contract, by what the rank call and the writing of its answer ensure. Assumes nothing.
+use mathlib.Core.Path.{refl, sym, _∙_}
+use mathlib.Core.List.{[]}
+use borrow.Author.Needs.{needs}
+use Rattle.format.specs.Refusals.{first-refusal, model-tests, refusal}
+use Rattle.rank.specs.ListedModel.{listed-model}
+use Rattle.host.specs.AnswerBytes.{answer-length, answer-bytes, AnswerWritten}
+use Rattle.host.specs.AreaLaws.{refused-before, answer-put}
+use Rattle.harness.proofs.harness_layered.Statement.{statement}
+use Rattle.harness.proofs.harness_layered.Tie as tie
+
+layered-rank-requires : tie.Need-layered-rank-requires
+layered-rank-requires c κs = search needs
+
+returns : tie.Need-returns
+unfolding refusal
+returns c =
+    let a = c .before .before .before .before .before .before .args in
+    refused-before (model-tests (a .p) (a .n) (a .a) (a .b) (a .constants .now) (a .parameters .now)) [] answer-length (AnswerWritten (listed-model (a .p) (a .n) (a .a) (a .b) (a .constants .now) (a .parameters .now))) (a .answer .now) _ (c .before .before .layered-rank .ensures .is-refusal) (c .if1 .taken)
+
+put-answer-requires : tie.Need-put-answer-requires
+put-answer-requires c κs = search needs
+
+same-length : tie.Need-same-length
+same-length c = search needs
+
+returns-2 : tie.Need-returns-2
+unfolding refusal first-refusal
+returns-2 c =
+    let at-else = c .before .before .before .before in
+    let a = at-else .before .before .before .before .before .before .args in
+    let h = at-else .before .before .layered-rank .ensures in
+    let ok = sym (h .is-refusal) ∙ at-else .if1 .left in
+    answer-put answer-bytes (model-tests (a .p) (a .n) (a .a) (a .b) (a .constants .now) (a .parameters .now)) [] _ (h .if-accepted ok) ok refl (c .before .before .put-answer .ensures)
+
+pub harness-layered-spec : {M : Type 1} → statement M
+harness-layered-spec = tie.close (tie.spec layered-rank-requires returns put-answer-requires same-length returns-2)

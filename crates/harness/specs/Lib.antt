@@ -1,0 +1,2 @@
+-- What the calls for models without a file promise.
+pub mod Calls

@@ -1,0 +1,21 @@
+-- `host::put_mixed` meets its contract. Assumes nothing.
+use borrow.Author.Needs.{needs}
+use Rattle.host.specs.AnswerBytes.{mixed-length}
+use Rattle.host.specs.AreaLaws.{put-refused, put-done}
+use Rattle.host.proofs.put_mixed.Statement.{statement}
+use Rattle.host.proofs.put_mixed.Tie as tie
+
+returns : tie.Need-returns
+returns c = put-refused mixed-length _ _ (c .if1 .taken)
+
+put-front-requires : tie.Need-put-front-requires
+put-front-requires c κs = search needs
+
+same-length : tie.Need-same-length
+same-length c = search needs
+
+returns-2 : tie.Need-returns-2
+returns-2 c = put-done mixed-length _ _ (c .before .before .before .before .if1 .left) (c .before .before .put-front .ensures)
+
+pub put-mixed-spec : {M : Type 1} → statement M
+put-mixed-spec = tie.close (tie.spec returns put-front-requires same-length returns-2)

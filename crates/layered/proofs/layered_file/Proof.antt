@@ -1,0 +1,61 @@
+-- `layered::layered_file` meets its contract, by what the reading and the layered rank call ensure. Assumes nothing.
+use mathlib.Core.Path.{sym, _∙_}
+use Rattle.columns.specs.Words.Bytes.{AreBytes}
+use Rattle.layered.specs.FileLaws.{own-refusal, call-refused, file-answered}
+use borrow.Author.Needs.{needs}
+use Rattle.layered.proofs.layered_file.Statement.{statement}
+use Rattle.layered.proofs.layered_file.Tie as tie
+
+bytes : (c : tie.After-shared-slice-known) → AreBytes (c .before .args .file .now)
+bytes c i = search (needs, c .shared-slice-known .given i)
+
+-- the file's bytes, where it is read
+file-bytes : (c : tie.After-read-file) → AreBytes (c .before .before .before .before .args .file .now)
+file-bytes c = bytes (c .before .before .before)
+
+slice-aggregate-read-file : tie.Need-slice-aggregate-read-file
+slice-aggregate-read-file c = search needs
+
+slice-aggregate-read-file-2 : tie.Need-slice-aggregate-read-file-2
+slice-aggregate-read-file-2 c = search needs
+
+read-file-requires : tie.Need-read-file-requires
+read-file-requires c κs = search needs
+
+refuse-requires : tie.Need-refuse-requires
+refuse-requires c κs = search needs
+
+returns : tie.Need-returns
+returns c =
+    let at-read = c .before .before .before .before .before in
+    let e = c .refuse .ensures .0 in
+    let nonzero = c .before .if1 .taken in
+    call-refused (e ∙ own-refusal (file-bytes at-read) (at-read .read-file .ensures)) (λ z. nonzero (sym e ∙ z)) (c .refuse .ensures .1)
+
+slice-aggregate-layered-rank : tie.Need-slice-aggregate-layered-rank
+slice-aggregate-layered-rank c = search needs
+
+slice-aggregate-layered-rank-2 : tie.Need-slice-aggregate-layered-rank-2
+slice-aggregate-layered-rank-2 c = search needs
+
+layered-rank-requires : tie.Need-layered-rank-requires
+layered-rank-requires c κs = search needs
+
+returns-2 : tie.Need-returns-2
+returns-2 c =
+    let at-read = c .before .before .before .before .before .before .before in
+    file-answered (file-bytes at-read) (at-read .read-file .ensures) (c .before .before .before .if1 .left) _ (c .layered-rank .ensures)
+
+pub layered-file-spec : {M : Type 1} → statement M
+layered-file-spec =
+    tie.close
+    (tie.spec
+    slice-aggregate-read-file
+    slice-aggregate-read-file-2
+    read-file-requires
+    refuse-requires
+    returns
+    slice-aggregate-layered-rank
+    slice-aggregate-layered-rank-2
+    layered-rank-requires
+    returns-2)

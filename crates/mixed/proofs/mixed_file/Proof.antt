@@ -1,0 +1,58 @@
+-- `mixed::mixed_file` meets its contract, by what the reading and the mixed rank call ensure. Assumes nothing.
+use Rattle.columns.specs.Words.Bytes.{AreBytes}
+use Rattle.mixed.specs.MixedFileLaws.{mixed-file-refused, mixed-file-answered}
+use borrow.Author.Needs.{needs}
+use Rattle.mixed.proofs.mixed_file.Statement.{statement}
+use Rattle.mixed.proofs.mixed_file.Tie as tie
+
+bytes : (c : tie.After-shared-slice-known) → AreBytes (c .before .args .file .now)
+bytes c i = search (needs, c .shared-slice-known .given i)
+
+-- the file's bytes, where it is read
+file-bytes : (c : tie.After-read-file) → AreBytes (c .before .before .before .before .args .file .now)
+file-bytes c = bytes (c .before .before .before)
+
+slice-aggregate-read-file : tie.Need-slice-aggregate-read-file
+slice-aggregate-read-file c = search needs
+
+slice-aggregate-read-file-2 : tie.Need-slice-aggregate-read-file-2
+slice-aggregate-read-file-2 c = search needs
+
+read-file-requires : tie.Need-read-file-requires
+read-file-requires c κs = search needs
+
+refuse-requires : tie.Need-refuse-requires
+refuse-requires c κs = search needs
+
+returns : tie.Need-returns
+returns c =
+    let at-read = c .before .before .before .before .before in
+    mixed-file-refused (file-bytes at-read) (at-read .read-file .ensures) (c .before .if1 .taken) _ (c .refuse .ensures .0) (c .refuse .ensures .1)
+
+slice-aggregate-mixed-rank : tie.Need-slice-aggregate-mixed-rank
+slice-aggregate-mixed-rank c = search needs
+
+slice-aggregate-mixed-rank-2 : tie.Need-slice-aggregate-mixed-rank-2
+slice-aggregate-mixed-rank-2 c = search needs
+
+mixed-rank-requires : tie.Need-mixed-rank-requires
+mixed-rank-requires c κs = search needs
+
+returns-2 : tie.Need-returns-2
+returns-2 c =
+    let at-read = c .before .before .before .before .before .before .before in
+    mixed-file-answered (file-bytes at-read) (at-read .read-file .ensures) (c .before .before .before .if1 .left) _ (c .mixed-rank .ensures)
+
+pub mixed-file-spec : {M : Type 1} → statement M
+mixed-file-spec =
+    tie.close
+    (tie.spec
+    slice-aggregate-read-file
+    slice-aggregate-read-file-2
+    read-file-requires
+    refuse-requires
+    returns
+    slice-aggregate-mixed-rank
+    slice-aggregate-mixed-rank-2
+    mixed-rank-requires
+    returns-2)

@@ -1,0 +1,53 @@
+// The calls for a host in C: the bytes of a file and an answer area in, the refusal number out.
+ghost use mathlib.Core.Path.{_≡_};
+ghost use mathlib.Core.Bool.{false};
+ghost use Rattle.format.specs.Refusals.{unless, _then_, first-refusal, area-short};
+ghost use Rattle.format.specs.File.Piece.{closed};
+ghost use Rattle.format.specs.File.Format.{fields};
+ghost use Rattle.solvability.specs.Host.{HostAnswer, HostMixedAnswer};
+use format::judge_file;
+use format::refusals;
+use host::MIXED_LENGTH;
+use host::put_answer;
+use host::put_mixed;
+use layered::layered_file;
+use mixed::mixed_file;
+
+// Judges the file, then the area; where both are accepted, writes the answer to the layered model over the front of the area.
+#[no_mangle]
+pub extern "C" fn wundreska_check(file: &[u8], answer: &mut [u8]) -> u32
+    ensures { λ r. ⌜ HostAnswer (now (file .entry)) (now (answer .entry)) r (now (answer .exit)) ⌝ }
+{
+    let r = layered_file(file);
+    if r.refusal != 0 {
+        return r.refusal;
+    }
+    put_answer(answer, r)
+}
+
+// The refusal of a call whose area is too short: the file's own comes first.
+fn refuse_area(file: &[u8]) -> u32
+    ensures { λ r. ⌜ r ≡ first-refusal (closed fields (now (file .entry)) then unless false area-short) ⌝ }
+{
+    let number = judge_file(file);
+    if number != 0 {
+        return number;
+    }
+    refusals::AREA_SHORT
+}
+
+// Judges the file, then the area, then whether the file holds a mixed question; where all are accepted, writes the answer to the
+// mixed model over the front of the area.
+#[no_mangle]
+pub extern "C" fn wundreska_mixed(file: &[u8], answer: &mut [u8]) -> u32
+    ensures { λ r. ⌜ HostMixedAnswer (now (file .entry)) (now (answer .entry)) r (now (answer .exit)) ⌝ }
+{
+    if answer.len() < MIXED_LENGTH {
+        return refuse_area(file);
+    }
+    let r = mixed_file(file);
+    if r.refusal != 0 {
+        return r.refusal;
+    }
+    put_mixed(answer, r)
+}
