@@ -5,9 +5,5 @@ pub mod Steps
 pub mod PieceLaws
 pub mod BodyLaws
 pub mod FormatLaws
-pub mod EntryLaws
-pub mod JudgeLaws
-pub mod FieldLaws
 pub mod WriteLaws
-pub mod RowLaws
 mod Example

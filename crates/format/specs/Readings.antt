@@ -8,7 +8,7 @@ use lib.ListN.{length}
 use Rattle.format.specs.Refusals.{_then_, unless, area-short, row-beyond, area-test, row-test, model-tests, refusal}
 use Rattle.format.specs.RefusalLaws.{Caused, refusal-reads}
 use Rattle.format.specs.File.Piece.{closed}
-use Rattle.format.specs.File.Format.{fields, judge, decode, file-length, read-refusal, write-refusal, lookup-refusal}
+use Rattle.format.specs.File.Format.{fields, judge, decode, encode, handed-over, read-refusal, write-refusal, lookup-refusal}
 
 module _ (k : ℕ) (h : k ≢ 0) where
   pub model-reads : (p n a b : ℕ) (cs ws : List ℕ) → (refusal p n a b cs ws ≡ k) ↔ Caused (model-tests p n a b cs ws) k
@@ -25,7 +25,7 @@ module _ (k : ℕ) (h : k ≢ 0) where
   read-reads s cs ws = refusal-reads _ k h
 
   pub write-reads : (p n a b : ℕ) (cs ws out : List ℕ) → (write-refusal p n a b cs ws out ≡ k)
-      ↔ Caused (model-tests p n a b cs ws then unless (area-test (file-length n a b) (length out)) area-short) k
+      ↔ Caused (model-tests p n a b cs ws then unless (area-test (length (encode (handed-over p n a b cs ws))) (length out)) area-short) k
   unfolding write-refusal
   write-reads p n a b cs ws out = refusal-reads _ k h
 

@@ -1,13 +1,13 @@
 -- How refusals read: number k is given exactly where cause k holds and none that is judged before it; 0, where none holds.
 -- Stated once over a list of tests; then what each test says, and what holds of a model that is accepted. Assumes nothing.
-use Prim.Native.Nat.{ℕ, zero, suc, _-_, _<_}
+use Prim.Native.Nat.{ℕ, zero, suc, _<_}
 use mathlib.Core.Path.{_≡_, refl, sym, ap, _∙_}
 use mathlib.Core.Logic.{_≢_, _↔_}
 use mathlib.Core.Bool.{Bool, true, false, false≢true}
 use mathlib.Core.List.{[], _∷_}
 use native.Mathlib.Omega.{arith}
 use Rattle.format.specs.Lists.{All}
-use Rattle.format.specs.Refusals.{Cause, truncated, unexpected, not-prime, sizes-beyond, constant-beyond, parameter-beyond, trailing, area-short, row-beyond, not-mixed, number-of, Tests, unless, _then_, first-refusal, where-accepted, refusal}
+use Rattle.format.specs.Refusals.{Cause, truncated, unexpected, not-prime, sizes-beyond, constant-beyond, parameter-beyond, trailing, area-short, row-beyond, not-mixed, number-of, Tests, unless, _then_, first-refusal, where-accepted}
 
 -- ---- the reading of a number
 

@@ -2,6 +2,7 @@
 -- A judgement is a list of tests in the order in which they are made; it gives the number of the first that fails, or 0.
 -- Definitions only; RefusalLaws says how they read.
 use Prim.Native.Nat.{ℕ, zero, suc, _+_, _-_, _*_}
+use mathlib.Core.Path.{_≡_}
 use mathlib.Core.Bool.{Bool, true, false, _&&_}
 use mathlib.Core.List.{List, [], _∷_, _++_}
 use lib.ListN.{length, getD, take}
@@ -9,7 +10,7 @@ use lib.Dec.{leb, ltb, eqb}
 use Rattle.residue.specs.Arithmetic.{is-prime}
 use Rattle.limits.specs.Limits.{most-columns, most-rows, largest-prime}
 use Rattle.columns.specs.Columns.{within}
-use Rattle.format.specs.Lists.{all-pass}
+use Rattle.format.specs.Lists.{all-pass, over-room}
 
 -- ---- causes and their numbers
 
@@ -66,18 +67,28 @@ abbrev pub where-accepted : {A : Type 0} → ℕ → A → A → A
 where-accepted zero x other = x
 where-accepted (suc k) x other = other
 
+-- ---- a field's head
+
+-- how many bytes it has: a tag, and the length of the body in two
+abbrev pub head-bytes : ℕ
+head-bytes = 3
+
+-- the length that the head says, low byte first
+abbrev pub said-length : List ℕ → ℕ
+said-length s = getD s 1 0 + 256 * getD s 2 0
+
 -- ---- the test of each cause
 
--- 1: three bytes remain for a field's head, and its length for its body
+-- 1: bytes remain for a field's head, and its length for its body
 unfoldable pub head-test : List ℕ → Bool
-head-test s = leb 3 (length s)
+head-test s = leb head-bytes (length s)
 
 unfoldable pub body-test : ℕ → List ℕ → Bool
-body-test size s = leb size (length s - 3)
+body-test size s = leb size (length s - head-bytes)
 
 -- 2: the tag and the length are those that are due
 unfoldable pub due-test : ℕ → ℕ → List ℕ → Bool
-due-test tag size s = eqb (getD s 0 0) tag && eqb (getD s 1 0 + 256 * getD s 2 0) size
+due-test tag size s = eqb (getD s 0 0) tag && eqb (said-length s) size
 
 -- 3: p is a prime up to the largest
 unfoldable pub prime-test : ℕ → Bool
@@ -102,6 +113,11 @@ end-test s = eqb (length s) 0
 -- 8: an area of that length holds k elements
 unfoldable pub area-test : ℕ → ℕ → Bool
 area-test k len = leb k len
+
+-- bytes put over the front of an area, where it holds them; else it is refused and unchanged
+pub record PutRoom (bs before after : List ℕ) (refusal : ℕ) : Type 0 where
+  pub refusal-is : refusal ≡ first-refusal (unless (area-test (length bs) (length before)) area-short)
+  pub bytes-are : after ≡ over-room bs before
 
 -- 9: row i is one of a rows
 unfoldable pub row-test : ℕ → ℕ → Bool

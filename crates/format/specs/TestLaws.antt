@@ -1,6 +1,6 @@
 -- What each test of a model, a file, an area or a row says, and what holds of a model handed over that is accepted. Assumes nothing.
-use Prim.Native.Nat.{ℕ, _+_, _-_, _*_, _≤_, _<_}
-use mathlib.Core.Path.{_≡_, sym, ap, _∙_}
+use Prim.Native.Nat.{ℕ, _-_, _*_, _≤_, _<_}
+use mathlib.Core.Path.{_≡_}
 use mathlib.Core.Logic.{_↔_}
 use mathlib.Core.Bool.{Bool, true, _&&_}
 use mathlib.Core.List.{List}
@@ -16,7 +16,7 @@ use Rattle.counting.specs.Bools.{and-in, and-left, and-right}
 use Rattle.format.specs.Lists.{All}
 use Rattle.format.specs.ListLaws.{all-pass-all, all-at}
 use Rattle.limits.specs.Limits.{largest-prime, most-columns, most-rows}
-use Rattle.format.specs.Refusals.{head-test, body-test, due-test, prime-test, size-test, constant-test, parameter-test, end-test, area-test, row-test, model-tests, refusal}
+use Rattle.format.specs.Refusals.{head-bytes, said-length, head-test, body-test, due-test, prime-test, size-test, constant-test, parameter-test, end-test, area-test, row-test, model-tests, refusal}
 use Rattle.format.specs.RefusalLaws.{acceptance-reads}
 
 leb-reads : (x y : ℕ) → (leb x y ≡ true) ↔ (x ≤ y)
@@ -26,18 +26,18 @@ and-reads : {P Q : Type 0} (s t : Bool) → (s ≡ true) ↔ P → (t ≡ true) 
 and-reads s t f g = ((λ e. (f .0 (and-left s t e), g .0 (and-right s t e))), (λ v. and-in (f .1 (v .0)) (g .1 (v .1))))
 
 -- 1
-pub head-reads : (s : List ℕ) → (head-test s ≡ true) ↔ (3 ≤ length s)
+pub head-reads : (s : List ℕ) → (head-test s ≡ true) ↔ (head-bytes ≤ length s)
 unfolding head-test
-head-reads s = leb-reads 3 (length s)
+head-reads s = leb-reads head-bytes (length s)
 
-pub body-reads : (size : ℕ) (s : List ℕ) → (body-test size s ≡ true) ↔ (size ≤ length s - 3)
+pub body-reads : (size : ℕ) (s : List ℕ) → (body-test size s ≡ true) ↔ (size ≤ length s - head-bytes)
 unfolding body-test
-body-reads size s = leb-reads size (length s - 3)
+body-reads size s = leb-reads size (length s - head-bytes)
 
 -- 2
-pub due-reads : (tag size : ℕ) (s : List ℕ) → (due-test tag size s ≡ true) ↔ ((getD s 0 0 ≡ tag) × (getD s 1 0 + 256 * getD s 2 0 ≡ size))
+pub due-reads : (tag size : ℕ) (s : List ℕ) → (due-test tag size s ≡ true) ↔ ((getD s 0 0 ≡ tag) × (said-length s ≡ size))
 unfolding due-test
-due-reads tag size s = and-reads (eqb (getD s 0 0) tag) (eqb (getD s 1 0 + 256 * getD s 2 0) size) (eqb-true _ _, eq-eqb _ _) (eqb-true _ _, eq-eqb _ _)
+due-reads tag size s = and-reads (eqb (getD s 0 0) tag) (eqb (said-length s) size) (eqb-true _ _, eq-eqb _ _) (eqb-true _ _, eq-eqb _ _)
 
 -- 3
 pub prime-reads : (p : ℕ) → (prime-test p ≡ true) ↔ ((p ≤ largest-prime) × Prime p)

@@ -1,173 +1,174 @@
-// A file judged from its front: for each field its head, tag and length, body, then content.
+// A file judged from its front: for each field head, tag and length, body, then content. A judging function of a piece gives its
+// refusal and how many bytes follow it; its caller goes on there.
 ghost use mathlib.Core.Path.{_≡_};
 ghost use Prim.Native.Nat.{_≤_};
-ghost use lib.ListN.{length};
-ghost use Rattle.limits.specs.Limits.{most-columns, most-rows};
-ghost use Rattle.format.specs.Refusals.{first-refusal, due-test, body-test};
-ghost use Rattle.format.specs.File.Piece.{head-tests, many, closed};
-ghost use Rattle.format.specs.File.Format.{constant-row, parameter-row, end-field, row-fields, size-fields, judge};
+ghost use lib.ListN.{length, drop};
+ghost use Rattle.format.specs.Refusals.{head-bytes, first-refusal, due-test, body-test};
+ghost use Rattle.format.specs.File.Piece.{head-tests, many, closed, Judgement};
+ghost use Rattle.format.specs.File.Format.{constant-row, parameter-row, end-field, row-fields};
 use crate::content::entries_below;
-use crate::content::prime_within;
-use crate::content::sizes_within;
-use crate::content::two;
+use crate::fields::CONSTANT_TAG;
+use crate::fields::END_TAG;
+use crate::fields::HEAD_BYTES;
+use crate::fields::PARAMETER_TAG;
+use crate::fields::parameter_size;
+use crate::fields::said_body;
+use crate::fields::said_length;
 use crate::refusals;
 
-// The refusal of a field up to its content, or 0.
-pub fn judge_head(rest: &[u8], tag: u8, size: usize) -> u32
-    ensures { λ r. ⌜ r ≡ first-refusal (head-tests tag size (now (rest .entry))) ⌝ }
+// The refusal of a piece, or 0, and how many bytes follow the piece; none where it is refused.
+pub struct Judged {
+    pub refusal: u32,
+    pub left: usize,
+}
+
+// A field up to its content.
+pub fn judge_head(rest: &[u8], tag: u8, size: usize) -> Judged
+    ensures { λ r. ⌜ Judgement (head-tests tag size (now (rest .entry))) (drop size (drop head-bytes (now (rest .entry)))) r ⌝ }
 {
-    if rest.len() < 3 {
-        return refusals::TRUNCATED;
+    if rest.len() < HEAD_BYTES {
+        return Judged {
+            refusal: refusals::TRUNCATED,
+            left: 0,
+        };
     }
     let due = is_due(rest, tag, size);
     let whole = has_body(rest, size);
     if !due {
-        return refusals::UNEXPECTED;
+        return Judged {
+            refusal: refusals::UNEXPECTED,
+            left: 0,
+        };
     }
-    if whole { 0 } else { refusals::TRUNCATED }
+    if !whole {
+        return Judged {
+            refusal: refusals::TRUNCATED,
+            left: 0,
+        };
+    }
+    Judged {
+        refusal: 0,
+        left: rest.len() - HEAD_BYTES - size,
+    }
 }
 
 fn is_due(rest: &[u8], tag: u8, size: usize) -> bool
-    requires { ⌜ 3 ≤ length (now rest) ⌝ }
+    requires { ⌜ head-bytes ≤ length (now rest) ⌝ }
     ensures { λ r. ⌜ r ≡ due-test tag size (now (rest .entry)) ⌝ }
 {
     if rest[0] != tag {
         return false;
     }
-    two(rest[1], rest[2]) as usize == size
+    said_length(rest) == size
 }
 
 fn has_body(rest: &[u8], size: usize) -> bool
-    requires { ⌜ 3 ≤ length (now rest) ⌝ }
+    requires { ⌜ head-bytes ≤ length (now rest) ⌝ }
     ensures { λ r. ⌜ r ≡ body-test size (now (rest .entry)) ⌝ }
 {
-    size <= rest.len() - 3
+    size <= rest.len() - HEAD_BYTES
 }
 
-fn judge_constant_row(rest: &[u8], p: u32, n: usize) -> u32
-    requires { ⌜ n ≤ most-columns ⌝ }
-    ensures { λ r. ⌜ r ≡ first-refusal (constant-row p n .tests (now (rest .entry))) ⌝ }
+fn judge_constant_row(rest: &[u8], p: u32, n: u8) -> Judged
+    ensures { λ r. ⌜ Judgement (constant-row p n .tests (now (rest .entry))) (constant-row p n .rest (now (rest .entry))) r ⌝ }
 {
-    let size = 2 * n;
-    let r = judge_head(rest, 3, size);
-    if r != 0 {
-        return r;
+    let head = judge_head(rest, CONSTANT_TAG, 2 * (n as usize));
+    if head.refusal != 0 {
+        return head;
     }
-    let end = 3 + size;
-    if !entries_below(&rest[3..end], p) {
-        return refusals::CONSTANT_BEYOND;
+    if !entries_below(said_body(rest), p) {
+        return Judged {
+            refusal: refusals::CONSTANT_BEYOND,
+            left: 0,
+        };
     }
-    0
+    head
 }
 
-fn judge_constant_rows(file: &[u8], p: u32, n: usize, a: usize) -> u32
-    requires { ⌜ n ≤ most-columns ⌝ }
-    ensures { λ r. ⌜ r ≡ first-refusal (many a (constant-row p n) .tests (now (file .entry))) ⌝ }
-{
-    let size = 3 + 2 * n;
-    let mut rest = file;
-    let mut left = a;
-    while left > 0 {
-        let r = judge_constant_row(rest, p, n);
-        if r != 0 {
-            return r;
-        }
-        rest = &rest[size..];
-        left = left - 1;
-    }
-    0
-}
-
-fn judge_parameter_row(rest: &[u8], n: usize) -> u32
-    ensures { λ r. ⌜ r ≡ first-refusal (parameter-row n .tests (now (rest .entry))) ⌝ }
-{
-    let r = judge_head(rest, 4, 8);
-    if r != 0 {
-        return r;
-    }
-    let set = columns::of_bytes(&rest[3..11]);
-    if !columns::within(set, n) {
-        return refusals::PARAMETER_BEYOND;
-    }
-    0
-}
-
-fn judge_parameter_rows(file: &[u8], n: usize, b: usize) -> u32
-    ensures { λ r. ⌜ r ≡ first-refusal (many b (parameter-row n) .tests (now (file .entry))) ⌝ }
+fn judge_constant_rows(file: &[u8], p: u32, n: u8, a: u8) -> Judged
+    ensures { λ r. ⌜ Judgement (many a (constant-row p n) .tests (now (file .entry))) (many a (constant-row p n) .rest (now (file .entry))) r ⌝ }
 {
     let mut rest = file;
-    let mut left = b;
-    while left > 0 {
-        let r = judge_parameter_row(rest, n);
-        if r != 0 {
-            return r;
+    let mut todo = a;
+    while todo > 0 {
+        let row = judge_constant_row(rest, p, n);
+        if row.refusal != 0 {
+            return row;
         }
-        rest = &rest[11..];
-        left = left - 1;
+        let at = rest.len() - row.left;
+        rest = &rest[at..];
+        todo = todo - 1;
     }
-    0
+    Judged {
+        refusal: 0,
+        left: rest.len(),
+    }
+}
+
+fn judge_parameter_row(rest: &[u8], n: u8) -> Judged
+    ensures { λ r. ⌜ Judgement (parameter-row n .tests (now (rest .entry))) (parameter-row n .rest (now (rest .entry))) r ⌝ }
+{
+    let head = judge_head(rest, PARAMETER_TAG, parameter_size(n as usize));
+    if head.refusal != 0 {
+        return head;
+    }
+    let set = columns::of_bytes(said_body(rest));
+    if !columns::within(set, n as usize) {
+        return Judged {
+            refusal: refusals::PARAMETER_BEYOND,
+            left: 0,
+        };
+    }
+    head
+}
+
+fn judge_parameter_rows(file: &[u8], n: u8, b: u8) -> Judged
+    ensures { λ r. ⌜ Judgement (many b (parameter-row n) .tests (now (file .entry))) (many b (parameter-row n) .rest (now (file .entry))) r ⌝ }
+{
+    let mut rest = file;
+    let mut todo = b;
+    while todo > 0 {
+        let row = judge_parameter_row(rest, n);
+        if row.refusal != 0 {
+            return row;
+        }
+        let at = rest.len() - row.left;
+        rest = &rest[at..];
+        todo = todo - 1;
+    }
+    Judged {
+        refusal: 0,
+        left: rest.len(),
+    }
 }
 
 fn judge_end(rest: &[u8]) -> u32
     ensures { λ r. ⌜ r ≡ first-refusal (closed end-field (now (rest .entry))) ⌝ }
 {
-    let r = judge_head(rest, 5, 0);
-    if r != 0 {
-        return r;
+    let head = judge_head(rest, END_TAG, 0);
+    if head.refusal != 0 {
+        return head.refusal;
     }
-    if rest.len() != 3 {
+    if head.left != 0 {
         return refusals::TRAILING;
     }
     0
 }
 
 // The fields from tag 3 on.
-fn judge_row_fields(rest: &[u8], p: u32, n: usize, a: usize, b: usize) -> u32
-    requires { ⌜ (n ≤ most-columns) × (a ≤ most-rows) × (b ≤ most-rows) ⌝ }
+pub fn judge_row_fields(rest: &[u8], p: u32, n: u8, a: u8, b: u8) -> u32
     ensures { λ r. ⌜ r ≡ first-refusal (closed (row-fields p (n, a, b)) (now (rest .entry))) ⌝ }
 {
-    let r = judge_constant_rows(rest, p, n, a);
-    if r != 0 {
-        return r;
+    let constants = judge_constant_rows(rest, p, n, a);
+    if constants.refusal != 0 {
+        return constants.refusal;
     }
-    let at = a * (3 + 2 * n);
+    let at = rest.len() - constants.left;
     let rows = &rest[at..];
-    let q = judge_parameter_rows(rows, n, b);
-    if q != 0 {
-        return q;
+    let parameters = judge_parameter_rows(rows, n, b);
+    if parameters.refusal != 0 {
+        return parameters.refusal;
     }
-    let end = 11 * b;
+    let end = rows.len() - parameters.left;
     judge_end(&rows[end..])
-}
-
-// The fields from tag 2 on.
-fn judge_size_fields(rest: &[u8], p: u32) -> u32
-    ensures { λ r. ⌜ r ≡ first-refusal (closed (size-fields p) (now (rest .entry))) ⌝ }
-{
-    let r = judge_head(rest, 2, 3);
-    if r != 0 {
-        return r;
-    }
-    let n = rest[3] as usize;
-    let a = rest[4] as usize;
-    let b = rest[5] as usize;
-    if !sizes_within(n, a, b) {
-        return refusals::SIZES_BEYOND;
-    }
-    judge_row_fields(&rest[6..], p, n, a, b)
-}
-
-// The refusal of a file, or 0.
-pub fn judge_bytes(file: &[u8]) -> u32
-    ensures { λ r. ⌜ r ≡ judge (now (file .entry)) ⌝ }
-{
-    let r = judge_head(file, 1, 2);
-    if r != 0 {
-        return r;
-    }
-    let p = two(file[3], file[4]);
-    if !prime_within(p) {
-        return refusals::NOT_PRIME;
-    }
-    judge_size_fields(&file[5..], p)
 }

@@ -1,6 +1,8 @@
 // Models in files and handed over, judged; a file read field by field. Every public function is total, and refuses by a number.
 mod content;
+pub mod fields;
 mod handed_over;
+mod header;
 mod judge;
 mod reader;
 pub mod refusals;
@@ -9,10 +11,8 @@ mod sets;
 pub use content::parameters_within;
 pub use content::two;
 pub use handed_over::judge_model;
-pub use reader::Reader;
-pub use reader::after_field;
-pub use reader::judge_field;
+pub use header::Header;
 pub use reader::judge_file;
-pub use reader::judge_rest;
-pub use reader::open_reader;
+pub use reader::read_header;
 pub use sets::put_set;
+pub use sets::put_set_front;

@@ -1,3 +1,2 @@
--- The laws by which a file is read into lent areas and a row is looked up; the definitions are those of crate model.
-pub mod ReadLaws
+-- A row that is looked up is that row of the model; the definitions are those of crate format.
 pub mod LookupLaws

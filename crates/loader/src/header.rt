@@ -1,8 +1,10 @@
-// The numbers of a file that is accepted.
+// The numbers of a file.
 ghost use mathlib.Core.Path.{_≡_};
-ghost use Rattle.format.specs.File.Format.{judge};
-ghost use Rattle.format.specs.File.Steps.{Header};
-use format::two;
+ghost use Prim.Native.Nat.{_<_};
+ghost use lib.ListN.{length};
+ghost use Rattle.format.specs.File.Piece.{said-rests};
+use format::Header;
+use format::fields::said_rest;
 
 // What a file says before its rows; all are 0 but the refusal where the file is refused.
 pub struct Sizes {
@@ -26,15 +28,29 @@ pub fn no_sizes(refusal: u32) -> Sizes
     }
 }
 
-pub fn sizes_of(file: &[u8]) -> Sizes
-    requires { ⌜ judge (now file) ≡ 0 ⌝ }
-    ensures { λ r. ⌜ (r .refusal ≡ 0) × Header (now (file .entry)) (r .p) (r .n) (r .a) (r .b) ⌝ }
+// The numbers of a header.
+pub fn sizes_of(header: Header) -> Sizes
+    ensures { λ r. ⌜ (r .refusal ≡ header .refusal) × (r .p ≡ header .p) × (r .n ≡ header .n) × (r .a ≡ header .a) × (r .b ≡ header .b) × (r .n < 256) × (r .a < 256) ⌝ }
 {
     Sizes {
-        refusal: 0,
-        p: two(file[3], file[4]),
-        n: file[8] as usize,
-        a: file[9] as usize,
-        b: file[10] as usize,
+        refusal: header.refusal,
+        p: header.p,
+        n: header.n as usize,
+        a: header.a as usize,
+        b: header.b as usize,
     }
+}
+
+// How many bytes follow the k fields in front.
+pub fn left_after(file: &[u8], k: usize) -> usize
+    ensures { λ r. ⌜ r ≡ length (said-rests k (now (file .entry))) ⌝ }
+{
+    let mut rest = file;
+    let mut todo = k;
+    while todo > 0 {
+        let next = said_rest(rest);
+        rest = next;
+        todo = todo - 1;
+    }
+    rest.len()
 }

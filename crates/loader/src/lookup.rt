@@ -3,20 +3,21 @@ ghost use mathlib.Core.Path.{_≡_};
 ghost use Prim.Native.Nat.{_+_};
 ghost use lib.ListN.{length};
 ghost use Rattle.format.specs.File.Format.{lookup-refusal, lookup, lookup-start, lookup-length};
-use crate::header::sizes_of;
-use format::judge_file;
+use crate::header::left_after;
+use format::fields::HEAD_BYTES;
+use format::fields::said_length;
+use format::read_header;
 use format::refusals;
 
 // The refusal of a lookup of constant row i, or 0.
 pub fn judge_row(file: &[u8], i: usize) -> u32
     ensures { λ r. ⌜ r ≡ lookup-refusal (now (file .entry)) i ⌝ }
 {
-    let r = judge_file(file);
-    if r != 0 {
-        return r;
+    let header = read_header(file);
+    if header.refusal != 0 {
+        return header.refusal;
     }
-    let sizes = sizes_of(file);
-    if i >= sizes.a {
+    if i >= header.a as usize {
         return refusals::ROW_BEYOND;
     }
     0
@@ -30,9 +31,11 @@ pub fn row(file: &[u8], i: usize) -> &[u8]
     if r != 0 {
         return &file[..0];
     }
-    let sizes = sizes_of(file);
-    let n = sizes.n;
-    let start = 14 + i * (3 + 2 * n);
-    let end = start + 2 * n;
+    // the fields of p and of the sizes, and i rows
+    let left = left_after(file, 2 + i);
+    let at = file.len() - left;
+    let size = said_length(&file[at..]);
+    let start = at + HEAD_BYTES;
+    let end = start + size;
     &file[start..end]
 }

@@ -3,13 +3,8 @@ mod calls;
 
 pub use calls::wundreska_check;
 pub use calls::wundreska_mixed;
-pub use format::Reader;
-pub use format::after_field;
-pub use format::judge_field;
 pub use format::judge_file;
 pub use format::judge_model;
-pub use format::judge_rest;
-pub use format::open_reader;
 pub use format::refusals;
 pub use layered::Answer;
 pub use layered::layered_file;

@@ -1,24 +1,19 @@
--- A model handed over: where it is accepted it is of the stated form, so its file is accepted and read back; and its writing into an area.
--- Assumes nothing.
-use Prim.Native.Nat.{ℕ, zero, suc, _+_, _*_, _-_, _^_, _≤_, _<_}
-use mathlib.Core.Path.{_≡_, refl, sym, ap, _∙_}
-use mathlib.Core.Logic.{_≢_}
+-- A model handed over: where it is accepted it is of the stated form, so its file is accepted and read back. Assumes nothing.
+use Prim.Native.Nat.{ℕ, zero, suc, _+_, _*_, _^_, _≤_, _<_}
+use mathlib.Core.Path.{_≡_, refl, ap, _∙_}
 use mathlib.Core.Bool.{true}
 use mathlib.Core.List.{List, [], _∷_, _++_}
 use native.Mathlib.Omega.{arith}
 use native.Mathlib.Nat.{suc-mul}
 use lib.ListN.{length, getD, take, drop, length-drop}
 use lib.Seq.{length-take-le, take-add}
-use borrow.Author.Tests.{le-leb, lt-leb}
 use Rattle.columns.specs.Columns.{width, within}
-use Rattle.format.specs.Lists.{All, rows-of, over}
-use Rattle.format.specs.OverLaws.{over-none}
-use Rattle.format.specs.Refusals.{area-test, model-tests, refusal}
-use Rattle.format.specs.RefusalLaws.{first-fails, first-passes, first-none, then-refused, then-passed, where-refused, accepted-value}
+use Rattle.format.specs.Lists.{All, rows-of}
+use Rattle.format.specs.Refusals.{refusal}
 use Rattle.format.specs.TestLaws.{model-accepted}
-use Rattle.format.specs.File.Format.{ValidModel, judge, decode, encode, file-length, handed-over, write-refusal, bytes-written, WriteCall}
+use Rattle.format.specs.File.Format.{ValidModel, judge, decode, encode, handed-over}
 use Rattle.format.specs.File.FormatLaws.{decode-encode, encoded-accepted}
-use Rattle.format.specs.File.RowLaws.{handed-over-length}
+use Rattle.format.specs.File.WriteLaws.{file-length}
 
 -- ---- an accepted model is of the stated form
 
@@ -67,32 +62,7 @@ module _ (p n a b : ℕ) (cs ws : List ℕ) (words : (i : ℕ) → getD ws i 0 <
   pub written-read : decode (encode (handed-over p n a b cs ws)) ≡ handed-over p n a b cs ws
   written-read = decode-encode _ handed-over-valid
 
--- ---- written into an area
-
-module _ (p n a b : ℕ) (cs ws out : List ℕ) where
-  writing-nothing : (r : ℕ) → r ≡ write-refusal p n a b cs ws out → r ≢ 0 → WriteCall p n a b cs ws out r 0 out
-  unfolding bytes-written
-  writing-nothing r e h =
-      let none = where-refused r e h (encode (handed-over p n a b cs ws)) [] in
-      record { refusal-is = e; length-is = sym (ap length none); bytes-are = over-none out ∙ ap (λ (bs : List ℕ). over bs out) (sym none) }
-
-  pub writing-refused : (r : ℕ) → r ≡ refusal p n a b cs ws → r ≢ 0 → WriteCall p n a b cs ws out r 0 out
-  unfolding write-refusal refusal
-  writing-refused r e h = writing-nothing r (then-refused (model-tests p n a b cs ws) _ r e h) h
-
-  module _ (e : refusal p n a b cs ws ≡ 0) where
-    pub writing-short : length out < file-length n a b → WriteCall p n a b cs ws out 8 0 out
-    unfolding write-refusal refusal area-test
-    writing-short l = writing-nothing 8 (then-passed (model-tests p n a b cs ws) _ 8 e (first-fails _ _ _ (lt-leb _ _ l))) (λ z. omega arith)
-
-    pub writing-done : (out′ : List ℕ) → file-length n a b ≤ length out → out′ ≡ over (encode (handed-over p n a b cs ws)) out → WriteCall p n a b cs ws out 0 (file-length n a b) out′
-    unfolding write-refusal refusal area-test bytes-written
-    writing-done out′ l q =
-        let h = model-accepted p n a b cs ws e in
-        let z : 0 ≡ write-refusal p n a b cs ws out = then-passed (model-tests p n a b cs ws) _ 0 e (first-passes _ _ _ _ (le-leb _ _ l) first-none) in
-        let all = accepted-value 0 z refl (encode (handed-over p n a b cs ws)) [] in
-        record {
-          refusal-is = z;
-          length-is = sym (ap length all ∙ handed-over-length p n a b cs ws (h .constants-lent) (h .parameters-lent));
-          bytes-are = q ∙ ap (λ (bs : List ℕ). over bs out) (sym all);
-        }
+  -- and of the length that document 01 states
+  pub written-length : length (encode (handed-over p n a b cs ws)) ≡ 14 + a * (3 + 2 * n) + 11 * b
+  unfolding handed-over
+  written-length = file-length _ handed-over-valid

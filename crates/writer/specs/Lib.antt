@@ -1,2 +1,2 @@
--- What is known of a model handed over to be written; the definitions are those of crate model.
+-- What is known of a model handed over to be written; the definitions are those of crate format.
 pub mod HandedLaws

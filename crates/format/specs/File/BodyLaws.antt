@@ -16,7 +16,7 @@ use Rattle.limits.specs.Limits.{largest-prime, most-columns, most-rows}
 use Rattle.format.specs.Refusals.{first-refusal}
 use Rattle.format.specs.RefusalLaws.{unless-zero, zero-unless}
 use Rattle.format.specs.TestLaws.{prime-reads, size-reads, constant-reads}
-use Rattle.format.specs.File.Format.{entries, entry-bytes, prime-body, sizes-body, constant-body, parameter-body, end-body}
+use Rattle.format.specs.File.Format.{parameter-size, entries, entry-bytes, prime-body, sizes-body, constant-body, parameter-body, end-body}
 use Rattle.format.specs.File.PieceLaws.{BodyLaw}
 
 -- ---- numbers
@@ -113,11 +113,11 @@ parameter-law n =
     record {
       small = omega arith;
       good = λ b h l e.
-          let below = number-below 8 b h in
-          let all = take-all 8 b (omega arith) in
-          ((rw all at below, unless-zero _ _ e), bytes-number 8 b h l);
+          let below = number-below (parameter-size n) b h in
+          let all = take-all (parameter-size n) b (omega arith) in
+          ((rw all at below, unless-zero _ _ e), bytes-number (parameter-size n) b h l);
       back = λ w v.
-          let q : number (bytes-of 8 w) ≡ w = number-bytes 8 w (v .0) in
+          let q : number (bytes-of (parameter-size n) w) ≡ w = number-bytes (parameter-size n) w (v .0) in
           (refl, zero-unless _ _ (ap (within n) q ∙ v .1), q);
     }
 

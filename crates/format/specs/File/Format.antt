@@ -1,6 +1,6 @@
 -- The file of a model, by document 01, "The file": its fields in their order, and how a file is judged, read, written and looked up.
 -- Definitions only.
-use Prim.Native.Nat.{ℕ, _+_, _*_, _/_, _%_, _^_, _≤_, _<_}
+use Prim.Native.Nat.{ℕ, _+_, _-_, _*_, _/_, _%_, _^_, _≤_, _<_}
 use mathlib.Core.Path.{_≡_}
 use mathlib.Core.Bool.{true}
 use mathlib.Core.List.{List, [], _∷_, flatten}
@@ -8,12 +8,13 @@ use lib.ListN.{length, getD, take, drop}
 use Rattle.residue.specs.Arithmetic.{Prime}
 use Rattle.columns.specs.Bytes.{number, bytes-of}
 use Rattle.columns.specs.Columns.{width, within}
+use Rattle.format.specs.declared.header.Header.{Header}
 use Rattle.format.specs.Lists.{All, rows-of, over}
 use Rattle.limits.specs.Limits.{largest-prime, most-columns, most-rows}
-use Rattle.format.specs.Refusals.{unless, _then_, first-refusal, where-accepted, not-prime, sizes-beyond, constant-beyond, parameter-beyond, area-short, row-beyond, prime-test, size-test, constant-test, area-test, row-test, model-tests}
+use Rattle.format.specs.Refusals.{head-bytes, unless, _then_, first-refusal, where-accepted, not-prime, sizes-beyond, constant-beyond, parameter-beyond, area-short, row-beyond, prime-test, size-test, constant-test, area-test, row-test, model-tests}
 use Rattle.format.specs.File.Piece.{Body, Piece, field, many, seq, closed}
 
--- a model as a file holds it: a parameter row is the number that its eight bytes show
+-- a model as a file holds it: a parameter row is the number that its bytes show
 pub record FileModel : Type 0 where
   pub p : ℕ
   pub n : ℕ
@@ -34,6 +35,26 @@ pub record ValidModel (m : FileModel) : Type 0 where
   pub constants-below : All (λ r. (length r ≡ m .n) × All (λ c. c < m .p) r) (m .constants)
   pub parameter-rows : length (m .parameters) ≡ m .b
   pub parameters-within : All (λ w. (w < 2 ^ width) × (within (m .n) w ≡ true)) (m .parameters)
+
+-- ---- tags, and how long a parameter row's body is, by n
+
+abbrev pub prime-tag : ℕ
+prime-tag = 1
+
+abbrev pub sizes-tag : ℕ
+sizes-tag = 2
+
+abbrev pub constant-tag : ℕ
+constant-tag = 3
+
+abbrev pub parameter-tag : ℕ
+parameter-tag = 4
+
+abbrev pub end-tag : ℕ
+end-tag = 5
+
+abbrev pub parameter-size : ℕ → ℕ
+parameter-size n = 8
 
 -- ---- the bodies
 
@@ -65,21 +86,27 @@ constant-body p n =
 
 abbrev pub parameter-body : ℕ → Body ℕ
 parameter-body n =
-    record { size = 8; tests = λ b. unless (within n (number b)) parameter-beyond; dec = number; enc = bytes-of 8 }
+    record { size = parameter-size n; tests = λ b. unless (within n (number b)) parameter-beyond; dec = number; enc = bytes-of (parameter-size n) }
 
 abbrev pub end-body : Body (Unit {0})
 end-body = record { size = 0; tests = λ b. []; dec = λ b. tt; enc = λ x. [] }
 
 -- ---- the fields, in their order
 
+unfoldable pub prime-field : Piece ℕ
+prime-field = field prime-tag prime-body
+
+unfoldable pub sizes-field : Piece (ℕ × ℕ × ℕ)
+sizes-field = field sizes-tag sizes-body
+
 unfoldable pub constant-row : ℕ → ℕ → Piece (List ℕ)
-constant-row p n = field 3 (constant-body p n)
+constant-row p n = field constant-tag (constant-body p n)
 
 unfoldable pub parameter-row : ℕ → Piece ℕ
-parameter-row n = field 4 (parameter-body n)
+parameter-row n = field parameter-tag (parameter-body n)
 
 unfoldable pub end-field : Piece (Unit {0})
-end-field = field 5 end-body
+end-field = field end-tag end-body
 
 abbrev pub Rows : Type 0
 Rows = List (List ℕ) × (List ℕ × Unit {0})
@@ -93,10 +120,10 @@ row-fields p z =
 
 -- from tag 2 on, by p
 unfoldable pub size-fields : ℕ → Piece ((ℕ × ℕ × ℕ) × Rows)
-size-fields p = seq (field 2 sizes-body) (λ z. row-fields p z)
+size-fields p = seq sizes-field (λ z. row-fields p z)
 
 unfoldable pub fields : Piece (ℕ × ((ℕ × ℕ × ℕ) × Rows))
-fields = seq (field 1 prime-body) (λ p. size-fields p)
+fields = seq prime-field (λ p. size-fields p)
 
 -- the model as the fields' values, and back
 abbrev pub values : FileModel → ℕ × ((ℕ × ℕ × ℕ) × Rows)
@@ -122,12 +149,16 @@ judge s = first-refusal (closed fields s)
 unfoldable pub decode : List ℕ → FileModel
 decode s = of-values (fields .dec s)
 
+-- what a file says before its rows; all are 0 but the refusal where it is refused
+unfoldable pub refused-header : ℕ → Header
+refused-header k = record { refusal = k; p = 0; n = 0; a = 0; b = 0 }
+
+unfoldable pub header : List ℕ → Header
+header s =
+    where-accepted (judge s) (record { refusal = 0; p = decode s .p; n = decode s .n; a = decode s .a; b = decode s .b }) (refused-header (judge s))
+
 unfoldable pub encode : FileModel → List ℕ
 encode m = fields .enc (values m)
-
--- how long the file of such a model is
-abbrev pub file-length : (n a b : ℕ) → ℕ
-file-length n a b = 14 + a * (3 + 2 * n) + 11 * b
 
 -- ---- read into lent areas: the constants row after row, the parameter rows as words
 
@@ -164,7 +195,7 @@ handed-over p n a b cs ws =
 
 unfoldable pub write-refusal : (p n a b : ℕ) (cs ws out : List ℕ) → ℕ
 write-refusal p n a b cs ws out =
-    first-refusal (model-tests p n a b cs ws then unless (area-test (file-length n a b) (length out)) area-short)
+    first-refusal (model-tests p n a b cs ws then unless (area-test (length (encode (handed-over p n a b cs ws))) (length out)) area-short)
 
 -- what is written: nothing where it is refused
 unfoldable pub bytes-written : (p n a b : ℕ) (cs ws out : List ℕ) → List ℕ
@@ -181,13 +212,16 @@ pub record WriteCall (p n a b : ℕ) (cs ws out : List ℕ) (refusal len : ℕ) 
 unfoldable pub lookup-refusal : List ℕ → ℕ → ℕ
 lookup-refusal s i = first-refusal (closed fields s then unless (row-test i (decode s .a)) row-beyond)
 
--- where the body of row i starts in the file
-abbrev pub row-start : ℕ → ℕ → ℕ
-row-start n i = 14 + i * (3 + 2 * n)
+-- what of the file stands from its first row on, and from constant row i on
+unfoldable pub rows-part : List ℕ → List ℕ
+rows-part s = sizes-field .rest (prime-field .rest s)
 
--- where in the file the part starts that is handed back, and how long it is: nothing where it is refused
+unfoldable pub from-row : List ℕ → ℕ → List ℕ
+from-row s i = many i (constant-row (decode s .p) (decode s .n)) .rest (rows-part s)
+
+-- where in the file the part starts that is handed back, the row's body, and how long it is: nothing where it is refused
 unfoldable pub lookup-start : List ℕ → ℕ → ℕ
-lookup-start s i = where-accepted (lookup-refusal s i) (row-start (decode s .n) i) 0
+lookup-start s i = where-accepted (lookup-refusal s i) (length s - length (drop head-bytes (from-row s i))) 0
 
 unfoldable pub lookup-length : List ℕ → ℕ → ℕ
 lookup-length s i = where-accepted (lookup-refusal s i) (2 * decode s .n) 0

@@ -13,7 +13,7 @@ use Rattle.format.specs.Refusals.{first-refusal}
 use Rattle.format.specs.RefusalLaws.{then-zero, zero-then, unless-zero, zero-unless}
 use Rattle.format.specs.TestLaws.{end-reads}
 use Rattle.format.specs.File.Piece.{closed}
-use Rattle.format.specs.File.Format.{FileModel, ValidModel, Rows, constant-row, parameter-row, end-field, row-fields, size-fields, fields, values, of-values, judge, decode, encode}
+use Rattle.format.specs.File.Format.{FileModel, ValidModel, Rows, prime-tag, sizes-tag, constant-tag, parameter-tag, end-tag, prime-field, sizes-field, constant-row, parameter-row, end-field, row-fields, size-fields, fields, values, of-values, judge, decode, encode}
 use Rattle.format.specs.File.PieceLaws.{Law, field-law, many-law, seq-law}
 use Rattle.format.specs.File.BodyLaws.{IsPrime, IsSizes, IsConstants, IsParameters, prime-law, sizes-law, constant-law, parameter-law, end-law}
 
@@ -25,16 +25,16 @@ AreRows p z x =
 rows-law : (p : ℕ) (z : ℕ × ℕ × ℕ) → IsSizes z → Law (row-fields p z) (AreRows p z)
 unfolding row-fields constant-row parameter-row end-field
 rows-law p z v =
-    seq-law (many-law (z .1) (field-law 3 (constant-law p (z .0) (v .1))))
-    (λ _ _. seq-law (many-law (z .2) (field-law 4 (parameter-law (z .0))))
-    (λ _ _. field-law 5 end-law))
+    seq-law (many-law (z .1) (field-law constant-tag (constant-law p (z .0) (v .1))))
+    (λ _ _. seq-law (many-law (z .2) (field-law parameter-tag (parameter-law (z .0))))
+    (λ _ _. field-law end-tag end-law))
 
 abbrev AreValues : ℕ × ((ℕ × ℕ × ℕ) × Rows) → Type 0
 AreValues x = IsPrime (x .0) × (IsSizes (x .1 .0) × AreRows (x .0) (x .1 .0) (x .1 .1))
 
 fields-law : Law fields AreValues
-unfolding fields size-fields
-fields-law = seq-law (field-law 1 prime-law) (λ p _. seq-law (field-law 2 sizes-law) (λ z v. rows-law p z v))
+unfolding fields size-fields prime-field sizes-field
+fields-law = seq-law (field-law prime-tag prime-law) (λ p _. seq-law (field-law sizes-tag sizes-law) (λ z v. rows-law p z v))
 
 valid : (x : ℕ × ((ℕ × ℕ × ℕ) × Rows)) → AreValues x → ValidModel (of-values x)
 valid x v =

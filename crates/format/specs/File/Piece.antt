@@ -1,9 +1,13 @@
 -- Pieces of a file: what is tested in a piece, how it is read and written, and how pieces are put together.
--- Reading is total, and says something only where no test fails. Definitions only; PieceLaws has one law for each combinator.
-use Prim.Native.Nat.{ℕ, zero, suc, _/_, _%_}
+-- Reading is total, and says something only where no test fails. A piece says itself what follows it, so that no other place knows how
+-- long it is. Definitions only; PieceLaws has one law for each combinator.
+use Prim.Native.Nat.{ℕ, zero, suc, _+_, _-_, _/_, _%_}
 use mathlib.Core.List.{List, [], _∷_, _++_, flatMap}
-use lib.ListN.{take, drop}
-use Rattle.format.specs.Refusals.{Tests, unless, _then_, truncated, unexpected, trailing, head-test, due-test, body-test, end-test}
+use mathlib.Core.Path.{_≡_}
+use lib.ListN.{length, take, drop}
+use denote.Ref.{RefT}
+use Rattle.format.specs.declared.judge.Judged.{Judged}
+use Rattle.format.specs.Refusals.{Tests, unless, _then_, first-refusal, where-accepted, truncated, unexpected, trailing, head-bytes, said-length, head-test, due-test, body-test, end-test}
 
 -- a field's body, of a size that is known
 pub record Body (A : Type 0) : Type 0 where
@@ -33,9 +37,9 @@ field-bytes tag size body = tag ∷ size % 256 ∷ size / 256 ∷ body
 abbrev pub field : {A : Type 0} → ℕ → Body A → Piece A
 field tag B =
     record {
-      tests = λ s. head-tests tag (B .size) s then B .tests (take (B .size) (drop 3 s));
-      dec = λ s. B .dec (take (B .size) (drop 3 s));
-      rest = λ s. drop (B .size) (drop 3 s);
+      tests = λ s. head-tests tag (B .size) s then B .tests (take (B .size) (drop head-bytes s));
+      dec = λ s. B .dec (take (B .size) (drop head-bytes s));
+      rest = λ s. drop (B .size) (drop head-bytes s);
       enc = λ x. field-bytes tag (B .size) (B .enc x);
     }
 
@@ -68,3 +72,33 @@ seq P Q =
 -- the piece, and nothing after it
 unfoldable pub closed : {A : Type 0} → Piece A → List ℕ → Tests
 closed P s = P .tests s then unless (end-test (P .rest s)) trailing
+
+-- what a judging function gives of a piece: its refusal, and how many bytes follow it, none where it is refused
+pub record Judgement (tests : Tests) (rest : List ℕ) (r : Judged) : Type 0 where
+  pub refusal-is : r .refusal ≡ first-refusal tests
+  pub left-is : r .left ≡ where-accepted (first-refusal tests) (length rest) 0
+
+-- ---- by the length that a head says, as a file that is accepted is walked
+
+-- the body of the field in front, and what follows the field
+unfoldable pub said-body : List ℕ → List ℕ
+said-body s = take (said-length s) (drop head-bytes s)
+
+unfoldable pub said-rest : List ℕ → List ℕ
+said-rest s = drop (said-length s) (drop head-bytes s)
+
+-- the bodies of the k fields in front, and what follows these
+unfoldable pub said-bodies : ℕ → List ℕ → List (List ℕ)
+said-bodies zero s = []
+said-bodies (suc k) s = said-body s ∷ said-bodies k (said-rest s)
+
+unfoldable pub said-rests : ℕ → List ℕ → List ℕ
+said-rests zero s = s
+said-rests (suc k) s = said-rests k (said-rest s)
+
+-- r is the last part of the bytes lent, and holds these: where it starts among them, and how long it is
+pub record LastPart (holds : List ℕ) (lent r : RefT (List ℕ)) : Type 0 where
+  pub bytes-are : r .now ≡ holds
+  pub same-area : r .ptr .0 ≡ lent .ptr .0
+  pub start-is : r .ptr .1 ≡ (length (lent .now) - length holds) + lent .ptr .1
+  pub length-is : length (r .now) ≡ length holds

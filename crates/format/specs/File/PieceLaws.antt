@@ -1,6 +1,6 @@
 -- The laws of fields, repetition and sequence, one for each: what passes its tests is of the stated form and is written as it was read;
 -- what is of the stated form passes and is read as it was written. Assumes nothing.
-use Prim.Native.Nat.{ℕ, zero, suc, _+_, _*_, _-_, _/_, _%_, _≤_, _<_}
+use Prim.Native.Nat.{ℕ, zero, suc, _+_, _-_, _/_, _%_, _≤_, _<_}
 use mathlib.Core.Path.{_≡_, refl, sym, ap, _∙_, subst}
 use mathlib.Core.List.{List, [], _∷_, _++_, append-assoc, flatMap}
 use native.Mathlib.Omega.{arith}
@@ -8,7 +8,7 @@ use lib.ListN.{length, getD, take, drop, length-append, length-drop, take-append
 use lib.Seq.{take-at, drop-at, getD-drop, getD-append-add, length-take-le}
 use Rattle.columns.specs.Words.Bytes.{AreBytes}
 use Rattle.format.specs.Lists.{All}
-use Rattle.format.specs.Refusals.{first-refusal}
+use Rattle.format.specs.Refusals.{head-bytes, said-length, first-refusal}
 use Rattle.format.specs.RefusalLaws.{acceptance-reads, then-zero, zero-then}
 use Rattle.format.specs.TestLaws.{head-reads, due-reads, body-reads}
 use Rattle.format.specs.File.Piece.{Body, Piece, head-tests, field, many, many-tests, many-dec, many-rest, seq}
@@ -41,7 +41,7 @@ bytes-take (suc k) (x ∷ s) h (suc i) = bytes-take k s (λ j. h (suc j)) i
 
 -- what a head that is not refused says
 abbrev Head : ℕ → ℕ → List ℕ → Type 0
-Head tag size s = (3 ≤ length s) × (getD s 0 0 ≡ tag) × (getD s 1 0 + 256 * getD s 2 0 ≡ size) × (size ≤ length s - 3)
+Head tag size s = (head-bytes ≤ length s) × (getD s 0 0 ≡ tag) × (said-length s ≡ size) × (size ≤ length s - head-bytes)
 
 pub head-good : (tag size : ℕ) (s : List ℕ) → first-refusal (head-tests tag size s) ≡ 0 → Head tag size s
 unfolding head-tests
@@ -56,7 +56,7 @@ head-back tag size s h =
     acceptance-reads (head-tests tag size s) .1 (head-reads s .1 (h .0), (due-reads tag size s .1 (h .1, h .2), (body-reads size s .1 (h .3), tt)))
 
 -- the list of a head that is not refused
-head-list : (tag size : ℕ) (s : List ℕ) → AreBytes s → Head tag size s → (tag ∷ size % 256 ∷ size / 256 ∷ drop 3 s) ≡ s
+head-list : (tag size : ℕ) (s : List ℕ) → AreBytes s → Head tag size s → (tag ∷ size % 256 ∷ size / 256 ∷ drop head-bytes s) ≡ s
 head-list tag size [] b h = absurd (omega arith)
 head-list tag size (x ∷ []) b h = absurd (omega arith)
 head-list tag size (x ∷ y ∷ []) b h = absurd (omega arith)
@@ -74,8 +74,8 @@ field-law {A} tag {B} {Is} L = record { good = good; back = back }
     good s h e =
         let z = then-zero (head-tests tag (B .size) s) _ e in
         let f : Head tag (B .size) s = head-good tag (B .size) s (z .0) in
-        let l : length (take (B .size) (drop 3 s)) ≡ B .size = length-take-le (B .size) (drop 3 s) (simp length-drop (f .3)) in
-        let g = L .good (take (B .size) (drop 3 s)) (bytes-take (B .size) (drop 3 s) (bytes-drop 3 s h)) l (z .1) in
+        let l : length (take (B .size) (drop head-bytes s)) ≡ B .size = length-take-le (B .size) (drop head-bytes s) (simp length-drop (f .3)) in
+        let g = L .good (take (B .size) (drop head-bytes s)) (bytes-take (B .size) (drop head-bytes s) (bytes-drop head-bytes s h)) l (z .1) in
         (g .0, rw (g .1, take-append-drop) (head-list tag (B .size) s h f))
 
     back : (x : A) (t : List ℕ) → Is x

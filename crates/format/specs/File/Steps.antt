@@ -1,42 +1,53 @@
--- What private functions of crates loader and writer promise on the way: the parts of a file as they are written and read. Definitions only.
-use Prim.Native.Nat.{ℕ, zero, suc, _+_, _*_, _≤_}
+-- What functions of crates format, loader and writer promise on the way: what the fields of a file say one after another, and the parts of a file
+-- as they are read and written. Definitions only.
+use Prim.Native.Nat.{ℕ, _*_}
 use mathlib.Core.Path.{_≡_}
-use mathlib.Core.List.{List, [], _∷_, _++_}
-use lib.ListN.{length, take, drop}
+use mathlib.Core.List.{List, map, flatMap}
+use lib.ListN.{length, take}
 use Rattle.columns.specs.Bytes.{number, bytes-of}
-use Rattle.limits.specs.Limits.{most-columns, most-rows, largest-prime}
-use Rattle.format.specs.File.Piece.{field-bytes}
-use Rattle.format.specs.File.Format.{entries, entry-bytes, decode, file-length}
+use Rattle.limits.specs.Limits.{set-bytes}
+use Rattle.format.specs.declared.header.Header.{Header}
+use Rattle.format.specs.Lists.{over}
+use Rattle.format.specs.Refusals.{first-refusal, where-accepted}
+use Rattle.format.specs.File.Piece.{field-bytes, closed, said-bodies}
+use Rattle.format.specs.File.Format.{entries, entry-bytes, constant-tag, parameter-tag, parameter-size, prime-field, sizes-field, row-fields, refused-header}
+
+-- ---- judged: what the fields say, each after those before it; the first refusal alone
+
+abbrev pub or-refused : ℕ → Header → Header
+or-refused k h = where-accepted k h (refused-header k)
+
+unfoldable pub prime-said : List ℕ → Header
+prime-said s = or-refused (first-refusal (prime-field .tests s)) (record { refusal = 0; p = prime-field .dec s; n = 0; a = 0; b = 0 })
+
+unfoldable pub sizes-said : List ℕ → Header → Header
+sizes-said s h =
+    let z = sizes-field .dec s in
+    where-accepted (h .refusal) (or-refused (first-refusal (sizes-field .tests s)) (record { refusal = 0; p = h .p; n = z .0; a = z .1; b = z .2 })) h
+
+unfoldable pub rows-said : List ℕ → Header → Header
+rows-said s h = where-accepted (h .refusal) (or-refused (first-refusal (closed (row-fields (h .p) (h .n, h .a, h .b)) s)) h) h
+
+-- ---- read: by the lengths that the heads say
+
+-- the constants of the k rows in front, row after row
+unfoldable pub constants-said : ℕ → List ℕ → List ℕ
+constants-said k s = flatMap entries (said-bodies k s)
+
+-- the k parameter rows in front
+unfoldable pub parameters-said : ℕ → List ℕ → List ℕ
+parameters-said k s = map (λ b. number (take set-bytes b)) (said-bodies k s)
 
 -- ---- written
 
 -- a row of n constants, and a parameter row, as fields
 unfoldable pub constant-bytes : ℕ → List ℕ → List ℕ
-constant-bytes n r = field-bytes 3 (2 * n) (entry-bytes r)
+constant-bytes n r = field-bytes constant-tag (2 * n) (entry-bytes r)
 
-unfoldable pub parameter-bytes : ℕ → List ℕ
-parameter-bytes w = field-bytes 4 8 (bytes-of 8 w)
+unfoldable pub parameter-bytes : ℕ → ℕ → List ℕ
+parameter-bytes n w = field-bytes parameter-tag (parameter-size n) (bytes-of (parameter-size n) w)
 
--- ---- read
-
--- the constants of the k rows that stand first, row after row
-unfoldable pub constants-of : ℕ → ℕ → List ℕ → List ℕ
-constants-of n zero s = []
-constants-of n (suc k) s = entries (take (2 * n) (drop 3 s)) ++ constants-of n k (drop (3 + 2 * n) s)
-
--- the k parameter rows that stand first
-unfoldable pub parameters-of : ℕ → List ℕ → List ℕ
-parameters-of zero s = []
-parameters-of (suc k) s = number (take 8 (drop 3 s)) ∷ parameters-of k (drop 11 s)
-
--- p, n, a, b are those of an accepted file
-pub record Header (s : List ℕ) (p n a b : ℕ) : Type 0 where
-  pub p-is : p ≡ decode s .p
-  pub n-is : n ≡ decode s .n
-  pub a-is : a ≡ decode s .a
-  pub b-is : b ≡ decode s .b
-  pub p-most : p ≤ largest-prime
-  pub n-most : n ≤ most-columns
-  pub a-most : a ≤ most-rows
-  pub b-most : b ≤ most-rows
-  pub whole : length s ≡ file-length n a b
+-- these bytes were put over the front of the area, and so many they are: the next ones go behind them
+pub record Put (bs before after : List ℕ) (many : ℕ) : Type 0 where
+  pub many-is : many ≡ length bs
+  pub bytes-are : after ≡ over bs before

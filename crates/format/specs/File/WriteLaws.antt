@@ -1,5 +1,5 @@
 -- What is written: bytes, how many, and field after field. Assumes nothing.
-use Prim.Native.Nat.{ℕ, zero, suc, _+_, _*_, _-_, _/_, _≤_, _<_}
+use Prim.Native.Nat.{ℕ, zero, suc, _+_, _*_, _/_, _≤_, _<_}
 use mathlib.Core.Path.{_≡_, refl, sym, ap}
 use mathlib.Core.List.{List, [], _∷_, _++_, flatMap}
 use native.Mathlib.Omega.{arith}
@@ -9,7 +9,7 @@ use Rattle.columns.specs.Bytes.{bytes-of}
 use Rattle.columns.specs.Words.Bytes.{AreBytes}
 use Rattle.format.specs.Lists.{All}
 use Rattle.format.specs.File.Piece.{Body, field}
-use Rattle.format.specs.File.Format.{FileModel, ValidModel, entry-bytes, prime-body, sizes-body, constant-body, parameter-body, end-body, constant-row, parameter-row, end-field, row-fields, size-fields, fields, encode, file-length}
+use Rattle.format.specs.File.Format.{FileModel, ValidModel, prime-tag, sizes-tag, constant-tag, parameter-tag, end-tag, parameter-size, prime-field, sizes-field, entry-bytes, prime-body, sizes-body, constant-body, parameter-body, end-body, constant-row, parameter-row, end-field, row-fields, size-fields, fields, encode}
 use Rattle.format.specs.File.BodyLaws.{entries-back}
 
 -- ---- a file is made of bytes
@@ -43,20 +43,20 @@ bytes-many f h [] v i = omega arith
 bytes-many f h (x ∷ xs) v i = bytes-append (f x) (flatMap f xs) (h x (v .0)) (bytes-many f h xs (v .1)) i
 
 pub encode-bytes : (m : FileModel) → ValidModel m → AreBytes (encode m)
-unfolding encode fields size-fields row-fields constant-row parameter-row end-field
+unfolding encode fields size-fields row-fields prime-field sizes-field constant-row parameter-row end-field
 encode-bytes m v =
-    let row = field 3 (constant-body (m .p) (m .n)) in
-    let parameters = field 4 (parameter-body (m .n)) in
-    let f₁ = field 1 prime-body .enc (m .p) in
-    let f₂ = field 2 sizes-body .enc (m .n, m .a, m .b) in
+    let row = field constant-tag (constant-body (m .p) (m .n)) in
+    let parameters = field parameter-tag (parameter-body (m .n)) in
+    let f₁ = field prime-tag prime-body .enc (m .p) in
+    let f₂ = field sizes-tag sizes-body .enc (m .n, m .a, m .b) in
     let f₃ = flatMap (row .enc) (m .constants) in
     let f₄ = flatMap (parameters .enc) (m .parameters) in
-    let f₅ = field 5 end-body .enc tt in
-    bytes-append f₁ (f₂ ++ (f₃ ++ (f₄ ++ f₅))) (bytes-field 1 prime-body (m .p) (omega arith) (omega arith) (bytes-of-are-bytes 2 (m .p)))
-    (bytes-append f₂ (f₃ ++ (f₄ ++ f₅)) (bytes-field 2 sizes-body (m .n, m .a, m .b) (omega arith) (omega arith) sizes)
-    (bytes-append f₃ (f₄ ++ f₅) (bytes-many (row .enc) (λ r w. bytes-field 3 (constant-body (m .p) (m .n)) r (omega arith) (omega (arith, v .n-most)) (bytes-entries (m .p) r (omega (arith, v .p-most)) (w .1))) (m .constants) (v .constants-below))
-    (bytes-append f₄ f₅ (bytes-many (parameters .enc) (λ w _. bytes-field 4 (parameter-body (m .n)) w (omega arith) (omega arith) (bytes-of-are-bytes 8 w)) (m .parameters) (v .parameters-within))
-    (bytes-field 5 end-body tt (omega arith) (omega arith) (λ i. omega arith)))))
+    let f₅ = field end-tag end-body .enc tt in
+    bytes-append f₁ (f₂ ++ (f₃ ++ (f₄ ++ f₅))) (bytes-field prime-tag prime-body (m .p) (omega arith) (omega arith) (bytes-of-are-bytes 2 (m .p)))
+    (bytes-append f₂ (f₃ ++ (f₄ ++ f₅)) (bytes-field sizes-tag sizes-body (m .n, m .a, m .b) (omega arith) (omega arith) sizes)
+    (bytes-append f₃ (f₄ ++ f₅) (bytes-many (row .enc) (λ r w. bytes-field constant-tag (constant-body (m .p) (m .n)) r (omega arith) (omega (arith, v .n-most)) (bytes-entries (m .p) r (omega (arith, v .p-most)) (w .1))) (m .constants) (v .constants-below))
+    (bytes-append f₄ f₅ (bytes-many (parameters .enc) (λ w _. bytes-field parameter-tag (parameter-body (m .n)) w (omega arith) (omega arith) (bytes-of-are-bytes (parameter-size (m .n)) w)) (m .parameters) (v .parameters-within))
+    (bytes-field end-tag end-body tt (omega arith) (omega arith) (λ i. omega arith)))))
   where
     sizes : AreBytes (m .n ∷ m .a ∷ m .b ∷ [])
     sizes zero = omega (arith, v .n-most)
@@ -75,11 +75,12 @@ length-many f k h (x ∷ xs) v =
     let m : suc (length xs) * k ≡ length xs * k + k = suc-mul (length xs) k in
     rw length-append (omega arith)
 
-pub encode-length : (m : FileModel) → ValidModel m → length (encode m) ≡ file-length (m .n) (m .a) (m .b)
-unfolding encode fields size-fields row-fields constant-row parameter-row end-field
-encode-length m v =
-    let r = length-many (field 3 (constant-body (m .p) (m .n)) .enc) (3 + 2 * m .n) (λ r w. (let e = entries-back r in let l = w .0 in omega arith)) (m .constants) (v .constants-below) in
-    let s = length-many (field 4 (parameter-body (m .n)) .enc) 11 (λ w _. refl) (m .parameters) (v .parameters-within) in
+-- document 01: the length is 14 + a × (3 + 2n) + 11 × b
+pub file-length : (m : FileModel) → ValidModel m → length (encode m) ≡ 14 + m .a * (3 + 2 * m .n) + 11 * m .b
+unfolding encode fields size-fields row-fields prime-field sizes-field constant-row parameter-row end-field
+file-length m v =
+    let r = length-many (field constant-tag (constant-body (m .p) (m .n)) .enc) (3 + 2 * m .n) (λ r w. (let e = entries-back r in let l = w .0 in omega arith)) (m .constants) (v .constants-below) in
+    let s = length-many (field parameter-tag (parameter-body (m .n)) .enc) 11 (λ w _. refl) (m .parameters) (v .parameters-within) in
     let ra : length (m .constants) * (3 + 2 * m .n) ≡ m .a * (3 + 2 * m .n) = ap (λ (k : ℕ). k * (3 + 2 * m .n)) (v .constant-rows) in
     let sb : length (m .parameters) * 11 ≡ m .b * 11 = ap (λ (k : ℕ). k * 11) (v .parameter-rows) in
     simp length-append (omega arith)

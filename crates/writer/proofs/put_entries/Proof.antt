@@ -1,15 +1,15 @@
 -- `writer::put_entries` meets its contract. The invariant: the entries before the rest are written, and those of the rest are left.
 -- The measure is the length of the rest. Assumes nothing.
-use Prim.Native.Nat.{ℕ, _/_, _%_}
-use mathlib.Core.List.{List, [], _∷_}
-use mathlib.Core.Path.{sym, ap, _∙_}
 use native.Mathlib.Omega.{arith}
-use lib.ListN.{length, getD, length-take, length-drop}
-use Rattle.format.specs.File.BodyLaws.{entries-back}
-use Rattle.format.specs.File.EntryLaws.{entry-bytes-next, entry-bytes-done}
-use Rattle.format.specs.File.Format.{entry-bytes}
+use Prim.Native.Nat.{ℕ, _+_, _-_, _/_, _%_, _≤_}
+use mathlib.Core.List.{List, [], _∷_, _++_}
+use mathlib.Core.Path.{sym, ap, _∙_}
+use lib.ListN.{length, getD, take, drop, length-take, length-drop}
 use Rattle.format.specs.ListLaws.{tail-part}
-use Rattle.format.specs.OverLaws.{Wrote, wrote-none, wrote-next, wrote-all}
+use Rattle.format.specs.OverLaws.{Wrote, wrote-none}
+use Rattle.format.specs.File.Format.{entry-bytes}
+use Rattle.format.proofs.Entries.{entry-bytes-next, entry-bytes-done}
+use Rattle.format.proofs.Puts.{wrote-put, put-all, room-left}
 use Rattle.writer.proofs.put_entries.Statement.{statement}
 use Rattle.writer.proofs.put_entries.Tie as tie
 
@@ -19,26 +19,30 @@ Inv-loop out₀ row rest₀ at₀ out rest at = Wrote (entry-bytes row) (entry-b
 abbrev μ-loop : tie.MeasureT-loop
 μ-loop out₀ row rest₀ at₀ out rest at = length rest
 
+-- while entries are left, there is room for the next one
+room : (c : tie.In-loop Inv-loop μ-loop) → let l = c .before .loop in (l .at + 2 ≤ length (l .out)) × (2 ≤ length (take (length (l .out) - l .at) (drop (l .at) (l .out))))
+room c = let l = c .before .loop in room-left (getD (l .rest .now) 0 0 % 256 ∷ getD (l .rest .now) 0 0 / 256 ∷ []) _ (l .inv) (entry-bytes-next (l .rest .now) (c .loop-test .taken))
+
 loop-holds : tie.Need-loop-holds Inv-loop μ-loop
-loop-holds c = wrote-none _ _ (omega (arith, entries-back (c .before .before .args .row .now)))
+loop-holds c = wrote-none _ _ (c .before .before .pre)
 
 sub-put-two : tie.Need-sub-put-two Inv-loop μ-loop
-sub-put-two c = omega (arith, entries-back (c .before .loop .rest .now), c .before .loop .inv)
+sub-put-two c = omega (arith, room c)
 
 part-put-two-start : tie.Need-part-put-two-start Inv-loop μ-loop
-part-put-two-start c = omega (arith, entries-back (c .before .loop .rest .now), c .before .loop .inv)
+part-put-two-start c = omega (arith, room c)
 
 part-put-two-end : tie.Need-part-put-two-end Inv-loop μ-loop
-part-put-two-end c = omega (arith, entries-back (c .before .loop .rest .now), c .before .loop .inv)
+part-put-two-end c = omega (arith, room c)
 
 shared-slice-read-put-two : tie.Need-shared-slice-read-put-two Inv-loop μ-loop
 shared-slice-read-put-two c = omega arith
 
 put-two-requires : tie.Need-put-two-requires Inv-loop μ-loop
-put-two-requires c κs = simp (length-take, length-drop) (omega (arith, entries-back (c .before .before .before .loop .rest .now), c .before .before .before .loop .inv))
+put-two-requires c κs = room (c .before .before) .1
 
 add-at : tie.Need-add-at Inv-loop μ-loop
-add-at c = omega (arith, entries-back (c .before .before .before .before .before .before .loop .rest .now), c .before .before .before .before .before .before .loop .inv)
+add-at c = let k = c .before .before .put-two .ensures .many-is in omega (arith, room (c .before .before .before .before .before))
 
 sub-rest : tie.Need-sub-rest Inv-loop μ-loop
 sub-rest c = omega arith
@@ -53,18 +57,16 @@ loop-less : tie.Need-loop-less Inv-loop μ-loop
 loop-less c = simp (length-take, length-drop) (omega arith)
 
 loop-again : tie.Need-loop-again Inv-loop μ-loop
-loop-again c =
-    let l = c .before .before .before .before .before .before .before .loop in
+loop-again c = let l = c .before .before .before .before .before .before .before .loop in
     let r = l .rest .now in
-    wrote-next (getD r 0 0 % 256 ∷ getD r 0 0 / 256 ∷ []) _ _ (l .inv)
-    (entry-bytes-next r (c .before .before .before .before .before .before .loop-test .taken) ∙ ap (λ (s : List ℕ). getD r 0 0 % 256 ∷ getD r 0 0 / 256 ∷ entry-bytes s) (sym (tail-part 1 r)))
-    (c .before .before .before .put-two .ensures)
+    wrote-put (getD r 0 0 % 256 ∷ getD r 0 0 / 256 ∷ []) _ _ (l .inv)
+    (entry-bytes-next r (c .before .before .before .before .before .before .loop-test .taken) ∙ ap (λ (s : List ℕ). (getD r 0 0 % 256 ∷ getD r 0 0 / 256 ∷ []) ++ entry-bytes s) (sym (tail-part 1 r))) (c .before .before .before .put-two .ensures)
 
 same-length : tie.Need-same-length Inv-loop μ-loop
 same-length c = c .before .loop .inv .same
 
 returns : tie.Need-returns Inv-loop μ-loop
-returns c = wrote-all (c .before .loop .inv) (entry-bytes-done _ (c .loop-test .left))
+returns c = put-all (c .before .loop .inv) (entry-bytes-done _ (c .loop-test .left))
 
 pub put-entries-spec : {M : Type 1} → statement M
 put-entries-spec =

@@ -1,11 +1,12 @@
 -- `writer::put_head` meets its contract. Assumes nothing.
+use borrow.Author.Needs.{needs}
+use native.Mathlib.Omega.{arith}
 use Prim.Native.Nat.{ℕ, _/_, _%_}
 use mathlib.Core.List.{List, [], _∷_}
 use mathlib.Core.Path.{refl}
-use native.Mathlib.Omega.{arith}
 use lib.ListN.{length-take, length-drop, length-set}
-use borrow.Author.Needs.{needs}
-use Rattle.format.specs.OverLaws.{wrote-none, wrote-next, wrote-set, wrote-all}
+use Rattle.format.specs.OverLaws.{wrote-none, wrote-set}
+use Rattle.format.proofs.Puts.{wrote-put, put-all}
 use Rattle.writer.proofs.put_head.Statement.{statement}
 use Rattle.writer.proofs.put_head.Tie as tie
 
@@ -24,19 +25,20 @@ part-put-two-end c = search needs
 put-two-requires : tie.Need-put-two-requires
 put-two-requires c κs = simp (length-take, length-drop, length-set) (omega arith)
 
+add-result : tie.Need-add-result
+add-result c = search needs
+
 same-length : tie.Need-same-length
-same-length c =
-    let a = c .before .before .before .before .before .args in
+same-length c = let a = c .before .before .before .before .before .args in
     let bytes : List ℕ = a .size % 256 ∷ a .size / 256 ∷ [] in
     let w = wrote-set (a .tag) bytes (wrote-none (a .tag ∷ bytes) (a .out .now) (omega arith)) refl in
-    wrote-next bytes [] _ w refl (c .before .before .put-two .ensures) .same
+    wrote-put bytes [] _ w refl (c .before .before .put-two .ensures) .same
 
 returns : tie.Need-returns
-returns c =
-    let a = c .before .before .before .before .before .args in
+returns c = let a = c .before .before .before .before .before .args in
     let bytes : List ℕ = a .size % 256 ∷ a .size / 256 ∷ [] in
     let w = wrote-set (a .tag) bytes (wrote-none (a .tag ∷ bytes) (a .out .now) (omega arith)) refl in
-    wrote-all (wrote-next bytes [] _ w refl (c .before .before .put-two .ensures)) refl
+    put-all (wrote-put bytes [] _ w refl (c .before .before .put-two .ensures)) refl
 
 pub put-head-spec : {M : Type 1} → statement M
 put-head-spec =
@@ -47,5 +49,6 @@ put-head-spec =
     part-put-two-start
     part-put-two-end
     put-two-requires
+    add-result
     same-length
     returns)

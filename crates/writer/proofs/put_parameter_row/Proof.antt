@@ -1,48 +1,62 @@
 -- `writer::put_parameter_row` meets its contract. Assumes nothing.
-use Prim.Native.Nat.{ℕ}
-use mathlib.Core.List.{List, []}
-use mathlib.Core.Path.{refl, ap, _∙_}
 use borrow.Author.Needs.{needs}
-use Rattle.columns.specs.Bytes.{bytes-of}
-use Rattle.format.specs.File.Piece.{field-bytes}
-use Rattle.format.specs.File.RowLaws.{parameter-bytes-field}
-use Rattle.format.specs.Lists.{over}
-use Rattle.format.specs.OverLaws.{over-room-fits, lend-next}
+use native.Mathlib.Omega.{arith}
+use Prim.Native.Nat.{_≤_}
+use lib.ListN.{length}
+use Rattle.format.proofs.Puts.{put-same}
+use Rattle.writer.proofs.Rows.{parameter-bytes-length, parameter-row-put}
 use Rattle.writer.proofs.put_parameter_row.Statement.{statement}
 use Rattle.writer.proofs.put_parameter_row.Tie as tie
 
+-- there is room behind the head
+room : (c : tie.After-slice-known2) → c .before .before .put-head .result ≤ length (c .before .before .put-head .last .0)
+room c =
+    let a = c .before .before .before .before .before .before .args in
+    let h = c .before .before .put-head .ensures in
+    omega (arith, h .many-is, parameter-bytes-length (a .n) (a .set), c .before .before .before .before .before .before .pre, put-same h (omega (arith, parameter-bytes-length (a .n) (a .set), c .before .before .before .before .before .before .pre)))
+
+parameter-size-requires : tie.Need-parameter-size-requires
+parameter-size-requires c κs = search needs
+
+cast-put-head : tie.Need-cast-put-head
+cast-put-head c = search needs
+
 put-head-requires : tie.Need-put-head-requires
-put-head-requires c κs = search needs
+put-head-requires c κs = let a = c .before .before .before .args in omega (arith, parameter-bytes-length (a .n) (a .set), c .before .before .before .pre)
 
-sub-put-set : tie.Need-sub-put-set
-sub-put-set c = search needs
+sub-put-set-front : tie.Need-sub-put-set-front
+sub-put-set-front c = omega (arith, room c)
 
-part-put-set-start : tie.Need-part-put-set-start
-part-put-set-start c = search needs
+part-put-set-front-start : tie.Need-part-put-set-front-start
+part-put-set-front-start c = omega (arith, room c)
 
-part-put-set-end : tie.Need-part-put-set-end
-part-put-set-end c = search needs
+part-put-set-front-end : tie.Need-part-put-set-front-end
+part-put-set-front-end c = search needs
 
-put-set-requires : tie.Need-put-set-requires
-put-set-requires c κs = search needs
+put-set-front-requires : tie.Need-put-set-front-requires
+put-set-front-requires c κs = search needs
+
+add-result : tie.Need-add-result
+add-result c = search needs
 
 same-length : tie.Need-same-length
 same-length c = search needs
 
 returns : tie.Need-returns
-returns c =
-    let a = c .before .before .before .before .before .before .before .before .before .args in
-    lend-next (field-bytes 4 8 []) (bytes-of 8 (a .set)) (a .out .now) _ _ 3 refl (c .before .before .before .before .before .before .put-head .ensures) (c .before .before .put-set .ensures ∙ over-room-fits _ _ (search needs))
-    ∙ ap (λ (s : List ℕ). over s (a .out .now)) (parameter-bytes-field (a .set))
+returns c = let a = c .before .before .before .before .before .before .before .before .before .before .args in
+    parameter-row-put (a .n) (a .set) (c .before .before .before .before .before .before .before .before .parameter-size .ensures) (c .before .before .before .before .before .before .put-head .ensures) (c .before .before .put-set-front .ensures) (c .before .before .before .before .before .before .before .before .before .before .pre)
 
 pub put-parameter-row-spec : {M : Type 1} → statement M
 put-parameter-row-spec =
     tie.close
     (tie.spec
+    parameter-size-requires
+    cast-put-head
     put-head-requires
-    sub-put-set
-    part-put-set-start
-    part-put-set-end
-    put-set-requires
+    sub-put-set-front
+    part-put-set-front-start
+    part-put-set-front-end
+    put-set-front-requires
+    add-result
     same-length
     returns)

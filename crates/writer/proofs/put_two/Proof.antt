@@ -1,9 +1,10 @@
 -- `writer::put_two` meets its contract. Assumes nothing.
+use borrow.Author.Needs.{needs}
 use Prim.Native.Nat.{_/_, _%_}
 use mathlib.Core.List.{[], _∷_}
 use mathlib.Core.Path.{refl}
-use borrow.Author.Needs.{needs}
-use Rattle.format.specs.OverLaws.{wrote-none, wrote-set, wrote-all}
+use Rattle.format.specs.OverLaws.{wrote-none, wrote-set}
+use Rattle.format.proofs.Puts.{put-all}
 use Rattle.writer.proofs.put_two.Statement.{statement}
 use Rattle.writer.proofs.put_two.Tie as tie
 
@@ -23,10 +24,9 @@ same-length : tie.Need-same-length
 same-length c = search needs
 
 returns : tie.Need-returns
-returns c =
-    let a = c .args in
+returns c = let a = c .args in
     let w = wrote-none (a .c % 256 ∷ a .c / 256 ∷ []) (a .out .now) (c .pre) in
-    wrote-all (wrote-set (a .c / 256) [] (wrote-set (a .c % 256) (a .c / 256 ∷ []) w refl) refl) refl
+    put-all (wrote-set (a .c / 256) [] (wrote-set (a .c % 256) (a .c / 256 ∷ []) w refl) refl) refl
 
 pub put-two-spec : {M : Type 1} → statement M
 put-two-spec =

@@ -8,7 +8,7 @@ use lib.Dec.{ltb}
 use lib.ListN.{length, getD, length-take, length-drop}
 use borrow.Author.Needs.{needs}
 use borrow.Author.Tests.{lt-ltb, le-ltb}
-use Rattle.format.specs.File.EntryLaws.{entries-next, entries-done}
+use Rattle.format.proofs.Entries.{entries-next, entries-done}
 use Rattle.format.specs.File.Format.{entries}
 use Rattle.format.specs.ListLaws.{tail-part, all-pass-done, all-pass-fails, all-pass-next}
 use Rattle.format.specs.Refusals.{constant-test}

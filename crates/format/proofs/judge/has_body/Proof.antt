@@ -1,6 +1,6 @@
 -- `judge::has_body` meets its contract. Assumes nothing.
-use mathlib.Core.Path.{refl}
 use borrow.Author.Needs.{needs}
+use mathlib.Core.Path.{refl}
 use Rattle.format.specs.Refusals.{body-test}
 use Rattle.format.proofs.judge.has_body.Statement.{statement}
 use Rattle.format.proofs.judge.has_body.Tie as tie

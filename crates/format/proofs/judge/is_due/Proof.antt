@@ -12,30 +12,12 @@ returns : tie.Need-returns
 unfolding due-test
 returns c = simp (ne-eqb _ _ (c .if1 .taken))
 
-shared-slice-read-two : tie.Need-shared-slice-read-two
-shared-slice-read-two c = search needs
-
-shared-slice-read-two-2 : tie.Need-shared-slice-read-two-2
-shared-slice-read-two-2 c = search needs
-
-two-requires : tie.Need-two-requires
-two-requires c κs = search needs
-
-cast-result : tie.Need-cast-result
-cast-result c = search needs
+said-length-requires : tie.Need-said-length-requires
+said-length-requires c κs = search needs
 
 returns-2 : tie.Need-returns-2
 unfolding due-test
-returns-2 c = simp (eq-eqb _ _ (c .before .before .before .if1 .left), c .two .ensures .0)
+returns-2 c = simp (eq-eqb _ _ (c .before .if1 .left), c .said-length .ensures .0)
 
 pub is-due-spec : {M : Type 1} → statement M
-is-due-spec =
-    tie.close
-    (tie.spec
-    shared-slice-read-if1
-    returns
-    shared-slice-read-two
-    shared-slice-read-two-2
-    two-requires
-    cast-result
-    returns-2)
+is-due-spec = tie.close (tie.spec shared-slice-read-if1 returns said-length-requires returns-2)

@@ -1,68 +1,64 @@
--- `judge::judge_constant_rows` meets its contract. The invariant: the refusal of all rows is that of the rows left, in the unread rest.
--- The measure is the number of rows left. Assumes nothing.
-use Prim.Native.Nat.{_+_, _*_, _≤_}
-use mathlib.Core.Path.{_≡_, refl, sym, _∙_}
-use native.Mathlib.Omega.{arith}
-use lib.ListN.{length}
+-- `judge::judge_constant_rows` meets its contract. The invariant: the refusal of all rows, and what follows them, are those of the rows still to judge, in
+-- the unread rest. The measure is how many these are. Assumes nothing.
 use borrow.Author.Needs.{needs}
-use Rattle.format.specs.File.Format.{constant-body, constant-row}
-use Rattle.format.specs.File.JudgeLaws.{many-refused, many-next, many-done, field-whole}
-use Rattle.format.specs.File.Piece.{many-tests}
-use Rattle.format.specs.Refusals.{first-refusal}
+use native.Mathlib.Omega.{arith}
+use Prim.Native.Nat.{_≤_}
+use mathlib.Core.Path.{refl}
+use lib.ListN.{length}
+use Rattle.format.specs.File.Format.{constant-tag, constant-body, constant-row}
+use Rattle.format.proofs.Parts.{Ends, field-ends}
+use Rattle.format.proofs.Judging.{accepted, left-within, next-part, Todo, todo-all, todo-next, todo-refused, todo-done}
 use Rattle.format.proofs.judge.judge_constant_rows.Statement.{statement}
 use Rattle.format.proofs.judge.judge_constant_rows.Tie as tie
 
 abbrev Inv-loop : tie.InvT-loop
-Inv-loop file p n a size rest₀ left₀ rest left = first-refusal (many-tests (constant-row p n) a file) ≡ first-refusal (many-tests (constant-row p n) left rest)
+Inv-loop file p n a rest₀ todo₀ rest todo = Todo (constant-row p n) a file todo rest
 
 abbrev μ-loop : tie.MeasureT-loop
-μ-loop file p n a size rest₀ left₀ rest left = left
-
--- a row that passed is whole
-whole : (c : tie.Else1 Inv-loop μ-loop) → 3 + 2 * c .before .before .before .before .before .args .n ≤ length (c .before .before .before .loop .rest .now)
-unfolding constant-row
-whole c = field-whole 3 (constant-body (c .before .before .before .before .before .args .p) (c .before .before .before .before .before .args .n)) (c .before .before .before .loop .rest .now) (sym (c .before .judge-constant-row .ensures) ∙ c .if1 .left)
-
-mul-size : tie.Need-mul-size Inv-loop μ-loop
-mul-size c = omega arith
-
-add-size : tie.Need-add-size Inv-loop μ-loop
-add-size c = omega arith
+μ-loop file p n a rest₀ todo₀ rest todo = todo
 
 loop-holds : tie.Need-loop-holds Inv-loop μ-loop
-loop-holds c = refl
+loop-holds c = todo-all
 
 judge-constant-row-requires : tie.Need-judge-constant-row-requires Inv-loop μ-loop
 judge-constant-row-requires c κs = search needs
 
 returns : tie.Need-returns Inv-loop μ-loop
-returns c = many-refused (constant-row _ _) _ _ _ (c .before .before .loop-test .taken) (c .before .judge-constant-row .ensures) (c .if1 .taken) ∙ sym (c .before .before .before .loop .inv)
+returns c = todo-refused (c .before .before .before .before .loop .inv) (c .before .before .before .loop-test .taken) (c .before .before .judge-constant-row .ensures) (c .if1 .taken)
+
+-- what follows a row is the end of the unread rest
+ends : (c : tie.After-struct-known2 Inv-loop μ-loop) → let a = c .before .before .before .before .before .before .before .args in Ends (constant-row (a .p) (a .n) .rest (c .before .before .before .before .before .loop .rest .now)) (c .before .before .before .before .before .loop .rest .now)
+unfolding constant-row
+ends c = let a = c .before .before .before .before .before .before .before .args in field-ends constant-tag (constant-body (a .p) (a .n)) (c .before .before .before .before .before .loop .rest .now)
+
+whole : (c : tie.After-struct-known2 Inv-loop μ-loop) → c .before .before .before .judge-constant-row .result .left ≤ length (c .before .before .before .before .before .loop .rest .now)
+whole c = left-within (c .before .before .before .judge-constant-row .ensures) (c .before .if1 .left) (ends c)
+
+sub-at : tie.Need-sub-at Inv-loop μ-loop
+sub-at c = whole c
 
 sub-rest : tie.Need-sub-rest Inv-loop μ-loop
-sub-rest c = whole c
+sub-rest c = omega arith
 
 part-rest-start : tie.Need-part-rest-start Inv-loop μ-loop
-part-rest-start c = omega (arith, whole c)
+part-rest-start c = omega arith
 
 part-rest-end : tie.Need-part-rest-end Inv-loop μ-loop
-part-rest-end c = omega (arith, whole c)
+part-rest-end c = omega arith
 
-sub-left : tie.Need-sub-left Inv-loop μ-loop
-sub-left c = omega arith
+sub-todo : tie.Need-sub-todo Inv-loop μ-loop
+sub-todo c = omega arith
 
 loop-less : tie.Need-loop-less Inv-loop μ-loop
 loop-less c = omega arith
 
 loop-again : tie.Need-loop-again Inv-loop μ-loop
-unfolding constant-row
-loop-again c =
-    let l = c .before .before .before .before .loop in
-    let a = c .before .before .before .before .before .before .args in
-    l .inv
-    ∙ many-next 3 (constant-body (a .p) (a .n)) (l .left) (l .rest .now) (c .before .before .before .loop-test .taken) (sym (c .before .before .judge-constant-row .ensures) ∙ c .before .if1 .left)
+loop-again c = let j = c .before .before .before .before .judge-constant-row .ensures in
+    let z = c .before .before .if1 .left in
+    todo-next (c .before .before .before .before .before .before .loop .inv) (c .before .before .before .before .before .loop-test .taken) _ (accepted j z) (next-part j z (ends (c .before)))
 
 returns-2 : tie.Need-returns-2 Inv-loop μ-loop
-returns-2 c = let l = c .before .loop in many-done (constant-row _ _) (l .left) (l .rest .now) (c .loop-test .left) ∙ sym (l .inv)
+returns-2 c = todo-done (c .before .loop .inv) (c .loop-test .left) refl refl
 
 pub judge-constant-rows-spec : {M : Type 1} → statement M
 judge-constant-rows-spec =
@@ -70,15 +66,14 @@ judge-constant-rows-spec =
     (tie.spec
     Inv-loop
     μ-loop
-    mul-size
-    add-size
     loop-holds
     judge-constant-row-requires
     returns
+    sub-at
     sub-rest
     part-rest-start
     part-rest-end
-    sub-left
+    sub-todo
     loop-less
     loop-again
     returns-2)

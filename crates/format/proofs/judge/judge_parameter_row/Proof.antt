@@ -1,34 +1,46 @@
 -- `judge::judge_parameter_row` meets its contract. Assumes nothing.
-use mathlib.Core.Path.{_≡_, sym, ap, _∙_}
-use native.Mathlib.Omega.{arith}
-use lib.ListN.{take, drop}
-use lib.Seq.{take-take}
 use borrow.Author.Needs.{needs}
-use borrow.Author.Tests.{not-true, not-false}
+use native.Mathlib.Omega.{arith}
+use mathlib.Core.Path.{_≡_, sym, ap, _∙_}
+use lib.ListN.{drop}
+use lib.Seq.{take-all}
 use Rattle.columns.specs.Bytes.{number}
 use Rattle.columns.specs.Columns.{within}
 use Rattle.columns.specs.ColumnSets.{whole}
-use Rattle.format.specs.File.Format.{parameter-row}
-use Rattle.format.specs.File.PieceLaws.{head-good}
-use Rattle.format.specs.RefusalLaws.{first-fails, first-passes, first-none, then-refused, then-passed}
+use Rattle.limits.specs.Limits.{set-bytes}
+use Rattle.format.specs.Refusals.{head-bytes}
+use Rattle.format.specs.File.Piece.{head-tests, Judgement}
+use borrow.Author.Tests.{not-true, not-false}
+use Rattle.format.specs.RefusalLaws.{first-fails, zero-unless}
+use Rattle.format.specs.File.Format.{parameter-tag, parameter-size, parameter-body, parameter-row}
+use Rattle.format.proofs.Judging.{handed-on, content-refused, content-passed, body-length}
 use Rattle.format.proofs.judge.judge_parameter_row.Statement.{statement}
 use Rattle.format.proofs.judge.judge_parameter_row.Tie as tie
+
+-- the head, with the size that is due
+head : (c : tie.After-judge-head) → let a = c .before .before .before .args in Judgement (head-tests parameter-tag (parameter-size (a .n)) (a .rest .now)) (drop (parameter-size (a .n)) (drop head-bytes (a .rest .now))) (c .judge-head .result)
+head c = rw (c .before .parameter-size .ensures) at (c .judge-head .ensures)
+
+-- the row's set is the number of its body
+set : (c : tie.After-of-bytes) → whole (c .of-bytes .result) ≡ number (c .before .said-body .result .now)
+set c =
+    let a = c .before .before .before .before .before .before .before .args in
+    let b = c .before .said-body in
+    let l = body-length parameter-tag (parameter-body (a .n)) (a .rest .now) (head (c .before .before .before .before)) (c .before .before .if1 .left) (b .ensures) in
+    c .of-bytes .ensures ∙ ap number (take-all set-bytes (b .result .now) (omega arith))
+
+parameter-size-requires : tie.Need-parameter-size-requires
+parameter-size-requires c κs = search needs
 
 judge-head-requires : tie.Need-judge-head-requires
 judge-head-requires c κs = search needs
 
 returns : tie.Need-returns
 unfolding parameter-row
-returns c = then-refused _ _ _ (c .before .judge-head .ensures) (c .if1 .taken)
+returns c = handed-on _ (head (c .before .before)) (c .if1 .taken)
 
-sub-of-bytes : tie.Need-sub-of-bytes
-sub-of-bytes c = search needs
-
-part-of-bytes-start : tie.Need-part-of-bytes-start
-part-of-bytes-start c = search needs
-
-part-of-bytes-end : tie.Need-part-of-bytes-end
-part-of-bytes-end c = omega (arith, head-good _ _ _ (sym (c .before .judge-head .ensures) ∙ c .if1 .left))
+said-body-requires : tie.Need-said-body-requires
+said-body-requires c κs = search needs
 
 of-bytes-requires : tie.Need-of-bytes-requires
 of-bytes-requires c κs = search needs
@@ -39,28 +51,25 @@ within-requires c κs = search needs
 returns-2 : tie.Need-returns-2
 unfolding parameter-row
 returns-2 c =
-    let a = c .before .before .before .before .before .before .before .args in
-    let set : whole (c .before .before .of-bytes .result) ≡ number (take 8 (drop 3 (a .rest .now))) = c .before .before .of-bytes .ensures ∙ ap number (take-take 8 8 (drop 3 (a .rest .now)) (omega arith)) in
-    then-passed _ _ _ (sym (c .before .before .before .before .before .judge-head .ensures) ∙ c .before .before .before .before .if1 .left)
-    (first-fails _ _ _ (sym (ap (within (a .n)) set) ∙ sym (c .before .within .ensures) ∙ not-true _ (c .if2 .taken)))
+    let a = c .before .before .before .before .before .before .before .before .before .args in
+    content-refused parameter-tag (parameter-body (a .n)) (a .rest .now) (head (c .before .before .before .before .before .before)) (c .before .before .before .before .if1 .left) (c .before .before .before .said-body .ensures)
+    _ (first-fails _ _ _ (sym (ap (within (a .n)) (set (c .before .before))) ∙ sym (c .before .within .ensures) ∙ not-true _ (c .if2 .taken))) (λ e. omega arith)
 
 returns-3 : tie.Need-returns-3
 unfolding parameter-row
 returns-3 c =
-    let a = c .before .before .before .before .before .before .before .args in
-    let set : whole (c .before .before .of-bytes .result) ≡ number (take 8 (drop 3 (a .rest .now))) = c .before .before .of-bytes .ensures ∙ ap number (take-take 8 8 (drop 3 (a .rest .now)) (omega arith)) in
-    then-passed _ _ _ (sym (c .before .before .before .before .before .judge-head .ensures) ∙ c .before .before .before .before .if1 .left)
-    (first-passes _ _ _ _ (sym (ap (within (a .n)) set) ∙ sym (c .before .within .ensures) ∙ not-false _ (c .if2 .left)) first-none)
+    let a = c .before .before .before .before .before .before .before .before .before .args in
+    content-passed parameter-tag (parameter-body (a .n)) (a .rest .now) (head (c .before .before .before .before .before .before)) (c .before .before .before .before .if1 .left) (c .before .before .before .said-body .ensures)
+    (zero-unless _ _ (sym (ap (within (a .n)) (set (c .before .before))) ∙ sym (c .before .within .ensures) ∙ not-false _ (c .if2 .left)))
 
 pub judge-parameter-row-spec : {M : Type 1} → statement M
 judge-parameter-row-spec =
     tie.close
     (tie.spec
+    parameter-size-requires
     judge-head-requires
     returns
-    sub-of-bytes
-    part-of-bytes-start
-    part-of-bytes-end
+    said-body-requires
     of-bytes-requires
     within-requires
     returns-2

@@ -1,62 +1,64 @@
--- `judge::judge_parameter_rows` meets its contract. The invariant: the refusal of all rows is that of the rows left, in the unread rest.
--- The measure is the number of rows left. Assumes nothing.
-use Prim.Native.Nat.{_≤_}
-use mathlib.Core.Path.{_≡_, refl, sym, _∙_}
-use native.Mathlib.Omega.{arith}
-use lib.ListN.{length}
+-- `judge::judge_parameter_rows` meets its contract. The invariant: the refusal of all rows, and what follows them, are those of the rows still to judge, in
+-- the unread rest. The measure is how many these are. Assumes nothing.
 use borrow.Author.Needs.{needs}
-use Rattle.format.specs.File.Format.{parameter-body, parameter-row}
-use Rattle.format.specs.File.JudgeLaws.{many-refused, many-next, many-done, field-whole}
-use Rattle.format.specs.File.Piece.{many-tests}
-use Rattle.format.specs.Refusals.{first-refusal}
+use native.Mathlib.Omega.{arith}
+use Prim.Native.Nat.{_≤_}
+use mathlib.Core.Path.{refl}
+use lib.ListN.{length}
+use Rattle.format.specs.File.Format.{parameter-tag, parameter-body, parameter-row}
+use Rattle.format.proofs.Parts.{Ends, field-ends}
+use Rattle.format.proofs.Judging.{accepted, left-within, next-part, Todo, todo-all, todo-next, todo-refused, todo-done}
 use Rattle.format.proofs.judge.judge_parameter_rows.Statement.{statement}
 use Rattle.format.proofs.judge.judge_parameter_rows.Tie as tie
 
 abbrev Inv-loop : tie.InvT-loop
-Inv-loop file n b rest₀ left₀ rest left = first-refusal (many-tests (parameter-row n) b file) ≡ first-refusal (many-tests (parameter-row n) left rest)
+Inv-loop file n b rest₀ todo₀ rest todo = Todo (parameter-row n) b file todo rest
 
 abbrev μ-loop : tie.MeasureT-loop
-μ-loop file n b rest₀ left₀ rest left = left
-
--- a row that passed is whole
-whole : (c : tie.Else1 Inv-loop μ-loop) → 11 ≤ length (c .before .before .before .loop .rest .now)
-unfolding parameter-row
-whole c = field-whole 4 (parameter-body (c .before .before .before .before .before .args .n)) (c .before .before .before .loop .rest .now) (sym (c .before .judge-parameter-row .ensures) ∙ c .if1 .left)
+μ-loop file n b rest₀ todo₀ rest todo = todo
 
 loop-holds : tie.Need-loop-holds Inv-loop μ-loop
-loop-holds c = refl
+loop-holds c = todo-all
 
 judge-parameter-row-requires : tie.Need-judge-parameter-row-requires Inv-loop μ-loop
 judge-parameter-row-requires c κs = search needs
 
 returns : tie.Need-returns Inv-loop μ-loop
-returns c = many-refused (parameter-row _) _ _ _ (c .before .before .loop-test .taken) (c .before .judge-parameter-row .ensures) (c .if1 .taken) ∙ sym (c .before .before .before .loop .inv)
+returns c = todo-refused (c .before .before .before .before .loop .inv) (c .before .before .before .loop-test .taken) (c .before .before .judge-parameter-row .ensures) (c .if1 .taken)
+
+-- what follows a row is the end of the unread rest
+ends : (c : tie.After-struct-known2 Inv-loop μ-loop) → let a = c .before .before .before .before .before .before .before .args in Ends (parameter-row (a .n) .rest (c .before .before .before .before .before .loop .rest .now)) (c .before .before .before .before .before .loop .rest .now)
+unfolding parameter-row
+ends c = let a = c .before .before .before .before .before .before .before .args in field-ends parameter-tag (parameter-body (a .n)) (c .before .before .before .before .before .loop .rest .now)
+
+whole : (c : tie.After-struct-known2 Inv-loop μ-loop) → c .before .before .before .judge-parameter-row .result .left ≤ length (c .before .before .before .before .before .loop .rest .now)
+whole c = left-within (c .before .before .before .judge-parameter-row .ensures) (c .before .if1 .left) (ends c)
+
+sub-at : tie.Need-sub-at Inv-loop μ-loop
+sub-at c = whole c
 
 sub-rest : tie.Need-sub-rest Inv-loop μ-loop
-sub-rest c = whole c
+sub-rest c = omega arith
 
 part-rest-start : tie.Need-part-rest-start Inv-loop μ-loop
-part-rest-start c = omega (arith, whole c)
+part-rest-start c = omega arith
 
 part-rest-end : tie.Need-part-rest-end Inv-loop μ-loop
-part-rest-end c = omega (arith, whole c)
+part-rest-end c = omega arith
 
-sub-left : tie.Need-sub-left Inv-loop μ-loop
-sub-left c = omega arith
+sub-todo : tie.Need-sub-todo Inv-loop μ-loop
+sub-todo c = omega arith
 
 loop-less : tie.Need-loop-less Inv-loop μ-loop
 loop-less c = omega arith
 
 loop-again : tie.Need-loop-again Inv-loop μ-loop
-unfolding parameter-row
-loop-again c =
-    let l = c .before .before .before .before .loop in
-    let a = c .before .before .before .before .before .before .args in
-    l .inv
-    ∙ many-next 4 (parameter-body (a .n)) (l .left) (l .rest .now) (c .before .before .before .loop-test .taken) (sym (c .before .before .judge-parameter-row .ensures) ∙ c .before .if1 .left)
+loop-again c = let j = c .before .before .before .before .judge-parameter-row .ensures in
+    let z = c .before .before .if1 .left in
+    todo-next (c .before .before .before .before .before .before .loop .inv) (c .before .before .before .before .before .loop-test .taken) _ (accepted j z) (next-part j z (ends (c .before)))
 
 returns-2 : tie.Need-returns-2 Inv-loop μ-loop
-returns-2 c = let l = c .before .loop in many-done (parameter-row _) (l .left) (l .rest .now) (c .loop-test .left) ∙ sym (l .inv)
+returns-2 c = todo-done (c .before .loop .inv) (c .loop-test .left) refl refl
 
 pub judge-parameter-rows-spec : {M : Type 1} → statement M
 judge-parameter-rows-spec =
@@ -67,10 +69,11 @@ judge-parameter-rows-spec =
     loop-holds
     judge-parameter-row-requires
     returns
+    sub-at
     sub-rest
     part-rest-start
     part-rest-end
-    sub-left
+    sub-todo
     loop-less
     loop-again
     returns-2)

@@ -1,39 +1,55 @@
 -- `judge::judge_row_fields` meets its contract. Assumes nothing.
-use mathlib.Core.Path.{_≡_, sym, _∙_}
-use native.Mathlib.Omega.{arith}
 use borrow.Author.Needs.{needs}
-use Rattle.format.specs.File.FieldLaws.{constant-rows-rest, constant-rows-whole, parameter-rows-rest, parameter-rows-whole, constant-rows-refused, parameter-rows-refused, rows-passed}
-use Rattle.format.specs.File.Format.{constant-row}
-use Rattle.format.specs.File.JudgeLaws.{rows-most}
-use Rattle.format.specs.File.Piece.{many-tests}
+use mathlib.Core.Path.{_≡_, sym, ap, _∙_}
+use mathlib.Core.List.{List}
+use Prim.Native.Nat.{ℕ, _-_}
+use lib.ListN.{length, take, drop}
 use Rattle.format.specs.Refusals.{first-refusal}
+use Rattle.format.specs.File.Piece.{Piece, many, seq, closed}
+use Rattle.format.specs.File.Format.{constant-tag, parameter-tag, constant-body, parameter-body, constant-row, parameter-row, end-field, row-fields}
+use Rattle.format.proofs.Parts.{Ends, field-ends, many-ends}
+use Rattle.format.proofs.Judging.{accepted, left-within, next-part, seq-refused, seq-passed}
 use Rattle.format.proofs.judge.judge_row_fields.Statement.{statement}
 use Rattle.format.proofs.judge.judge_row_fields.Tie as tie
 
--- rows that passed
-constant-rows : (c : tie.Else1) → first-refusal (many-tests (constant-row (c .before .before .before .args .p) (c .before .before .before .args .n)) (c .before .before .before .args .a) (c .before .before .before .args .rest .now)) ≡ 0
-constant-rows c = sym (c .before .judge-constant-rows .ensures) ∙ c .if1 .left
+-- the pieces that are judged one after another
+abbrev constants : ℕ → ℕ → ℕ → Piece (List (List ℕ))
+constants p n a = many a (constant-row p n)
+
+abbrev parameters : ℕ → ℕ → Piece (List ℕ)
+parameters n b = many b (parameter-row n)
+
+abbrev behind : ℕ → ℕ → Piece (List ℕ × Unit {0})
+behind n b = seq (parameters n b) (λ _. end-field)
+
+constant-ends : (p n a : ℕ) (s : List ℕ) → Ends (constants p n a .rest s) s
+unfolding constant-row
+constant-ends p n a s = many-ends (constant-row p n) (field-ends constant-tag (constant-body p n)) a s
+
+parameter-ends : (n b : ℕ) (s : List ℕ) → Ends (parameters n b .rest s) s
+unfolding parameter-row
+parameter-ends n b s = many-ends (parameter-row n) (field-ends parameter-tag (parameter-body n)) b s
+
+-- what follows the constant rows
+rest : (c : tie.After-struct-known2) → let a = c .before .before .before .before .before .args in let s = a .rest .now in let left = c .before .before .before .judge-constant-rows .result .left in
+    take (length s - (length s - left)) (drop (length s - left) s) ≡ constants (a .p) (a .n) (a .a) .rest s
+rest c = let a = c .before .before .before .before .before .args in next-part (c .before .before .before .judge-constant-rows .ensures) (c .before .if1 .left) (constant-ends (a .p) (a .n) (a .a) (a .rest .now))
 
 judge-constant-rows-requires : tie.Need-judge-constant-rows-requires
 judge-constant-rows-requires c κs = search needs
 
 returns : tie.Need-returns
-returns c = constant-rows-refused _ _ _ _ _ _ (c .before .judge-constant-rows .ensures) (c .if1 .taken)
+unfolding row-fields
+returns c = let a = c .before .before .before .before .args in seq-refused (constants (a .p) (a .n) (a .a)) (λ _. behind (a .n) (a .b)) _ _ (c .before .before .judge-constant-rows .ensures .refusal-is) (c .if1 .taken)
 
-mul-at : tie.Need-mul-at
-mul-at c = search needs
-
-add-at : tie.Need-add-at
-add-at c = search needs
-
-mul-at-2 : tie.Need-mul-at-2
-mul-at-2 c = omega (arith, rows-most (c .before .before .before .args .a) (c .before .before .before .args .n) (omega arith) (omega arith))
+sub-at : tie.Need-sub-at
+sub-at c = left-within (c .before .before .before .judge-constant-rows .ensures) (c .before .if1 .left) (let a = c .before .before .before .before .before .args in constant-ends (a .p) (a .n) (a .a) (a .rest .now))
 
 sub-rows : tie.Need-sub-rows
-sub-rows c = let a = c .before .before .before .args in constant-rows-whole (a .p) (a .n) (a .a) (a .rest .now) (constant-rows c)
+sub-rows c = search needs
 
 part-rows-start : tie.Need-part-rows-start
-part-rows-start c = let a = c .before .before .before .args in omega (arith, constant-rows-whole (a .p) (a .n) (a .a) (a .rest .now) (constant-rows c))
+part-rows-start c = search needs
 
 part-rows-end : tie.Need-part-rows-end
 part-rows-end c = search needs
@@ -42,19 +58,20 @@ judge-parameter-rows-requires : tie.Need-judge-parameter-rows-requires
 judge-parameter-rows-requires c κs = search needs
 
 returns-2 : tie.Need-returns-2
-returns-2 c =
-    let a = c .before .before .before .before .before .before .args in
-    let rest = constant-rows-rest (a .p) (a .n) (a .a) (a .rest .now) in
-    parameter-rows-refused _ _ _ _ _ _ (constant-rows (c .before .before .before)) _ rest (c .before .judge-parameter-rows .ensures) (c .if2 .taken)
+unfolding row-fields
+returns-2 c = let a = c .before .before .before .before .before .before .before .before .before .args in
+    let t = rest (c .before .before .before .before) in
+    seq-passed (constants (a .p) (a .n) (a .a)) (λ _. behind (a .n) (a .b)) _ _ (accepted (c .before .before .before .before .before .before .before .judge-constant-rows .ensures) (c .before .before .before .before .before .if1 .left))
+    (seq-refused (parameters (a .n) (a .b)) (λ _. end-field) _ _ (c .before .before .judge-parameter-rows .ensures .refusal-is ∙ ap (λ (u : List ℕ). first-refusal (parameters (a .n) (a .b) .tests u)) t) (c .if2 .taken))
 
-mul-end : tie.Need-mul-end
-mul-end c = search needs
+sub-end : tie.Need-sub-end
+sub-end c = left-within (c .before .before .before .judge-parameter-rows .ensures) (c .before .if2 .left) (parameter-ends (c .before .before .before .before .before .before .before .before .before .before .args .n) (c .before .before .before .before .before .before .before .before .before .before .args .b) _)
 
 sub-judge-end : tie.Need-sub-judge-end
-sub-judge-end c = parameter-rows-whole _ _ _ (sym (c .before .judge-parameter-rows .ensures) ∙ c .if2 .left)
+sub-judge-end c = search needs
 
 part-judge-end-start : tie.Need-part-judge-end-start
-part-judge-end-start c = let a = c .before .before .before .before .before .before .args in omega (arith, parameter-rows-whole (a .n) (a .b) _ (sym (c .before .judge-parameter-rows .ensures) ∙ c .if2 .left))
+part-judge-end-start c = search needs
 
 part-judge-end-end : tie.Need-part-judge-end-end
 part-judge-end-end c = search needs
@@ -63,10 +80,14 @@ judge-end-requires : tie.Need-judge-end-requires
 judge-end-requires c κs = search needs
 
 returns-3 : tie.Need-returns-3
-returns-3 c =
-    let a = c .before .before .before .before .before .before .before .before .args in
-    let rest = constant-rows-rest (a .p) (a .n) (a .a) (a .rest .now) in
-    rows-passed _ _ _ _ _ _ (constant-rows (c .before .before .before .before .before)) _ rest (sym (c .before .before .before .judge-parameter-rows .ensures) ∙ c .before .before .if2 .left) _ (parameter-rows-rest (a .n) (a .b) _) (c .judge-end .ensures)
+unfolding row-fields
+returns-3 c = let a = c .before .before .before .before .before .before .before .before .before .before .before .before .args in
+    let t = rest (c .before .before .before .before .before .before .before) in
+    let j = c .before .before .before .before .before .judge-parameter-rows .ensures in
+    let z = c .before .before .before .if2 .left in
+    seq-passed (constants (a .p) (a .n) (a .a)) (λ _. behind (a .n) (a .b)) _ _ (accepted (c .before .before .before .before .before .before .before .before .before .before .judge-constant-rows .ensures) (c .before .before .before .before .before .before .before .before .if1 .left))
+    (seq-passed (parameters (a .n) (a .b)) (λ _. end-field) _ _ (ap (λ (u : List ℕ). first-refusal (parameters (a .n) (a .b) .tests u)) (sym t) ∙ accepted j z)
+    (c .judge-end .ensures ∙ ap (λ (u : List ℕ). first-refusal (closed end-field u)) (next-part j z (parameter-ends (a .n) (a .b) _) ∙ ap (parameters (a .n) (a .b) .rest) t)))
 
 pub judge-row-fields-spec : {M : Type 1} → statement M
 judge-row-fields-spec =
@@ -74,15 +95,13 @@ judge-row-fields-spec =
     (tie.spec
     judge-constant-rows-requires
     returns
-    mul-at
-    add-at
-    mul-at-2
+    sub-at
     sub-rows
     part-rows-start
     part-rows-end
     judge-parameter-rows-requires
     returns-2
-    mul-end
+    sub-end
     sub-judge-end
     part-judge-end-start
     part-judge-end-end

@@ -1,26 +1,38 @@
 -- `lookup::judge_row` meets its contract. Assumes nothing.
-use mathlib.Core.Path.{sym, _∙_}
-use native.Mathlib.Omega.{arith}
 use borrow.Author.Needs.{needs}
-use Rattle.loader.specs.LookupLaws.{lookup-refused, lookup-beyond, lookup-passed}
+use native.Mathlib.Omega.{arith}
+use mathlib.Core.Path.{_≡_, sym, ap, _∙_}
+use Rattle.format.specs.declared.header.Header.{Header}
+use Rattle.format.specs.File.Format.{judge, decode}
+use Rattle.format.proofs.Headers.{header-refusal, header-accepted}
+use Rattle.loader.proofs.Looking.{lookup-refused, lookup-beyond, lookup-passed}
 use Rattle.loader.proofs.lookup.judge_row.Statement.{statement}
 use Rattle.loader.proofs.lookup.judge_row.Tie as tie
 
-judge-file-requires : tie.Need-judge-file-requires
-judge-file-requires c κs = search needs
+-- what the header says
+refusal : (c : tie.After-read-header) → c .read-header .result .refusal ≡ judge (c .before .before .args .file .now)
+refusal c = ap (λ (h : Header). h .refusal) (c .read-header .ensures) ∙ header-refusal _
+
+accepted : (c : tie.Else1) → judge (c .before .before .before .before .args .file .now) ≡ 0
+accepted c = sym (refusal (c .before .before)) ∙ c .if1 .left
+
+rows : (c : tie.After-read-header) → judge (c .before .before .args .file .now) ≡ 0 → c .read-header .result .a ≡ decode (c .before .before .args .file .now) .a
+rows c e = ap (λ (h : Header). h .a) (c .read-header .ensures ∙ header-accepted _ e)
+
+read-header-requires : tie.Need-read-header-requires
+read-header-requires c κs = search needs
 
 returns : tie.Need-returns
-returns c = lookup-refused _ _ _ (c .before .judge-file .ensures) (c .if1 .taken)
+returns c = lookup-refused _ _ _ (refusal (c .before .before)) (c .if1 .taken)
 
-sizes-of-requires : tie.Need-sizes-of-requires
-sizes-of-requires c κs = search needs
+cast-if2 : tie.Need-cast-if2
+cast-if2 c = search needs
 
 returns-2 : tie.Need-returns-2
-returns-2 c = lookup-beyond _ _ (sym (c .before .before .before .before .judge-file .ensures) ∙ c .before .before .before .if1 .left) (omega (arith, c .before .before .sizes-of .ensures .1 .a-is))
+returns-2 c = let e = accepted (c .before .before) in lookup-beyond _ _ e (omega (arith, rows (c .before .before .before .before) e))
 
 returns-3 : tie.Need-returns-3
-returns-3 c = lookup-passed _ _ (sym (c .before .before .before .before .judge-file .ensures) ∙ c .before .before .before .if1 .left) (omega (arith, c .before .before .sizes-of .ensures .1 .a-is))
+returns-3 c = let e = accepted (c .before .before) in lookup-passed _ _ e (omega (arith, rows (c .before .before .before .before) e))
 
 pub judge-row-spec : {M : Type 1} → statement M
-judge-row-spec =
-    tie.close (tie.spec judge-file-requires returns sizes-of-requires returns-2 returns-3)
+judge-row-spec = tie.close (tie.spec read-header-requires returns cast-if2 returns-2 returns-3)

@@ -1,21 +1,30 @@
 -- `lookup::row` meets its contract: a row that is looked up lies within the file. Assumes nothing.
-use Prim.Native.Nat.{_+_, _-_, _*_, _≤_}
-use mathlib.Core.Path.{_≡_, refl, sym, _∙_}
+use borrow.Author.Needs.{needs}
 use native.Mathlib.Omega.{arith}
+use Prim.Native.Nat.{_+_, _-_, _≤_}
+use mathlib.Core.Path.{_≡_, refl, sym, ap, _∙_}
 use lib.ListN.{length, take, drop, length-drop}
 use lib.Seq.{length-take-le}
-use borrow.Author.Needs.{needs}
-use Rattle.columns.specs.Columns.{within}
-use Rattle.format.specs.File.Format.{row-start, file-length}
-use Rattle.loader.specs.LookupLaws.{lookup-accepted, lookup-none, lookup-place, lookup-part, row-within}
-use Rattle.limits.specs.Limits.{most-columns, most-rows}
+use Rattle.columns.specs.Words.Bytes.{AreBytes}
+use Rattle.format.specs.Refusals.{head-bytes, said-length}
+use Rattle.format.specs.File.Format.{lookup-start, lookup-length}
+use Rattle.format.specs.File.FormatLaws.{decoded-valid}
+use Rattle.format.proofs.Parts.{ends-within, said-rests-ends, left-part}
+use Rattle.loader.proofs.Looking.{lookup-accepted, lookup-none, lookup-place, lookup-part}
 use Rattle.loader.proofs.lookup.row.Statement.{statement}
 use Rattle.loader.proofs.lookup.row.Tie as tie
 
--- the row lies within the file, which is not long
-inside : (c : tie.After-sizes-of)
-    → (row-start (c .sizes-of .result .n) (c .before .before .before .before .args .i) + 2 * c .sizes-of .result .n ≤ length (c .before .before .before .before .args .file .now)) × (length (c .before .before .before .before .args .file .now) ≤ file-length most-columns most-rows most-rows)
-inside c = row-within _ _ _ _ _ (c .before .before .before .before .args .i) (c .sizes-of .ensures .1) (sym (c .before .before .judge-row .ensures) ∙ c .before .if1 .left)
+bytes : (c : tie.After-shared-slice-known) → AreBytes (c .before .args .file .now)
+bytes c i = search (needs, c .shared-slice-known .given i)
+
+-- where the row lies: so many bytes before the end, as long as its head says
+place : (c : tie.After-said-length) → let s = c .before .before .before .before .before .before .args .file .now in let left = c .before .before .left-after .result in let size = c .said-length .result in
+    (lookup-start s (c .before .before .before .before .before .before .args .i) ≡ length s - left + head-bytes) × (lookup-length s (c .before .before .before .before .before .before .args .i) ≡ size) × (head-bytes + size ≤ left) × (left ≤ length s)
+place c =
+    let a = c .before .before .before .before .before .before .args in
+    let left = c .before .before .left-after in
+    lookup-place (a .file .now) (a .i) _ (c .before .before .before .before .judge-row .ensures) (c .before .before .before .if1 .left) _ _ (left .ensures)
+    (c .said-length .ensures .0 ∙ ap said-length (left-part (said-rests-ends _ (a .file .now)) (left .ensures)))
 
 judge-row-requires : tie.Need-judge-row-requires
 judge-row-requires c κs = search needs
@@ -24,30 +33,35 @@ slice-aggregate-result : tie.Need-slice-aggregate-result
 slice-aggregate-result c = search needs
 
 returns : tie.Need-returns
-returns c =
-    let z = lookup-none _ _ _ (c .before .before .judge-row .ensures) (c .before .if1 .taken) in
+returns c = let z = lookup-none _ _ _ (c .before .before .judge-row .ensures) (c .before .if1 .taken) in
     (lookup-part _ _ 0 0 (z .0) (z .1), refl, omega (arith, z .0), sym (z .1))
 
-sizes-of-requires : tie.Need-sizes-of-requires
-sizes-of-requires c κs = lookup-accepted _ _ (sym (c .before .judge-row .ensures) ∙ c .if1 .left) .0
+add-left-after : tie.Need-add-left-after
+add-left-after c = let a = lookup-accepted _ _ (sym (c .before .judge-row .ensures) ∙ c .if1 .left) in omega (arith, a .1, decoded-valid _ (bytes (c .before .before)) (a .0) .a-most)
 
-mul-start : tie.Need-mul-start
-mul-start c = omega (arith, inside c)
+left-after-requires : tie.Need-left-after-requires
+left-after-requires c κs = search needs
+
+sub-at : tie.Need-sub-at
+sub-at c = rw (c .left-after .ensures) (ends-within (said-rests-ends _ _))
+
+sub-said-length : tie.Need-sub-said-length
+sub-said-length c = search needs
+
+part-said-length-start : tie.Need-part-said-length-start
+part-said-length-start c = search needs
+
+part-said-length-end : tie.Need-part-said-length-end
+part-said-length-end c = search needs
+
+said-length-requires : tie.Need-said-length-requires
+said-length-requires c κs = search needs
 
 add-start : tie.Need-add-start
-add-start c = omega (arith, inside c)
-
-mul-start-2 : tie.Need-mul-start-2
-mul-start-2 c = omega (arith, inside c)
-
-add-start-2 : tie.Need-add-start-2
-add-start-2 c = omega (arith, inside c)
-
-mul-end : tie.Need-mul-end
-mul-end c = omega (arith, inside c)
+add-start c = search needs
 
 add-end : tie.Need-add-end
-add-end c = omega (arith, inside c)
+add-end c = search needs
 
 sub-result : tie.Need-sub-result
 sub-result c = search needs
@@ -56,16 +70,16 @@ part-result-start : tie.Need-part-result-start
 part-result-start c = search needs
 
 part-result-end : tie.Need-part-result-end
-part-result-end c = omega (arith, inside c)
+part-result-end c = omega (arith, place c)
 
 returns-2 : tie.Need-returns-2
-returns-2 c =
-    let n = c .before .sizes-of .result .n in
-    let i = c .before .before .before .before .before .args .i in
-    let place = lookup-place _ _ _ (c .before .before .before .judge-row .ensures) n (c .before .sizes-of .ensures .1 .n-is) (c .before .before .if1 .left) in
-    let size : 14 + i * (3 + 2 * n) + 2 * n - (14 + i * (3 + 2 * n)) ≡ 2 * n = omega arith in
-    let len : length (take (14 + i * (3 + 2 * n) + 2 * n - (14 + i * (3 + 2 * n))) (drop (14 + i * (3 + 2 * n)) (c .before .before .before .before .before .args .file .now))) ≡ 2 * n = rw size (length-take-le (2 * n) _ (rw length-drop (omega (arith, inside (c .before))))) in
-    (lookup-part _ _ _ _ (place .0) (place .1 ∙ sym size), refl, omega (arith, place .0), len ∙ sym (place .1))
+returns-2 c = let l = place (c .before) in
+    let a = c .before .before .before .before .before .before .before .args in
+    let at = length (a .file .now) - c .before .before .before .left-after .result in
+    let size = c .before .said-length .result in
+    let q : at + head-bytes + size - (at + head-bytes) ≡ size = omega arith in
+    let len : length (take (at + head-bytes + size - (at + head-bytes)) (drop (at + head-bytes) (a .file .now))) ≡ size = rw q (length-take-le size _ (rw length-drop (omega arith))) in
+    (lookup-part _ _ _ _ (l .0) (l .1 ∙ sym q), refl, omega (arith, l .0), len ∙ sym (l .1))
 
 pub row-spec : {M : Type 1} → statement M
 row-spec =
@@ -74,12 +88,14 @@ row-spec =
     judge-row-requires
     slice-aggregate-result
     returns
-    sizes-of-requires
-    mul-start
+    add-left-after
+    left-after-requires
+    sub-at
+    sub-said-length
+    part-said-length-start
+    part-said-length-end
+    said-length-requires
     add-start
-    mul-start-2
-    add-start-2
-    mul-end
     add-end
     sub-result
     part-result-start

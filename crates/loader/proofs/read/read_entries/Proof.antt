@@ -1,15 +1,16 @@
 -- `read::read_entries` meets its contract. The invariant: the entries before the rest are read, and those of the rest are left.
 -- The measure is the length of the rest. Assumes nothing.
-use Prim.Native.Nat.{ℕ}
+use borrow.Author.Needs.{needs}
+use native.Mathlib.Omega.{arith}
+use Prim.Native.Nat.{ℕ, _+_, _≤_}
 use mathlib.Core.List.{List, _∷_}
 use mathlib.Core.Path.{sym, ap, _∙_}
-use native.Mathlib.Omega.{arith}
 use lib.ListN.{length, drop, length-take, length-drop}
-use borrow.Author.Needs.{needs}
-use Rattle.format.specs.File.EntryLaws.{entries-next, entries-done}
 use Rattle.format.specs.File.Format.{entries}
 use Rattle.format.specs.ListLaws.{tail-part}
-use Rattle.format.specs.OverLaws.{Wrote, wrote-none, wrote-set, wrote-all}
+use Rattle.format.specs.OverLaws.{Wrote, wrote-none, wrote-set}
+use Rattle.format.proofs.Entries.{entries-next, entries-done}
+use Rattle.format.proofs.Puts.{put-all}
 use Rattle.loader.proofs.read.read_entries.Statement.{statement}
 use Rattle.loader.proofs.read.read_entries.Tie as tie
 
@@ -18,6 +19,12 @@ Inv-loop out₀ body rest₀ at₀ out rest at = Wrote (entries body) (entries r
 
 abbrev μ-loop : tie.MeasureT-loop
 μ-loop out₀ body rest₀ at₀ out rest at = length rest
+
+-- while entries are left, the area has room for the next one
+room : (c : tie.After-two Inv-loop μ-loop) → (c .before .before .before .before .loop .at + 1 ≤ length (c .before .before .before .before .loop .out))
+room c =
+    let l = c .before .before .before .before .loop in
+    omega (arith, ap length (entries-next (l .rest .now) (c .before .before .before .loop-test .taken)), l .inv .room)
 
 loop-holds : tie.Need-loop-holds Inv-loop μ-loop
 loop-holds c = wrote-none _ _ (c .before .before .pre)
@@ -35,13 +42,13 @@ cast-out : tie.Need-cast-out Inv-loop μ-loop
 cast-out c = omega arith
 
 mul-out : tie.Need-mul-out Inv-loop μ-loop
-mul-out c = omega (arith, ap length (entries-next (c .before .before .before .before .loop .rest .now) (c .before .before .before .loop-test .taken)), c .before .before .before .before .loop .inv, c .before .before .before .before .before .before .before .good)
+mul-out c = omega (arith, room c)
 
 slice-write-out : tie.Need-slice-write-out Inv-loop μ-loop
-slice-write-out c = omega (arith, ap length (entries-next (c .before .before .before .before .loop .rest .now) (c .before .before .before .loop-test .taken)), c .before .before .before .before .loop .inv, c .before .before .before .before .before .before .before .good)
+slice-write-out c = omega (arith, room c)
 
 add-at : tie.Need-add-at Inv-loop μ-loop
-add-at c = omega (arith, ap length (entries-next (c .before .before .before .before .loop .rest .now) (c .before .before .before .loop-test .taken)), c .before .before .before .before .loop .inv, c .before .before .before .before .before .before .before .good)
+add-at c = omega (arith, room c)
 
 sub-rest : tie.Need-sub-rest Inv-loop μ-loop
 sub-rest c = omega arith
@@ -56,8 +63,7 @@ loop-less : tie.Need-loop-less Inv-loop μ-loop
 loop-less c = simp (length-take, length-drop) (omega arith)
 
 loop-again : tie.Need-loop-again Inv-loop μ-loop
-loop-again c =
-    let l = c .before .before .before .before .before .loop in
+loop-again c = let l = c .before .before .before .before .before .loop in
     let r = l .rest .now in
     wrote-set (c .before .two .result) _ (l .inv)
     (entries-next r (c .before .before .before .before .loop-test .taken) ∙ ap (λ (x : ℕ). x ∷ entries (drop 2 r)) (sym (c .before .two .ensures .0)) ∙ ap (λ (s : List ℕ). c .before .two .result ∷ entries s) (sym (tail-part 2 r)))
@@ -66,7 +72,7 @@ same-length : tie.Need-same-length Inv-loop μ-loop
 same-length c = c .before .loop .inv .same
 
 returns : tie.Need-returns Inv-loop μ-loop
-returns c = wrote-all (c .before .loop .inv) (entries-done _ (c .loop-test .left))
+returns c = put-all (c .before .loop .inv) (entries-done _ (c .loop-test .left))
 
 pub read-entries-spec : {M : Type 1} → statement M
 read-entries-spec =

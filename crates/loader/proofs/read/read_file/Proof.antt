@@ -1,82 +1,113 @@
 -- `read::read_file` meets its contract. Assumes nothing.
-use Prim.Native.Nat.{ℕ, _+_, _*_}
+use borrow.Author.Needs.{needs}
+use native.Mathlib.Omega.{arith}
+use Prim.Native.Nat.{ℕ, _-_, _*_, _≤_}
 use mathlib.Core.List.{List}
 use mathlib.Core.Path.{_≡_, refl, sym, ap, _∙_}
-use borrow.Author.Needs.{needs}
+use native.Mathlib.Nat.{mul-le-mul, le-of-lt}
+use lib.ListN.{length, take, drop}
 use Rattle.columns.specs.ColumnSets.{row-numbers}
-use Rattle.format.specs.File.Format.{judge}
-use Rattle.loader.specs.ReadLaws.{reading-refused, constants-short, parameters-short, reading-done}
-use Rattle.format.specs.File.Steps.{constants-of, parameters-of}
-use Rattle.format.specs.ListLaws.{tail-part}
+use Rattle.columns.specs.Words.Bytes.{AreBytes}
+use Rattle.format.specs.declared.header.Header.{Header}
 use Rattle.format.specs.Lists.{over}
+use Rattle.format.specs.File.Piece.{said-rests}
+use Rattle.format.specs.File.Format.{judge, rows-part}
+use Rattle.format.specs.File.Steps.{constants-said, parameters-said}
+use Rattle.format.proofs.Headers.{header-refusal}
+use Rattle.format.proofs.Parts.{ends-within, said-rests-ends, left-part}
+use Rattle.format.proofs.Walking.{rows-said}
+use Rattle.loader.proofs.Reading.{Numbers, Sizes-are, numbers-accepted, constants-count, reading-refused, constants-short, parameters-short, reading-done}
 use Rattle.loader.proofs.read.read_file.Statement.{statement}
 use Rattle.loader.proofs.read.read_file.Tie as tie
 
-accepted : (c : tie.Else1) → judge (c .before .before .before .before .before .args .file .now) ≡ 0
-accepted c = sym (c .before .judge-file .ensures) ∙ c .if1 .left
+bytes : (c : tie.After-shared-slice-known) → AreBytes (c .before .args .file .now)
+bytes c i = search (needs, c .shared-slice-known .given i)
 
-judge-file-requires : tie.Need-judge-file-requires
-judge-file-requires c κs = search needs
+-- the numbers of the header
+numbers : (c : tie.After-sizes-of) → let z = c .sizes-of .result in Numbers (c .before .before .before .before .before .args .file .now) (z .refusal) (z .p) (z .n) (z .a) (z .b)
+numbers c =
+    let h = c .before .read-header .ensures in
+    let z = c .sizes-of .ensures in
+    record {
+      refusal-is = z .0 ∙ ap (λ (h : Header). h .refusal) h ∙ header-refusal _;
+      p-is = z .1 ∙ ap (λ (h : Header). h .p) h;
+      n-is = z .2 ∙ ap (λ (h : Header). h .n) h;
+      a-is = z .3 ∙ ap (λ (h : Header). h .a) h;
+      b-is = z .4 ∙ ap (λ (h : Header). h .b) h;
+    }
 
-no-sizes-requires : tie.Need-no-sizes-requires
-no-sizes-requires c κs = search needs
+accepted : (c : tie.Else1) → judge (c .before .before .before .before .before .before .before .args .file .now) ≡ 0
+accepted c = sym (numbers (c .before .before) .refusal-is) ∙ c .if1 .left
 
-returns : tie.Need-returns
-returns c =
-    let z = c .no-sizes .ensures in
-    rw (z .0, z .1, z .2, z .3, z .4) (reading-refused _ _ _ _ (c .before .before .judge-file .ensures) (c .before .if1 .taken))
+sizes : (c : tie.Else1) → let z = c .before .before .sizes-of .result in Sizes-are (c .before .before .before .before .before .before .before .args .file .now) (z .p) (z .n) (z .a) (z .b)
+sizes c = numbers-accepted (numbers (c .before .before)) (accepted c)
+
+-- the rows stand behind two fields
+rows : (c : tie.After-left-after) → let s = c .before .before .before .before .before .before .before .before .before .before .before .before .before .args .file .now in let left = c .left-after .result in
+    take (length s - (length s - left)) (drop (length s - left) s) ≡ rows-part s
+rows c = left-part (said-rests-ends 2 _) (c .left-after .ensures) ∙ rows-said _ (accepted (c .before .before .before .before .before .before))
+
+read-header-requires : tie.Need-read-header-requires
+read-header-requires c κs = search needs
 
 sizes-of-requires : tie.Need-sizes-of-requires
 sizes-of-requires c κs = search needs
 
-mul-if2 : tie.Need-mul-if2
-mul-if2 c = search needs
+returns : tie.Need-returns
+returns c = reading-refused _ _ _ (numbers (c .before .before)) (c .if1 .taken)
 
-no-sizes-requires-2 : tie.Need-no-sizes-requires-2
-no-sizes-requires-2 c κs = search needs
+mul-if2 : tie.Need-mul-if2
+mul-if2 c = let z = c .before .before .before .sizes-of in
+    let m : z .result .a * z .result .n ≤ 256 * 256 = mul-le-mul (le-of-lt (z .ensures .6)) (le-of-lt (z .ensures .5)) in
+    omega arith
+
+no-sizes-requires : tie.Need-no-sizes-requires
+no-sizes-requires c κs = search needs
 
 returns-2 : tie.Need-returns-2
-returns-2 c =
-    let z = c .no-sizes2 .ensures in
-    rw (z .0, z .1, z .2, z .3, z .4) (constants-short _ _ _ (accepted (c .before .before .before)) _ _ _ _ (c .before .before .sizes-of .ensures .1) (c .before .if2 .taken))
+returns-2 c = let z = c .no-sizes .ensures in
+    let d = c .before .before .before in
+    rw (z .0, z .1, z .2, z .3, z .4) (constants-short _ _ _ (accepted d) (sizes d) (c .before .if2 .taken))
 
 rows-requires : tie.Need-rows-requires
 rows-requires c κs = search needs
 
-no-sizes-requires-3 : tie.Need-no-sizes-requires-3
-no-sizes-requires-3 c κs = search needs
+no-sizes-requires-2 : tie.Need-no-sizes-requires-2
+no-sizes-requires-2 c κs = search needs
 
 same-length : tie.Need-same-length
 same-length c = refl
 
 returns-3 : tie.Need-returns-3
-returns-3 c =
-    let z = c .no-sizes3 .ensures in
-    rw (z .0, z .1, z .2, z .3, z .4) (parameters-short _ _ _ (accepted (c .before .before .before .before .before .before)) _ _ _ _ (c .before .before .before .before .before .sizes-of .ensures .1) (c .before .before .before .before .if2 .left) (rw (c .before .before .rows .ensures) at (c .before .if3 .taken)))
+returns-3 c = let z = c .no-sizes2 .ensures in
+    let d = c .before .before .before .before .before .before in
+    rw (z .0, z .1, z .2, z .3, z .4) (parameters-short _ _ _ (accepted d) (sizes d) (c .before .before .before .before .if2 .left) (rw (c .before .before .rows .ensures) at (c .before .if3 .taken)))
 
-sub-read-constants : tie.Need-sub-read-constants
-sub-read-constants c = search needs
+left-after-requires : tie.Need-left-after-requires
+left-after-requires c κs = search needs
 
-part-read-constants-start : tie.Need-part-read-constants-start
-part-read-constants-start c = search needs
+sub-at : tie.Need-sub-at
+sub-at c = rw (c .left-after .ensures) (ends-within (said-rests-ends 2 _))
 
-part-read-constants-end : tie.Need-part-read-constants-end
-part-read-constants-end c = search needs
+sub-rows : tie.Need-sub-rows
+sub-rows c = search needs
+
+part-rows-start : tie.Need-part-rows-start
+part-rows-start c = search needs
+
+part-rows-end : tie.Need-part-rows-end
+part-rows-end c = search needs
 
 read-constants-requires : tie.Need-read-constants-requires
-read-constants-requires c κs = search needs
+read-constants-requires c κs = let d = c .before .before .before .before .before .before .before .before in
+    let x = sizes d in
+    rw (rows (c .before .before), x .a-is, constants-count _ (bytes (c .before .before .before .before .before .before .before .before .before .before .before .before .before .before)) (accepted d)) (rw (x .a-is, x .n-is) at (c .before .before .before .before .before .before .if2 .left))
 
-mul-at : tie.Need-mul-at
-mul-at c = search needs
+left-after-requires-2 : tie.Need-left-after-requires-2
+left-after-requires-2 c κs = search needs
 
-add-at : tie.Need-add-at
-add-at c = search needs
-
-mul-at-2 : tie.Need-mul-at-2
-mul-at-2 c = search needs
-
-add-at-2 : tie.Need-add-at-2
-add-at-2 c = search needs
+sub-end : tie.Need-sub-end
+sub-end c = rw (c .left-after2 .ensures) (ends-within (said-rests-ends _ _))
 
 sub-read-parameters : tie.Need-sub-read-parameters
 sub-read-parameters c = search needs
@@ -97,42 +128,37 @@ same-length-3 : tie.Need-same-length-3
 same-length-3 c = search needs
 
 returns-4 : tie.Need-returns-4
-returns-4 c =
-    let d = c .before .before .before .before .before .before .before .before .before .before in
-    let k = d .before .before .before in
-    let z = k .before .sizes-of in
-    let args = k .before .before .before .before .before .before .before .args in
-    let s = args .file .now in
-    let n = z .result .n in
-    let a = z .result .a in
-    let b = z .result .b in
-    let constants = c .before .before .before .before .before .before .before .read-constants .ensures ∙ ap (λ (t : List ℕ). over (constants-of n a t) (args .constants .now)) (tail-part 11 s) in
-    let parameters = c .before .before .read-parameters .ensures ∙ ap (λ (t : List ℕ). over (parameters-of b t) (row-numbers (args .parameters .now))) (tail-part (11 + a * (3 + 2 * n)) s) in
-    rw (z .ensures .0) (reading-done _ _ _ (accepted (k .before .before)) _ _ _ _ (z .ensures .1) (k .if2 .left) (rw (d .before .rows .ensures) at (d .if3 .left)) _ _ constants parameters)
+returns-4 c = let args = c .before .before .before .before .before .before .before .before .before .before .before .before .before .before .before .before .before .before .before .before .before .before .before .before .args in
+    let d = c .before .before .before .before .before .before .before .before .before .before .before .before .before .before .before .before .before in
+    let z = d .before .before .sizes-of in
+    let t = rows (c .before .before .before .before .before .before .before .before .before .before .before) in
+    let constants = c .before .before .before .before .before .before .before .before .read-constants .ensures ∙ ap (λ (u : List ℕ). over (constants-said (z .result .a) u) (args .constants .now)) t in
+    let left = left-part (said-rests-ends (z .result .a) _) (c .before .before .before .before .before .left-after2 .ensures) ∙ ap (said-rests (z .result .a)) t in
+    let parameters = c .before .before .read-parameters .ensures ∙ ap (λ (u : List ℕ). over (parameters-said (z .result .b) u) (row-numbers (args .parameters .now))) left in
+    rw (d .if1 .left) (reading-done _ _ _ (accepted d) (sizes d) (c .before .before .before .before .before .before .before .before .before .before .before .before .before .before .before .if2 .left) (rw (c .before .before .before .before .before .before .before .before .before .before .before .before .before .rows .ensures) at (c .before .before .before .before .before .before .before .before .before .before .before .before .if3 .left)) _ _ constants parameters)
 
 pub read-file-spec : {M : Type 1} → statement M
 read-file-spec =
     tie.close
     (tie.spec
-    judge-file-requires
-    no-sizes-requires
-    returns
+    read-header-requires
     sizes-of-requires
+    returns
     mul-if2
-    no-sizes-requires-2
+    no-sizes-requires
     returns-2
     rows-requires
-    no-sizes-requires-3
+    no-sizes-requires-2
     same-length
     returns-3
-    sub-read-constants
-    part-read-constants-start
-    part-read-constants-end
+    left-after-requires
+    sub-at
+    sub-rows
+    part-rows-start
+    part-rows-end
     read-constants-requires
-    mul-at
-    add-at
-    mul-at-2
-    add-at-2
+    left-after-requires-2
+    sub-end
     sub-read-parameters
     part-read-parameters-start
     part-read-parameters-end

@@ -1,41 +1,35 @@
 -- `read::read_parameters` meets its contract. The invariant: the rows before the rest are read, and those of the rest are left.
--- The measure is the number of rows left. Assumes nothing.
-use Prim.Native.Nat.{ℕ, _-_, _*_, _≤_}
-use mathlib.Core.List.{List, _∷_}
-use mathlib.Core.Path.{_≡_, refl, sym, ap, _∙_}
-use native.Mathlib.Omega.{arith}
-use lib.ListN.{length, take, drop, length-drop}
-use lib.Seq.{take-take}
+-- The measure is how many are left. Assumes nothing.
 use borrow.Author.Needs.{needs}
+use native.Mathlib.Omega.{arith}
+use Prim.Native.Nat.{ℕ, _+_, _-_, _≤_}
+use mathlib.Core.List.{List}
+use mathlib.Core.Path.{_≡_, refl, sym, ap, _∙_}
+use lib.ListN.{length, take}
 use Rattle.columns.specs.Bytes.{number}
 use Rattle.columns.specs.ColumnSets.{whole, row-numbers}
-use Rattle.columns.specs.Words.Rows.{rows-length, rows-with-row, with-row-length}
-use Rattle.loader.specs.ReadLaws.{parameters-next, parameters-done, parameters-length}
-use Rattle.format.specs.File.Steps.{parameters-of}
-use Rattle.format.specs.ListLaws.{tail-part}
+use Rattle.columns.specs.Words.Rows.{rows-with-row, with-row-length}
+use Rattle.limits.specs.Limits.{set-bytes}
+use Rattle.format.specs.File.Piece.{said-body}
+use Rattle.format.specs.File.Steps.{parameters-said}
 use Rattle.format.specs.OverLaws.{Wrote, wrote-none, wrote-set, wrote-all}
+use Rattle.loader.proofs.Reading.{parameters-next, parameters-done, parameters-length}
 use Rattle.loader.proofs.read.read_parameters.Statement.{statement}
 use Rattle.loader.proofs.read.read_parameters.Tie as tie
 
 abbrev Inv-loop : tie.InvT-loop
-Inv-loop out₀ file b rest₀ at₀ left₀ out rest at left = Wrote (parameters-of b file) (parameters-of left rest) (row-numbers out₀) (row-numbers out) at × (11 * left ≤ length rest) × (length out ≡ length out₀)
+Inv-loop out₀ file b rest₀ at₀ out rest at = Wrote (parameters-said b file) (parameters-said (b - at) rest) (row-numbers out₀) (row-numbers out) at × (at ≤ b) × (length out ≡ length out₀)
 
 abbrev μ-loop : tie.MeasureT-loop
-μ-loop out₀ file b rest₀ at₀ left₀ out rest at left = left
+μ-loop out₀ file b rest₀ at₀ out rest at = b - at
 
 loop-holds : tie.Need-loop-holds Inv-loop μ-loop
-loop-holds c =
-    let h = c .before .before .pre in
-    (wrote-none _ _ (omega (arith, parameters-length (c .before .before .args .b) (c .before .before .args .file .now), h .1)), h .0, refl)
+loop-holds c = let a = c .before .before .args in
+    let all : a .b - 0 ≡ a .b = omega arith in
+    (rw all (wrote-none _ _ (omega (arith, parameters-length (a .b) (a .file .now), c .before .before .pre))), omega arith, refl)
 
-sub-of-bytes : tie.Need-sub-of-bytes Inv-loop μ-loop
-sub-of-bytes c = omega arith
-
-part-of-bytes-start : tie.Need-part-of-bytes-start Inv-loop μ-loop
-part-of-bytes-start c = omega arith
-
-part-of-bytes-end : tie.Need-part-of-bytes-end Inv-loop μ-loop
-part-of-bytes-end c = omega arith
+said-body-requires : tie.Need-said-body-requires Inv-loop μ-loop
+said-body-requires c κs = search needs
 
 of-bytes-requires : tie.Need-of-bytes-requires Inv-loop μ-loop
 of-bytes-requires c κs = search needs
@@ -43,23 +37,11 @@ of-bytes-requires c κs = search needs
 put-row-requires : tie.Need-put-row-requires Inv-loop μ-loop
 put-row-requires c κs = search needs
 
-sub-rest : tie.Need-sub-rest Inv-loop μ-loop
-sub-rest c = omega arith
-
-part-rest-start : tie.Need-part-rest-start Inv-loop μ-loop
-part-rest-start c = omega arith
-
-part-rest-end : tie.Need-part-rest-end Inv-loop μ-loop
-part-rest-end c = omega arith
+said-rest-requires : tie.Need-said-rest-requires Inv-loop μ-loop
+said-rest-requires c κs = search needs
 
 add-at : tie.Need-add-at Inv-loop μ-loop
-add-at c =
-    let k = c .before .before .before .before .before .before .before .before in
-    let l = k .loop in
-    omega (arith, parameters-length (l .left) (l .rest .now), l .inv .0, l .inv .2, rows-length (l .out), k .before .before .before .good)
-
-sub-left : tie.Need-sub-left Inv-loop μ-loop
-sub-left c = omega arith
+add-at c = omega arith
 
 loop-less : tie.Need-loop-less Inv-loop μ-loop
 loop-less c = omega arith
@@ -68,21 +50,22 @@ loop-again : tie.Need-loop-again Inv-loop μ-loop
 loop-again c =
     let put = c .before .before .before .put-row in
     let of-bytes = c .before .before .before .before .of-bytes in
+    let body = c .before .before .before .before .before .said-body in
     let k = c .before .before .before .before .before .before .before .before in
     let l = k .loop in
     let r = l .rest .now in
+    let b = k .before .before .before .args .b in
     let w = whole (of-bytes .result) in
-    let t : take (length r - 11) (drop 11 r) ≡ drop 11 r = tail-part 11 r in
-    let set : w ≡ number (take 8 (drop 3 r)) = of-bytes .ensures ∙ ap number (take-take 8 8 (drop 3 r) (omega arith)) in
+    let q : b - l .at - 1 ≡ b - (l .at + 1) = omega arith in
+    let is-row : number (take set-bytes (said-body r)) ≡ w = ap (λ (t : List ℕ). number (take set-bytes t)) (sym (body .ensures)) ∙ sym (of-bytes .ensures) in
     let written = ap row-numbers (put .ensures) ∙ rows-with-row (l .out) (l .at) w in
-    let next = parameters-next (l .left) r (c .before .before .before .before .before .before .before .loop-test .taken) ∙ ap (λ (x : ℕ). x ∷ parameters-of (l .left - 1) (drop 11 r)) (sym set) ∙ ap (λ (s : List ℕ). w ∷ parameters-of (l .left - 1) s) (sym t) in
-    (rw written (wrote-set w _ (l .inv .0) next), rw (t, length-drop) (omega arith), ap length (put .ensures) ∙ with-row-length (l .out) (l .at) w ∙ l .inv .2)
+    (rw written (wrote-set w _ (l .inv .0) (parameters-next (b - l .at) r (omega arith) ∙ rw (q, is-row, ← c .said-rest .ensures .bytes-are) refl)), omega arith, ap length (put .ensures) ∙ with-row-length (l .out) (l .at) w ∙ l .inv .2)
 
 same-length : tie.Need-same-length Inv-loop μ-loop
 same-length c = c .before .loop .inv .2
 
 returns : tie.Need-returns Inv-loop μ-loop
-returns c = wrote-all (c .before .loop .inv .0) (parameters-done _ _ (c .loop-test .left))
+returns c = let l = c .before .loop in wrote-all (l .inv .0) (parameters-done _ _ (omega arith))
 
 pub read-parameters-spec : {M : Type 1} → statement M
 read-parameters-spec =
@@ -91,16 +74,11 @@ read-parameters-spec =
     Inv-loop
     μ-loop
     loop-holds
-    sub-of-bytes
-    part-of-bytes-start
-    part-of-bytes-end
+    said-body-requires
     of-bytes-requires
     put-row-requires
-    sub-rest
-    part-rest-start
-    part-rest-end
+    said-rest-requires
     add-at
-    sub-left
     loop-less
     loop-again
     same-length

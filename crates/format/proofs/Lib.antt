@@ -1,0 +1,6 @@
+pub mod Entries
+pub mod Parts
+pub mod Judging
+pub mod Headers
+pub mod Walking
+pub mod Puts

@@ -1,0 +1,109 @@
+-- The rows of a model handed over, as loops write them field after field, and how long its file is. Assumes nothing.
+use Prim.Native.Nat.{ℕ, zero, suc, _+_, _*_, _-_, _≤_, _<_}
+use mathlib.Core.Path.{_≡_, refl, sym, ap, _∙_}
+use mathlib.Core.List.{List, [], _∷_, _++_, flatMap}
+use native.Mathlib.Omega.{arith}
+use native.Mathlib.Nat.{suc-mul, zero-mul}
+use lib.ListN.{length, getD, take, drop, length-append, length-drop}
+use lib.Seq.{length-take-le}
+use Rattle.columns.specs.Bytes.{bytes-of}
+use Rattle.limits.specs.Limits.{set-bytes}
+use Rattle.format.specs.Lists.{rows-of}
+use Rattle.format.specs.ListLaws.{first-rest, nothing}
+use Rattle.format.specs.Refusals.{head-bytes, PutRoom}
+use Rattle.format.specs.File.Piece.{field-bytes}
+use Rattle.format.specs.File.Format.{prime-tag, sizes-tag, parameter-tag, end-tag, parameter-size, entry-bytes, prime-field, sizes-field, constant-row, parameter-row, end-field, row-fields, size-fields, fields, encode, handed-over}
+use Rattle.format.specs.File.Steps.{constant-bytes, parameter-bytes, Put}
+use Rattle.format.specs.File.BodyLaws.{entries-back}
+use Rattle.format.proofs.Puts.{put-next, put-room, put-same, left-length}
+
+-- what is left of the constants holds the rows that are left
+pub rows-left : (n k l : ℕ) → 0 < k → k * n ≤ l → (n ≤ l) × ((k - 1) * n ≤ l - n)
+rows-left n zero l h e = absurd (omega arith)
+rows-left n (suc k) l h e =
+    let q : suc k - 1 ≡ k = omega arith in
+    let m : suc k * n ≡ k * n + n = suc-mul k n in
+    (omega arith, rw q (omega arith))
+
+-- ---- constant rows
+
+pub row-length : (n : ℕ) (r : List ℕ) → length (constant-bytes n r) ≡ head-bytes + length (entry-bytes r)
+unfolding constant-bytes
+row-length n r = omega arith
+
+module _ (n : ℕ) (s : List ℕ) (h : n ≤ length s) where
+  pub constant-bytes-cut : constant-bytes (length (take n s)) (take n s) ≡ constant-bytes n (take n s)
+  constant-bytes-cut = rw (length-take-le n s h) refl
+
+  constant-bytes-length : length (constant-bytes n (take n s)) ≡ head-bytes + 2 * n
+  unfolding constant-bytes
+  constant-bytes-length = let e = entries-back (take n s) in let l = length-take-le n s h in omega arith
+
+pub constant-rows-next : (n k : ℕ) (s : List ℕ) → 0 < k
+    → flatMap (constant-bytes n) (rows-of n k s) ≡ constant-bytes n (take n s) ++ flatMap (constant-bytes n) (rows-of n (k - 1) (drop n s))
+unfolding flatMap rows-of
+constant-rows-next n zero s h = absurd (omega arith)
+constant-rows-next n (suc k) s h = let q : suc k - 1 ≡ k = omega arith in rw q refl
+
+pub constant-rows-done : (n k : ℕ) (s : List ℕ) → k ≤ 0 → flatMap (constant-bytes n) (rows-of n k s) ≡ []
+unfolding flatMap rows-of
+constant-rows-done n zero s h = refl
+constant-rows-done n (suc k) s h = absurd (omega arith)
+
+constant-rows-length : (n k : ℕ) (s : List ℕ) → k * n ≤ length s → length (flatMap (constant-bytes n) (rows-of n k s)) ≡ k * (head-bytes + 2 * n)
+unfolding flatMap rows-of
+constant-rows-length n zero s h = sym (zero-mul (head-bytes + 2 * n))
+constant-rows-length n (suc k) s h =
+    let m : suc k * n ≡ k * n + n = suc-mul k n in
+    let l = length-drop n s in
+    let e = constant-bytes-length n s (omega arith) in
+    let i = constant-rows-length n k (drop n s) (omega arith) in
+    let j : suc k * (head-bytes + 2 * n) ≡ k * (head-bytes + 2 * n) + (head-bytes + 2 * n) = suc-mul k (head-bytes + 2 * n) in
+    rw length-append (omega arith)
+
+-- ---- parameter rows
+
+module _ (n : ℕ) where
+  pub parameter-bytes-length : (w : ℕ) → length (parameter-bytes n w) ≡ head-bytes + parameter-size n
+  unfolding parameter-bytes
+  parameter-bytes-length w = refl
+
+  -- the head, and behind it the set's first bytes
+  pub parameter-row-put : (w : ℕ) {size : ℕ} → size ≡ parameter-size n → {d₀ d e : List ℕ} {k r : ℕ} → Put (field-bytes parameter-tag size []) d₀ d k
+      → PutRoom (take size (bytes-of set-bytes w)) (take (length d - k) (drop k d)) e r → length (parameter-bytes n w) ≤ length d₀
+      → Put (parameter-bytes n w) d₀ (take k d ++ (e ++ drop (length d - k) (drop k d))) (k + size)
+  unfolding parameter-bytes
+  parameter-row-put w q {d₀} {d} {e} {k} p s h =
+      let l = put-same p (omega arith) in
+      let m = p .many-is in
+      let room = left-length k d in
+      rw q (put-next (rw q at p) (put-room (rw q at s) (omega arith)))
+
+  pub parameter-rows-next : (s : List ℕ) → 0 < length s → flatMap (parameter-bytes n) s ≡ parameter-bytes n (getD s 0 0) ++ flatMap (parameter-bytes n) (drop 1 s)
+  unfolding flatMap
+  parameter-rows-next s h = ap (flatMap (parameter-bytes n)) (first-rest s h)
+
+  pub parameter-rows-done : (s : List ℕ) → length s ≤ 0 → flatMap (parameter-bytes n) s ≡ []
+  unfolding flatMap
+  parameter-rows-done s h = ap (flatMap (parameter-bytes n)) (nothing s h)
+
+  parameter-rows-length : (s : List ℕ) → length (flatMap (parameter-bytes n) s) ≡ length s * (head-bytes + parameter-size n)
+  unfolding flatMap parameter-bytes
+  parameter-rows-length [] = refl
+  parameter-rows-length (w ∷ s) = let i = parameter-rows-length s in omega arith
+
+-- ---- the whole file
+
+pub handed-over-fields : (p n a b : ℕ) (cs ws : List ℕ)
+    → encode (handed-over p n a b cs ws)
+    ≡ field-bytes prime-tag 2 (bytes-of 2 p) ++ (field-bytes sizes-tag 3 (n ∷ a ∷ b ∷ []) ++ (flatMap (constant-bytes n) (rows-of n a cs) ++ (flatMap (parameter-bytes n) (take b ws) ++ field-bytes end-tag 0 [])))
+unfolding encode fields size-fields row-fields prime-field sizes-field constant-row parameter-row end-field handed-over constant-bytes parameter-bytes
+handed-over-fields p n a b cs ws = refl
+
+-- as the fields add up
+pub handed-over-length : (p n a b : ℕ) (cs ws : List ℕ) → a * n ≤ length cs → b ≤ length ws
+    → length (encode (handed-over p n a b cs ws)) ≡ (head-bytes + 2) + (head-bytes + 3) + a * (head-bytes + 2 * n) + b * (head-bytes + parameter-size n) + head-bytes
+handed-over-length p n a b cs ws i j =
+    let r = constant-rows-length n a cs i in
+    let m : length (flatMap (parameter-bytes n) (take b ws)) ≡ b * (head-bytes + parameter-size n) = parameter-rows-length n (take b ws) ∙ ap (λ (k : ℕ). k * (head-bytes + parameter-size n)) (length-take-le b ws j) in
+    ap length (handed-over-fields p n a b cs ws) ∙ simp length-append (omega arith)
