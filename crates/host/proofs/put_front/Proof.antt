@@ -60,9 +60,9 @@ returns c =
     let second = bytes-of set-bytes (whole (a .second)) in
     let third = bytes-of set-bytes (whole (a .third)) in
     let w₁ = wrote-first (front-bytes (a .verdict) (a .rank) (whole (a .first)) (whole (a .second)) (whole (a .third))) (a .verdict ∷ a .rank ∷ []) (first ++ (second ++ third)) 2 refl (c .before .before .before .before .before .before .before .before .before .before .before .before .before .before .before .before .before .pre) (c .before .before .before .before .before .before .before .before .before .before .before .before .before .before .put-numbers .ensures) refl in
-    let w₂ = wrote-room first (second ++ third) _ set-bytes w₁ refl (c .before .before .before .before .before .before .before .before .before .before .put-set .ensures) refl in
-    let w₃ = wrote-room second third _ set-bytes w₂ refl (c .before .before .before .before .before .before .put-set2 .ensures) refl in
-    wrote-all (wrote-room third [] _ set-bytes w₃ (sym (append-nil third)) (c .before .before .put-set3 .ensures) refl) refl
+    let w₂ = wrote-room first (second ++ third) _ set-bytes w₁ refl (c .before .before .before .before .before .before .before .before .before .before .put-set .ensures .bytes-are) refl in
+    let w₃ = wrote-room second third _ set-bytes w₂ refl (c .before .before .before .before .before .before .put-set2 .ensures .bytes-are) refl in
+    wrote-all (wrote-room third [] _ set-bytes w₃ (sym (append-nil third)) (c .before .before .put-set3 .ensures .bytes-are) refl) refl
 
 pub put-front-spec : {M : Type 1} → statement M
 put-front-spec =
