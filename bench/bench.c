@@ -22,12 +22,12 @@ static void put_parameters(Model *m)
 {
     for (size_t r = 0; r < m->b; r++)
         while (size_of_set(m->parameters[r]) < PARAMETERS_A_ROW)
-            m->parameters[r] |= UINT64_C(1) << draw(m->n);
+            m->parameters[r] |= just(draw(m->n));
 }
 
 static Model dense(uint32_t p, size_t b)
 {
-    Model m = {.p = p, .n = LIMIT, .a = LIMIT, .b = b};
+    Model m = {.p = p, .n = WUNDRESKA_COLUMNS_MAX, .a = WUNDRESKA_ROWS_MAX, .b = b};
     for (size_t i = 0; i < m.a * m.n; i++)
         m.constants[i] = draw(p);
     put_parameters(&m);
@@ -37,23 +37,24 @@ static Model dense(uint32_t p, size_t b)
 /* Balances: each constant row has a few plus and minus ones. */
 static Model plant_like(void)
 {
-    Model m = {.p = 1021, .n = LIMIT, .a = LIMIT, .b = LIMIT};
+    Model m = {.p = 1021, .n = WUNDRESKA_COLUMNS_MAX, .a = WUNDRESKA_ROWS_MAX, .b = WUNDRESKA_ROWS_MAX};
     for (size_t i = 0; i < m.a * CONSTANTS_A_ROW; i++)
         m.constants[i / CONSTANTS_A_ROW * m.n + draw(m.n)] = one_in(2) ? 1 : m.p - 1;
     put_parameters(&m);
     return m;
 }
 
-static Model dense_1021(void) { return dense(1021, LIMIT); }
-static Model dense_65521(void) { return dense(65521, LIMIT); }
+static Model dense_1021(void) { return dense(1021, WUNDRESKA_ROWS_MAX); }
+static Model dense_largest(void) { return dense(WUNDRESKA_PRIME_MAX, WUNDRESKA_ROWS_MAX); }
 static Model constants_1021(void) { return dense(1021, 0); }
-static Model constants_65521(void) { return dense(65521, 0); }
+static Model constants_largest(void) { return dense(WUNDRESKA_PRIME_MAX, 0); }
 static Model tiny(void) { return (Model){.p = 1021, .n = 2, .a = 1, .b = 1, .constants = {1, 0}, .parameters = {2}}; }
 
 /* ---- what is timed ---- */
 
 typedef struct {
     Model model;
+    uint64_t rows[WUNDRESKA_ROWS_MAX * ROW_WORDS]; /* the parameter rows as the calls take them */
     nmod_mat_t substituted; /* constants above random numbers, modulo the large prime */
     nmod_mat_t constants;   /* modulo p */
     uint8_t answer[WUNDRESKA_ANSWER_SIZE];
@@ -66,7 +67,7 @@ static void call(ModelCall *layered, Work *w)
 {
     const Model *m = &w->model;
     memset(w->answer, 0, sizeof w->answer);
-    if (layered(m->p, m->n, m->a, m->b, m->constants, m->a * m->n, m->parameters, m->b, w->answer, sizeof w->answer))
+    if (layered(m->p, m->n, m->a, m->b, m->constants, m->a * m->n, w->rows, m->b * ROW_WORDS, w->answer, sizeof w->answer))
         abort();
 }
 
@@ -85,6 +86,8 @@ static void prepare(Work *w, Model model)
 {
     Model *m = &w->model;
     *m = model;
+    for (size_t r = 0; r < m->b; r++)
+        put_words(m->parameters[r], w->rows + r * ROW_WORDS);
     nmod_mat_init(w->substituted, m->a + m->b, m->n, large_prime);
     nmod_mat_init(w->constants, m->a, m->n, m->p);
     for (size_t c = 0; c < m->n; c++) {
@@ -93,7 +96,7 @@ static void prepare(Work *w, Model model)
             nmod_mat_entry(w->substituted, r, c) = signed_residue(m->constants[r * m->n + c], m->p);
         }
         for (size_t r = 0; r < m->b; r++)
-            nmod_mat_entry(w->substituted, m->a + r, c) = m->parameters[r] >> c & 1 ? 1 + draw(large_prime - 1) : 0;
+            nmod_mat_entry(w->substituted, m->a + r, c) = has(m->parameters[r], c) ? 1 + draw(large_prime - 1) : 0;
     }
 }
 
@@ -104,7 +107,8 @@ static void check_agreement(Work *w)
     library(w);
     memcpy(answer, w->answer, sizeof answer);
     plain(w);
-    if (memcmp(answer, w->answer, WUNDRESKA_CONSTANTS) || memcmp(answer + WUNDRESKA_SHORT, w->answer + WUNDRESKA_SHORT, 8)) {
+    if (memcmp(answer, w->answer, WUNDRESKA_CONSTANTS) ||
+        memcmp(answer + WUNDRESKA_SHORT, w->answer + WUNDRESKA_SHORT, WUNDRESKA_SET_SIZE)) {
         fprintf(stderr, "the library and plain Rust differ\n");
         exit(1);
     }
@@ -152,7 +156,7 @@ static void clear_works(Work *works)
     }
 }
 
-static void measure(const char *name, Model (*make)(void))
+static void measure(const char *kind, Model (*make)(void))
 {
     static Work works[MODELS];
     static Method *const methods[] = {library, plain, substituted_rank, constants_rank};
@@ -161,9 +165,11 @@ static void measure(const char *name, Model (*make)(void))
         prepare(&works[k], make());
         check_agreement(&works[k]);
     }
-    int only_constants = works[0].model.b == 0;
+    const Model *m = &works[0].model;
+    int only_constants = m->b == 0;
     time_all(methods, only_constants ? 4 : 3, works, t);
-    printf("| %s | %.2f | %.2f | %.2f | %.2f | %.3f |", name, t[0], t[1], t[2], t[0] / t[1], t[0] / t[2]);
+    printf("| %s %zu/%zu/%zu, p %u |", kind, m->n, m->a, m->b, (unsigned)m->p);
+    printf(" %.2f | %.2f | %.2f | %.2f | %.3f |", t[0], t[1], t[2], t[0] / t[1], t[0] / t[2]);
     if (only_constants)
         printf(" %.2f | %.2f |\n", t[3], t[0] / t[3]);
     else
@@ -176,12 +182,12 @@ int main(void)
 {
     printf("| model (n/a/b) | library | plain Rust | FLINT, substituted | library / plain Rust | library / FLINT, substituted | "
            "FLINT, constants mod p | library / FLINT, constants |\n|---|---|---|---|---|---|---|---|\n");
-    measure("dense 64/64/64, p 1021", dense_1021);
-    measure("dense 64/64/64, p 65521", dense_65521);
-    measure("plant-like 64/64/64, p 1021", plant_like);
-    measure("dense 64/64/0, p 1021", constants_1021);
-    measure("dense 64/64/0, p 65521", constants_65521);
-    measure("tiny 2/1/1, p 1021", tiny);
+    measure("dense", dense_1021);
+    measure("dense", dense_largest);
+    measure("plant-like", plant_like);
+    measure("dense", constants_1021);
+    measure("dense", constants_largest);
+    measure("tiny", tiny);
     printf("\nMicroseconds a call: the least of %d rounds over %d models, the methods in turn. The answer area is cleared before "
            "each call, within the time; caches are not, so all methods run warm. FLINT's matrices are filled beforehand: only "
            "nmod_mat_rank is timed, which copies its matrix.\n",

@@ -1,25 +1,32 @@
-/* A host that starts its solver on a determined model alone, and otherwise says why not.
+/* A host that starts its solver on a determined model alone, and otherwise says why not. Plain C89, and C++ too.
  *
  * Build: rt staticlib solvability
  *        gcc examples/host.c -Iinclude target/staticlib/libsolvability.a -o host
  * Run:   ./host models/s2.model
+ *        ./host --mixed models/s9.model
  *
  * Exit status: 0 the solver started, 1 it did not, 2 the file could not be read.
  */
 #include <stdio.h>
+#include <string.h>
 
 #include "wundreska.h"
 
-static const char *const reasons[] = {
-    [WUNDRESKA_TRUNCATED] = "the file ends within a field",
-    [WUNDRESKA_UNEXPECTED] = "a tag or length is not the one due",
-    [WUNDRESKA_NOT_PRIME] = "p is not a prime up to 65521",
-    [WUNDRESKA_SIZES_BEYOND] = "n, a or b is beyond its limit",
-    [WUNDRESKA_CONSTANT_BEYOND] = "a constant is p or more",
-    [WUNDRESKA_PARAMETER_BEYOND] = "a parameter stands at column n or later",
-    [WUNDRESKA_TRAILING] = "bytes follow the end field",
-    [WUNDRESKA_AREA_SHORT] = "the answer area is too short",
-};
+static const char *reason(uint32_t refusal)
+{
+    switch (refusal) {
+    case WUNDRESKA_TRUNCATED: return "the file ends within a field";
+    case WUNDRESKA_UNEXPECTED: return "a tag or length is not the one due";
+    case WUNDRESKA_NOT_PRIME: return "p is not a prime up to 65521";
+    case WUNDRESKA_SIZES_BEYOND: return "n, a or b is beyond its limit";
+    case WUNDRESKA_CONSTANT_BEYOND: return "a constant is p or more";
+    case WUNDRESKA_PARAMETER_BEYOND: return "a parameter stands at column n or later";
+    case WUNDRESKA_TRAILING: return "bytes follow the end field";
+    case WUNDRESKA_AREA_SHORT: return "the answer area is too short";
+    case WUNDRESKA_NOT_MIXED: return "a differs from b, or a + n is above 64";
+    default: return "a number that this host does not know";
+    }
+}
 
 /* Stands for the host's own solver. */
 static void start_solver(unsigned unknowns)
@@ -31,51 +38,78 @@ static void start_solver(unsigned unknowns)
 static long read_file(const char *name, uint8_t *bytes, size_t room)
 {
     FILE *in = fopen(name, "rb");
+    size_t length;
+    int failed;
     if (!in)
         return -1;
-    size_t length = fread(bytes, 1, room, in);
-    int failed = ferror(in);
+    length = fread(bytes, 1, room, in);
+    failed = ferror(in);
     fclose(in);
     return failed ? -1 : (long)length;
 }
 
-static void print_columns(const uint8_t *set)
+/* Prints the columns of a set from `first` on, counted from there. */
+static void print_columns(const uint8_t *set, int first)
 {
-    for (int c = 0; c < 64; c++)
+    int c;
+    for (c = first; c < WUNDRESKA_COLUMNS_MAX; c++)
         if (set[c / 8] >> c % 8 & 1)
-            printf(" %d", c);
+            printf(" %d", c - first);
     printf("\n");
 }
 
-/* Whether the solver was started. */
-static int treat(const uint8_t *file, size_t length)
+/* Goes by the answer; `short_columns` starts at column `first` of its set. Says whether the solver was started. */
+static int act(int verdict, int rank, const uint8_t *short_columns, int first)
+{
+    if (verdict == WUNDRESKA_DETERMINED) {
+        start_solver((unsigned)rank);
+        return 1;
+    }
+    printf("no start: rank %d, equations are lacking among columns", rank);
+    print_columns(short_columns, first);
+    return 0;
+}
+
+static int complain(uint32_t refusal)
+{
+    printf("no start: refused %u, %s\n", (unsigned)refusal, reason(refusal));
+    return 0;
+}
+
+static int treat_layered(const uint8_t *file, size_t length)
 {
     uint8_t answer[WUNDRESKA_ANSWER_SIZE];
     uint32_t refusal = wundreska_check(file, length, answer, sizeof answer);
-    if (refusal != WUNDRESKA_ACCEPTED) {
-        printf("no start: refused %u, %s\n", (unsigned)refusal, reasons[refusal]);
-        return 0;
-    }
-    if (answer[WUNDRESKA_VERDICT] != WUNDRESKA_DETERMINED) {
-        printf("no start: rank %d, equations are lacking among columns", answer[WUNDRESKA_RANK]);
-        print_columns(answer + WUNDRESKA_SHORT);
-        return 0;
-    }
-    start_solver(answer[WUNDRESKA_RANK]);
-    return 1;
+    if (refusal != WUNDRESKA_ACCEPTED)
+        return complain(refusal);
+    return act(answer[WUNDRESKA_VERDICT], answer[WUNDRESKA_RANK], answer + WUNDRESKA_SHORT, 0);
+}
+
+/* The short set is one of the layered form, whose first m columns are not the model's; m is the file's number a, byte 9. */
+static int treat_mixed(const uint8_t *file, size_t length)
+{
+    uint8_t answer[WUNDRESKA_MIXED_SIZE];
+    uint32_t refusal = wundreska_mixed(file, length, answer, sizeof answer);
+    if (refusal != WUNDRESKA_ACCEPTED)
+        return complain(refusal);
+    return act(answer[WUNDRESKA_MIXED_VERDICT], answer[WUNDRESKA_MIXED_RANK], answer + WUNDRESKA_MIXED_SHORT, file[9]);
 }
 
 int main(int count, char **words)
 {
     static uint8_t file[WUNDRESKA_FILE_MAX + 1];
-    if (count != 2) {
-        fprintf(stderr, "usage: host MODEL\n");
+    int mixed = count == 3 && strcmp(words[1], "--mixed") == 0;
+    long length;
+    if (count != 2 && !mixed) {
+        fprintf(stderr, "usage: host [--mixed] MODEL\n");
         return 2;
     }
-    long length = read_file(words[1], file, sizeof file);
+    length = read_file(words[count - 1], file, sizeof file);
     if (length < 0) {
-        perror(words[1]);
+        perror(words[count - 1]);
         return 2;
     }
-    return treat(file, (size_t)length) ? 0 : 1;
+    if (mixed)
+        return treat_mixed(file, (size_t)length) ? 0 : 1;
+    return treat_layered(file, (size_t)length) ? 0 : 1;
 }

@@ -1,13 +1,12 @@
-/* wundreska.h: the solvability check for layered plant models, as a C host calls it.
+/* wundreska.h: the solvability check for layered and mixed plant models, as a C host calls it.
  *
- * One call judges a model file and, if it is sound, says whether the model determines all its unknowns. Start a solver on
- * WUNDRESKA_DETERMINED alone.
+ * A call judges a model file and, if it is sound, says whether the model determines all its unknowns: wundreska_check for a
+ * layered model, wundreska_mixed for a mixed one. Start a solver on WUNDRESKA_DETERMINED alone.
  *
  * Words. A model has a prime p, n columns (the unknowns), a constant rows and b parameter rows. Rows and columns count
  * from 0. A constant is a whole number from 0 to p - 1 (minus one is p - 1); a parameter row only says at which columns it
- * has a parameter. All ranks are taken modulo p.
- *
- * Limits: p is a prime from 2 to 65,521; n is 1 to 64; a and b are 0 to 64 each.
+ * has a parameter. All ranks are taken modulo p. A mixed model has a = b = m, and its row i is the sum of constant row i and
+ * parameter row i; a place may hold both. The same file can be asked either question.
  *
  * The file. Fields, each a one-byte tag, a two-byte length and the body; numbers have their low byte first. In this order:
  *
@@ -15,13 +14,28 @@
  *   1           2       p
  *   2           3       n, a, b, one byte each
  *   3, a times  2n      one constant row, two bytes an entry
- *   4, b times  8       one parameter row: column c is bit c % 8 (lowest is 0) of byte c / 8
+ *   4, b times  8       one parameter row, a set of columns
  *   5           0       end; nothing follows
  *
  * Its length is 14 + a * (3 + 2n) + 11 * b bytes. tools/model makes a file from readable text and prints one back.
  *
+ * A set of columns or rows, in the file and in an answer, is WUNDRESKA_SET_SIZE bytes: column c is bit c % 8 (lowest is 0)
+ * of byte c / 8.
+ *
+ * Every call. It takes the bytes of a file and an answer area, and returns WUNDRESKA_ACCEPTED or the number of the refusal.
+ * - Accepted: exactly the bytes of the answer are written, over the front of the area; the surplus is left as it was.
+ * - Refused: no byte of the answer area is changed. The file is never changed.
+ * - Pointers: file points to file_len bytes that can be read, answer to answer_len bytes that can be written. The two areas do
+ *   not overlap. Where its length is 0 a pointer may be NULL: nothing is read or written through it.
+ * - Threads: a call keeps nothing, shares nothing and allocates nothing. It may run on any thread, several at once, the same
+ *   file included, as long as nothing else writes the file or touches the answer area meanwhile.
+ * - Stack: a call needs less than WUNDRESKA_STACK_MAX bytes of it (measured: 20 KB, for a mixed question 29 KB).
+ * - Platform: the archive is for x86-64 Linux, can stand in a shared object, and takes memcpy, memmove and memset of the host.
+ *
  * Linking: rt staticlib solvability
  *          gcc host.c -Iinclude target/staticlib/libsolvability.a -o host
+ *      or, after tools/install PREFIX,
+ *          gcc host.c $(pkg-config --cflags --libs wundreska) -o host
  */
 #ifndef WUNDRESKA_H
 #define WUNDRESKA_H
@@ -33,54 +47,79 @@
 extern "C" {
 #endif
 
-/* The longest file that is accepted. A host may cut its reading one byte above: the refusal is that of the whole file. */
+/* The version of this header and of the archive that it comes with. */
+#define WUNDRESKA_VERSION "1.0.0"
+#define WUNDRESKA_VERSION_MAJOR 1
+#define WUNDRESKA_VERSION_MINOR 0
+#define WUNDRESKA_VERSION_PATCH 0
+
+/* The limits: p is a prime from 2 to WUNDRESKA_PRIME_MAX, n is 1 to WUNDRESKA_COLUMNS_MAX, a and b are 0 to WUNDRESKA_ROWS_MAX
+ * each. */
+#define WUNDRESKA_PRIME_MAX 65521
+#define WUNDRESKA_COLUMNS_MAX 64
+#define WUNDRESKA_ROWS_MAX 64
+#define WUNDRESKA_SET_SIZE 8
+#define WUNDRESKA_STACK_MAX 32768
+/* The longest file that is accepted. A host may cut its reading one byte above: the refusal is that of the whole file. The launcher
+ * ./check takes the number from here. */
 #define WUNDRESKA_FILE_MAX 9102
 
-/* The answer area: how long it must be, and where each part starts. Column c of a set is bit c % 8 of byte c / 8. */
-#define WUNDRESKA_ANSWER_SIZE 90
-#define WUNDRESKA_VERDICT 0   /*  1 byte: one of the verdicts below */
-#define WUNDRESKA_RANK 1      /*  1 byte, 0 to n: how many columns can be placed at once */
-#define WUNDRESKA_PLACED 2    /*  8 bytes: the placed columns, as many as the rank; first in column order among such sets */
-#define WUNDRESKA_CONSTANTS 10 /* 8 bytes: the placed columns that are determined by the constant rows */
-#define WUNDRESKA_SHORT 18    /*  8 bytes: the short columns, where equations are lacking; none when determined */
-#define WUNDRESKA_ROWS 26     /* 64 bytes: for each parameter row the placed column it determines, or WUNDRESKA_NO_COLUMN */
-#define WUNDRESKA_ROWS_SIZE 64
-#define WUNDRESKA_NO_COLUMN 255 /* a parameter row that determines no column, and every row from b on */
-
-/* The verdicts. A model is determined exactly where its rank equals n; surplus rows do not change that. */
+/* The verdicts of both calls. A model is determined exactly where its rank equals n; surplus rows do not change that. */
 #define WUNDRESKA_OPEN 0
 #define WUNDRESKA_DETERMINED 1
 
-/* What the call returns. */
+/* What a call returns. */
 #define WUNDRESKA_ACCEPTED 0
-/* Whoever wrote the file causes these. */
+/* Whoever wrote the file causes these. The file is judged from its front (for each field: head, tag and length, body, content),
+ * and the first number met is returned. */
 #define WUNDRESKA_TRUNCATED 1        /* fewer than three bytes remain for a field's head, or fewer than its length for its body */
 #define WUNDRESKA_UNEXPECTED 2       /* the tag or length is not the one due */
-#define WUNDRESKA_NOT_PRIME 3        /* p is not prime (0 and 1 are not) or is above 65,521 */
+#define WUNDRESKA_NOT_PRIME 3        /* p is not prime (0 and 1 are not) or is above WUNDRESKA_PRIME_MAX */
 #define WUNDRESKA_SIZES_BEYOND 4     /* n, a or b is beyond its limit */
 #define WUNDRESKA_CONSTANT_BEYOND 5  /* a constant is p or more */
 #define WUNDRESKA_PARAMETER_BEYOND 6 /* a parameter stands at column n or later */
 #define WUNDRESKA_TRAILING 7         /* bytes follow the end field */
-/* The calling program causes this one. It comes after all others: only a sound file can meet it. */
-#define WUNDRESKA_AREA_SHORT 8       /* answer_len is below WUNDRESKA_ANSWER_SIZE */
+/* The calling program causes this one. Only a sound file can meet it. */
+#define WUNDRESKA_AREA_SHORT 8       /* answer_len is below the size of the call's answer */
+/* The modeller with a mixed question causes this one, in wundreska_mixed alone. It comes last. */
+#define WUNDRESKA_NOT_MIXED 10       /* a differs from b, or a + n exceeds WUNDRESKA_COLUMNS_MAX */
 
-/* Judges the file from its front (for each field: head, tag and length, body, content) and returns the first refusal met,
- * or WUNDRESKA_ACCEPTED.
- *
- * Accepted: exactly WUNDRESKA_ANSWER_SIZE bytes of the answer area are written, the surplus is left as it was.
- * Refused: no byte of the answer area is changed. The file is never changed.
- *
- * Of an accepted model:
+/* The answer to a layered model: where each part starts, and the size of all. */
+#define WUNDRESKA_VERDICT 0 /* 1 byte: one of the verdicts above */
+#define WUNDRESKA_RANK 1    /* 1 byte, 0 to n: how many columns can be placed at once */
+#define WUNDRESKA_PLACED 2  /* a set: the placed columns, as many as the rank; first in column order among such sets */
+#define WUNDRESKA_CONSTANTS (WUNDRESKA_PLACED + WUNDRESKA_SET_SIZE) /* a set: those determined by the constant rows */
+#define WUNDRESKA_SHORT (WUNDRESKA_CONSTANTS + WUNDRESKA_SET_SIZE)  /* a set: where equations are lacking; none when determined */
+#define WUNDRESKA_ROWS (WUNDRESKA_SHORT + WUNDRESKA_SET_SIZE) /* for each parameter row, one byte: the column it determines, or */
+#define WUNDRESKA_NO_COLUMN 255 /* where it determines none, and for every row from b on */
+#define WUNDRESKA_ROWS_SIZE WUNDRESKA_ROWS_MAX
+#define WUNDRESKA_ANSWER_SIZE (WUNDRESKA_ROWS + WUNDRESKA_ROWS_SIZE) /* 90 */
+
+/* The layered question. Of an accepted model:
  * - the rank is the largest number of columns that can be placed: each on the constant side, where the placed columns are
  *   linearly independent modulo p, or on a parameter row of its own that has a parameter there;
  * - which side and row a placed column is shown with is one choice of possibly many; the other bytes have no choice;
  * - the short set is the smallest column set K for which the rank of the constant columns in K, plus the parameter rows
  *   with a parameter in K, plus the columns outside K, make the rank. Of an open model it says where equations are lacking:
- *   those that touch the short columns determine fewer unknowns than there are, and equations elsewhere cannot help.
- *
- * Pointers: file points to file_len bytes, answer to answer_len bytes. Neither is NULL, even for a length of 0, and the two
- * areas do not overlap. The call keeps nothing afterwards. */
+ *   those that touch the short columns determine fewer unknowns than there are, and equations elsewhere cannot help. */
 uint32_t wundreska_check(const uint8_t *file, size_t file_len, uint8_t *answer, size_t answer_len);
+
+/* The answer to a mixed model: where each part starts, and the size of all. */
+#define WUNDRESKA_MIXED_VERDICT 0 /* 1 byte: one of the verdicts above */
+#define WUNDRESKA_MIXED_RANK 1    /* 1 byte, 0 to n */
+#define WUNDRESKA_MIXED_ROWS 2    /* a set of rows, I */
+#define WUNDRESKA_MIXED_COLUMNS (WUNDRESKA_MIXED_ROWS + WUNDRESKA_SET_SIZE)  /* a set of columns, J */
+#define WUNDRESKA_MIXED_SHORT (WUNDRESKA_MIXED_COLUMNS + WUNDRESKA_SET_SIZE) /* a set of columns of the layered form */
+#define WUNDRESKA_MIXED_SIZE (WUNDRESKA_MIXED_SHORT + WUNDRESKA_SET_SIZE)    /* 26 */
+
+/* The mixed question. Of an accepted model:
+ * - the rank is the largest sum of the rank of the constants on some rows I and columns J, and the size of a matching of
+ *   parameters on all other rows and columns;
+ * - I and J are one choice that reaches the rank; the other bytes have no choice;
+ * - the short set is that of the layered form of the model, which has 2m rows and m + n columns. Its constant rows are the unit
+ *   matrix followed by the constants; its parameter row i has a parameter at column i, and those of parameter row i moved m
+ *   columns up. So column m + c of the form is column c of the model. The set is empty when the model is determined. */
+uint32_t wundreska_mixed(const uint8_t *file, size_t file_len, uint8_t *answer, size_t answer_len);
 
 #ifdef __cplusplus
 }

@@ -2,13 +2,12 @@
 #define _DEFAULT_SOURCE
 #include "calls.h"
 
-#include "wundreska.h"
-
 #include <stdlib.h>
 #include <string.h>
 #include <sys/mman.h>
 
-enum { PAGE = 4096, ROOM = 8 * PAGE, MARGIN = 16 };
+/* No area is longer than the longest file and some surplus. */
+enum { PAGE = 4096, ROOM = (WUNDRESKA_FILE_MAX / PAGE + 4) * PAGE, MARGIN = 16 };
 
 typedef struct {
     uint8_t *end;         /* the guard page */
@@ -16,7 +15,7 @@ typedef struct {
     uint8_t before[ROOM]; /* the margin and the lent bytes, as they were before the call */
 } Area;
 
-static Area file_area, constants_area, parameters_area, out_area;
+static Area file_area, constants_area, rows_area, out_area;
 
 static void open_area(Area *area)
 {
@@ -26,7 +25,7 @@ static void open_area(Area *area)
     area->end = start + ROOM;
 }
 
-/* The bytes to lend, all ones so far: neither a constant nor, below 64 columns, a parameter row. */
+/* The bytes to lend, all ones so far: neither a constant nor, below the most columns, a parameter row. */
 static uint8_t *lend(Area *area, size_t length)
 {
     if (!area->end)
@@ -77,13 +76,13 @@ static Called outcome(uint32_t refusal, size_t written)
     return called;
 }
 
-Called call_check(const uint8_t *file, size_t length, size_t answer_length)
+Called call_file(FileCall *call, const uint8_t *file, size_t length, size_t answer_length, size_t written)
 {
     const uint8_t *lent = lend_copy(&file_area, length, file, length);
     uint8_t *answer = lend_to_write(answer_length);
     remember(&file_area);
     remember(&out_area);
-    Called called = outcome(wundreska_check(lent, length, answer, answer_length), WUNDRESKA_ANSWER_SIZE);
+    Called called = outcome(call(lent, length, answer, answer_length), written);
     called.intact = called.intact && unchanged(&file_area, 0);
     return called;
 }
@@ -93,24 +92,32 @@ Lengths exact_lengths(const Model *m, size_t out)
     return (Lengths){m->a * m->n, m->b, out};
 }
 
-static size_t needed(size_t count, size_t limit, size_t size)
+/* As many of the model's constants and rows as it has, or where its sizes are beyond the limits, all that it holds. */
+static void *lend_constants(const Model *m, size_t length)
 {
-    return (count < limit ? count : limit) * size;
+    size_t all = COUNT(m->constants), sizes_fit = m->n <= WUNDRESKA_COLUMNS_MAX && m->a <= WUNDRESKA_ROWS_MAX;
+    return lend_copy(&constants_area, length * sizeof(uint16_t), m->constants,
+                     (sizes_fit ? m->n * m->a : all) * sizeof(uint16_t));
+}
+
+static void *lend_rows(const Model *m, size_t length)
+{
+    static uint64_t words[WUNDRESKA_ROWS_MAX * ROW_WORDS];
+    size_t rows = m->b < WUNDRESKA_ROWS_MAX ? m->b : WUNDRESKA_ROWS_MAX;
+    for (size_t r = 0; r < rows; r++)
+        put_words(m->parameters[r], words + r * ROW_WORDS);
+    return lend_copy(&rows_area, length * ROW_WORDS * sizeof(uint64_t), words, rows * ROW_WORDS * sizeof(uint64_t));
 }
 
 Called call_model(ModelCall *call, const Model *m, Lengths l, size_t written)
 {
-    size_t places = m->n <= LIMIT && m->a <= LIMIT ? m->n * m->a : LIMIT * LIMIT;
-    void *constants = lend_copy(&constants_area, l.constants * sizeof(uint16_t), m->constants,
-                                needed(places, LIMIT * LIMIT, sizeof(uint16_t)));
-    void *parameters = lend_copy(&parameters_area, l.parameters * sizeof(uint64_t), m->parameters,
-                                 needed(m->b, LIMIT, sizeof(uint64_t)));
+    void *constants = lend_constants(m, l.constants), *rows = lend_rows(m, l.rows);
     uint8_t *out = lend_to_write(l.out);
     remember(&constants_area);
-    remember(&parameters_area);
+    remember(&rows_area);
     remember(&out_area);
-    Called called =
-        outcome(call(m->p, m->n, m->a, m->b, constants, l.constants, parameters, l.parameters, out, l.out), written);
-    called.intact = called.intact && unchanged(&constants_area, 0) && unchanged(&parameters_area, 0);
+    Called called = outcome(
+        call(m->p, m->n, m->a, m->b, constants, l.constants, rows, l.rows * ROW_WORDS, out, l.out), written);
+    called.intact = called.intact && unchanged(&constants_area, 0) && unchanged(&rows_area, 0);
     return called;
 }

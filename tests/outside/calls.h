@@ -8,19 +8,21 @@
 
 typedef struct {
     uint32_t refusal;
-    int intact;                  /* every lent byte is as before, but for those that an accepted call writes */
-    uint8_t out[FILE_MAX + 100]; /* the front of the area written to */
+    int intact;                            /* every lent byte is as before, but for those that an accepted call writes */
+    uint8_t out[WUNDRESKA_FILE_MAX + 100]; /* the front of the area written to */
 } Called;
 
+/* How many constants, parameter rows and bytes the areas hold. */
 typedef struct {
-    size_t constants, parameters, out;
+    size_t constants, rows, out;
 } Lengths;
 
 /* Areas that just hold what the model needs, and so many bytes to write to. */
 Lengths exact_lengths(const Model *model, size_t out);
 
-/* The call on a file, with an answer area of this length. */
-Called call_check(const uint8_t *file, size_t length, size_t answer_length);
+/* A call on a file, with an answer area of this length, which writes `written` bytes where it is accepted. */
+typedef uint32_t FileCall(const uint8_t *file, size_t file_len, uint8_t *answer, size_t answer_len);
+Called call_file(FileCall *call, const uint8_t *file, size_t length, size_t answer_length, size_t written);
 
 /* A call on a model, which writes `written` bytes where it is accepted. What the areas have beyond the model is not a
  * legal constant or parameter row. */

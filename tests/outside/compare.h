@@ -1,38 +1,45 @@
-/* What the parts of the comparison share: the primes, the tally of cases, and the complaints about a call. */
+/* What the parts of the comparison share: the tally of cases, and the complaints about a call. */
 #ifndef COMPARE_H
 #define COMPARE_H
 
 #include "calls.h"
 #include "reference.h"
-#include "wundreska.h"
-
-static const uint32_t all_primes[] = {2, 3, 5, 7, 1021, 65519, 65521};
-#define COUNT(list) (sizeof(list) / sizeof(list)[0])
-
-/* ---- tally.c ---- */
-
-void begin_category(const char *name);
-
-/* Counts a case, which fails where there is a complaint. */
-void count_case(const char *complaint, const Model *model);
-
-/* Prints the last line; how many cases failed. */
-unsigned long end_tally(void);
+#include "tally.h"
 
 /* ---- complaints.c: NULL where there is none ---- */
 
 /* About the refusal number and the bytes that must not change. */
 const char *refusal_complaint(const Called *called, uint32_t refusal);
 
-/* About an accepted layered answer. */
-const char *answer_complaint(const Model *model, const Called *called, Truth truth);
-
-/* About an accepted mixed answer; the truth is that of the layered form. */
-const char *mixed_answer_complaint(const Model *model, const Called *called, size_t rank, Truth form);
+/* About the answer of an accepted call. */
+const char *called_complaint(const Model *model, const Called *called, Truth truth);
+const char *called_mixed_complaint(const Model *model, const Called *called);
 
 /* About a call on a sound model, in areas that just hold it. */
 const char *layered_complaint(const Model *model, Truth truth);
 const char *mixed_complaint(const Model *model, size_t rank, Truth form);
+
+/* ---- questions.c ---- */
+
+/* A question that a host asks about a file. */
+typedef struct {
+    FileCall *call;
+    size_t size;                          /* bytes of its answer */
+    uint32_t (*judge)(const Model *model); /* its own refusal of a sound file's model, or 0 */
+    const char *(*complaint)(const Model *model, const Called *called);
+} Question;
+
+extern const Question layered_question, mixed_question;
+
+/* About the call on any bytes, with an answer area of any length; the model is that of the file. */
+const char *file_complaint(const Question *question, const uint8_t *file, size_t length, size_t answer_length, Model *model);
+
+/* Counts a case: with this answer area; with one that is mostly just right, and else short or longer. */
+void try_area(const Question *question, const uint8_t *file, size_t length, size_t answer_length);
+void try_file(const Question *question, const uint8_t *file, size_t length);
+
+/* On small models, with areas from nothing to twice the answer. */
+void try_areas_of_every_length(const Question *question);
 
 /* ---- the categories ---- */
 
@@ -43,8 +50,15 @@ void compare_files(void); /* compare_files.c */
 void compare_damaged_files(void);
 void compare_primes(void);
 void compare_sizes(void);
+void compare_mixed_files(void); /* compare_mixed.c */
 void compare_edges(void); /* compare_refusals.c */
 void compare_mixed_sizes(void);
 void compare_spoilt_models(void);
+
+/* ---- numbers.c ---- */
+
+/* Writes so many files, most of them damaged, into a folder as 0.model, 1.model, ..; prints the library's number for each.
+ * How many could not be written. */
+int write_numbered_files(const char *folder, int count);
 
 #endif

@@ -3,31 +3,6 @@
 
 #include <string.h>
 
-/* The call on any bytes, with an answer area of any length. */
-static const char *file_complaint(const uint8_t *file, size_t length, size_t answer_length, Model *m)
-{
-    uint32_t refusal = judge_file(file, length, m);
-    if (refusal == 0 && answer_length < WUNDRESKA_ANSWER_SIZE)
-        refusal = 8;
-    Called c = call_check(file, length, answer_length);
-    const char *complaint = refusal_complaint(&c, refusal);
-    return complaint || refusal ? complaint : answer_complaint(m, &c, layered_truth(m));
-}
-
-static void try_area(const uint8_t *file, size_t length, size_t answer_length)
-{
-    static Model m;
-    m = (Model){0};
-    const char *complaint = file_complaint(file, length, answer_length, &m);
-    count_case(complaint, &m);
-}
-
-/* With an answer area that is mostly just right, and else short by one or longer. */
-static void try_file(const uint8_t *file, size_t length)
-{
-    try_area(file, length, WUNDRESKA_ANSWER_SIZE - one_in(5) + (one_in(5) ? draw(100) : 0));
-}
-
 static const char *written_complaint(const Model *m, const uint8_t *file, size_t length, size_t room)
 {
     Called c = call_model(harness_write, m, exact_lengths(m, room), length);
@@ -39,96 +14,65 @@ static const char *written_complaint(const Model *m, const uint8_t *file, size_t
 
 void compare_files(void)
 {
-    static uint8_t file[FILE_MAX];
+    static uint8_t file[WUNDRESKA_FILE_MAX];
     begin_category("files written, into areas just right, short by one and longer");
     for (int i = 0; i < 3000; i++) {
-        Model m = draw_model(all_primes, COUNT(all_primes), LIMIT, LIMIT);
+        Model m = draw_model(all_primes, COUNT(all_primes), WUNDRESKA_COLUMNS_MAX, WUNDRESKA_ROWS_MAX);
         size_t length = write_file(&m, file), room = one_in(3) ? length - 1 : length + draw(50);
         count_case(written_complaint(&m, file, length, room), &m);
     }
-    begin_category("files checked, with answer areas just right, short by one and longer");
+    begin_category("files checked, with answer areas just right, short and longer");
     for (int i = 0; i < 2000; i++) {
-        Model m = draw_model(all_primes, COUNT(all_primes), LIMIT, LIMIT);
-        try_file(file, write_file(&m, file));
+        Model m = draw_model(all_primes, COUNT(all_primes), WUNDRESKA_COLUMNS_MAX, WUNDRESKA_ROWS_MAX);
+        try_file(&layered_question, file, write_file(&m, file));
     }
-    begin_category("files checked, with answer areas of 0 to 180 bytes");
-    for (size_t length = 0; length <= 180; length++) {
-        Model m = draw_model(all_primes, COUNT(all_primes), 8, 8);
-        try_area(file, write_file(&m, file), length);
-    }
+    begin_category("files checked, with answer areas of every length up to twice the answer");
+    try_areas_of_every_length(&layered_question);
 }
 
-enum { LONGER = 4 };
+/* ---- damaged files ---- */
 
 static void try_prefixes(const uint8_t *file, size_t length)
 {
     for (size_t cut = 0; cut < length; cut++)
-        try_file(file, cut);
+        try_file(&layered_question, file, cut);
 }
 
-static void try_extensions(uint8_t *file, size_t length)
+static void try_flips(uint8_t *file, size_t length)
 {
-    for (size_t i = 0; i < LONGER; i++) {
-        file[length + i] = draw(8);
-        try_file(file, length + i + 1);
+    for (size_t bit = 0; bit < 8 * length; bit++) {
+        file[bit / 8] ^= 1 << bit % 8;
+        try_file(&layered_question, file, length);
+        file[bit / 8] ^= 1 << bit % 8;
     }
 }
 
-static void try_flip(uint8_t *file, size_t length, size_t bit)
+static void try_damages(const uint8_t *file, size_t length, size_t count)
 {
-    file[bit / 8] ^= 1 << bit % 8;
-    try_file(file, length);
-    file[bit / 8] ^= 1 << bit % 8;
-}
-
-/* Small numbers are tags and sizes more often than others are. */
-static void try_changed_byte(uint8_t *file, size_t length)
-{
-    size_t place = draw(length);
-    uint8_t kept = file[place];
-    file[place] = one_in(2) ? draw(8) : draw(256);
-    try_file(file, length);
-    file[place] = kept;
-}
-
-/* A byte too few or too many within the file. */
-static void try_shifted(const uint8_t *file, size_t length)
-{
-    static uint8_t other[FILE_MAX + 1];
-    size_t place = draw(length);
-    memcpy(other, file, length);
-    memmove(other + place, file + place + 1, length - place - 1);
-    try_file(other, length - 1);
-    memcpy(other, file, place + 1);
-    memcpy(other + place + 1, file + place, length - place);
-    try_file(other, length + 1);
-}
-
-static void damage_file(uint8_t *file, size_t length, size_t flips, size_t changes)
-{
-    try_prefixes(file, length);
-    try_extensions(file, length);
-    for (size_t i = 0; i < flips; i++)
-        try_flip(file, length, flips == 8 * length ? i : draw(8 * length));
-    for (size_t i = 0; i < changes; i++) {
-        try_changed_byte(file, length);
-        try_shifted(file, length);
+    static uint8_t damaged[WUNDRESKA_FILE_MAX + DAMAGE_ROOM];
+    for (size_t i = 0; i < count; i++) {
+        memcpy(damaged, file, length);
+        try_file(&layered_question, damaged, damage_file(damaged, length));
     }
 }
 
 void compare_damaged_files(void)
 {
-    static uint8_t file[FILE_MAX + LONGER];
-    begin_category("damaged small files: every prefix, every bit flipped, bytes changed, left out, doubled, added");
+    static uint8_t file[WUNDRESKA_FILE_MAX];
+    begin_category("damaged small files: every prefix, every bit turned, random damage");
     for (int i = 0; i < 100; i++) {
         Model m = draw_model(all_primes, COUNT(all_primes), 8, 6);
         size_t length = write_file(&m, file);
-        damage_file(file, length, 8 * length, length);
+        try_prefixes(file, length);
+        try_flips(file, length);
+        try_damages(file, length, 3 * length);
     }
-    begin_category("damaged large files: every prefix, some bits flipped, bytes changed, left out, doubled, added");
+    begin_category("damaged large files: every prefix, random damage");
     for (int i = 0; i < 12; i++) {
-        Model m = draw_model(all_primes, COUNT(all_primes), LIMIT, LIMIT);
-        damage_file(file, write_file(&m, file), 100, 100);
+        Model m = draw_model(all_primes, COUNT(all_primes), WUNDRESKA_COLUMNS_MAX, WUNDRESKA_ROWS_MAX);
+        size_t length = write_file(&m, file);
+        try_prefixes(file, length);
+        try_damages(file, length, 400);
     }
 }
 
@@ -136,12 +80,12 @@ void compare_damaged_files(void)
 
 void compare_primes(void)
 {
-    static uint8_t file[FILE_MAX];
+    static uint8_t file[WUNDRESKA_FILE_MAX];
     begin_category("every p of two bytes, in a file");
     for (uint32_t p = 0; p <= UINT16_MAX; p++) {
         Model m = {.p = p, .n = 1}, judged;
         size_t length = write_file(&m, file);
-        Called c = call_check(file, length, WUNDRESKA_ANSWER_SIZE);
+        Called c = call_file(wundreska_check, file, length, WUNDRESKA_ANSWER_SIZE, WUNDRESKA_ANSWER_SIZE);
         count_case(refusal_complaint(&c, judge_file(file, length, &judged)), &m);
     }
     begin_category("p up to 70,000 and larger ones, handed over");
@@ -153,14 +97,17 @@ void compare_primes(void)
     }
 }
 
+/* Where n, a and b stand in a file. */
+enum { SIZES_AT = 8 };
+
 void compare_sizes(void)
 {
-    static uint8_t file[FILE_MAX];
+    static uint8_t file[WUNDRESKA_FILE_MAX];
     begin_category("every n, a and b of one byte, in files made for another");
     for (int i = 0; i < 3 * 256 * 4; i++) {
         Model m = draw_model(all_primes, COUNT(all_primes), 8, 6);
         size_t length = write_file(&m, file);
-        file[8 + i % 3] = i / 3 % 256;
-        try_file(file, length);
+        file[SIZES_AT + i % 3] = i / 3 % 256;
+        try_file(&layered_question, file, length);
     }
 }

@@ -11,7 +11,7 @@ enum { LAYERED, MIXED, NOT_STATED = -1 };
 static const struct {
     const char *name;
     int kind, rank;
-    int64_t placed, short_set;
+    int placed, short_set;
 } bench_models[] = {
     {"s1", LAYERED, 0, 0, 1},
     {"s2", LAYERED, 2, 3, 0},
@@ -34,7 +34,7 @@ static const struct {
 static uint32_t load(const char *folder, const char *name, Model *m)
 {
     char path[512];
-    static uint8_t file[FILE_MAX + 1];
+    static uint8_t file[WUNDRESKA_FILE_MAX + 1];
     snprintf(path, sizeof path, "%s/%s.model", folder, name);
     FILE *in = fopen(path, "rb");
     size_t length = in ? fread(file, 1, sizeof file, in) : 0;
@@ -43,9 +43,9 @@ static uint32_t load(const char *folder, const char *name, Model *m)
     return judge_file(file, length, m);
 }
 
-static int stated_and_other(int64_t stated, uint64_t found)
+static int stated_and_other(int stated, Set found)
 {
-    return stated != NOT_STATED && (uint64_t)stated != found;
+    return stated != NOT_STATED && (Set)stated != found;
 }
 
 static const char *bench_complaint(const char *folder, size_t i, Model *m)
@@ -53,8 +53,10 @@ static const char *bench_complaint(const char *folder, size_t i, Model *m)
     if (load(folder, bench_models[i].name, m) != 0)
         return "the file is not a model";
     if (bench_models[i].kind == MIXED) {
+        static uint8_t file[WUNDRESKA_FILE_MAX];
         Model form = layered_form(m);
-        return mixed_complaint(m, bench_models[i].rank, layered_truth(&form));
+        const char *complaint = mixed_complaint(m, bench_models[i].rank, layered_truth(&form));
+        return complaint ? complaint : file_complaint(&mixed_question, file, write_file(m, file), WUNDRESKA_MIXED_SIZE, m);
     }
     Truth truth = layered_truth(m);
     if ((size_t)bench_models[i].rank != truth.rank || stated_and_other(bench_models[i].placed, truth.placed) ||
@@ -99,7 +101,7 @@ static const char *definition_complaint(const Model *m)
     Truth truth = layered_truth(m);
     if (truth.rank != e.rank || truth.placed != e.placed || truth.short_set != e.short_set || !e.short_is_least)
         return "the reference differs from the definitions";
-    for (uint64_t set = 0; set <= all_below(m->n); set++)
+    for (Set set = 0; set <= all_below(m->n); set++)
         if (e.sums[set] < e.rank || e.sums[set] != sum_of(m, set))
             return "the sum of a column set";
     return layered_complaint(m, truth);
@@ -183,10 +185,10 @@ void compare_random_models(void)
 {
     begin_category("layered models up to 12 columns and rows");
     compare_layered(20000, 12, 12);
-    begin_category("layered models up to 64 columns and rows");
-    compare_layered(6000, LIMIT, LIMIT);
+    begin_category("layered models of all sizes");
+    compare_layered(6000, WUNDRESKA_COLUMNS_MAX, WUNDRESKA_ROWS_MAX);
     begin_category("mixed models up to 12 columns of the layered form");
     compare_mixed(10000, 12);
-    begin_category("mixed models up to 64 columns of the layered form");
-    compare_mixed(4000, LIMIT);
+    begin_category("mixed models of all sizes");
+    compare_mixed(4000, WUNDRESKA_COLUMNS_MAX);
 }

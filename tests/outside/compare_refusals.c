@@ -7,14 +7,14 @@
 
 static void expect_file(const uint8_t *file, size_t length, const Model *m, uint32_t refusal)
 {
-    Called c = call_check(file, length, WUNDRESKA_ANSWER_SIZE);
+    Called c = call_file(wundreska_check, file, length, WUNDRESKA_ANSWER_SIZE, WUNDRESKA_ANSWER_SIZE);
     count_case(refusal_complaint(&c, refusal), m);
 }
 
 /* By file and handed over. */
 static void expect(uint32_t p, size_t n, uint16_t constant, uint32_t refusal)
 {
-    static uint8_t file[FILE_MAX];
+    static uint8_t file[WUNDRESKA_FILE_MAX];
     Model m = {.p = p, .n = n, .a = 1};
     m.constants[0] = constant;
     Called c = call_model(harness_layered, &m, exact_lengths(&m, WUNDRESKA_ANSWER_SIZE), WUNDRESKA_ANSWER_SIZE);
@@ -22,10 +22,14 @@ static void expect(uint32_t p, size_t n, uint16_t constant, uint32_t refusal)
     expect_file(file, write_file(&m, file), &m, refusal);
 }
 
+/* By file and handed over. */
 static void expect_mixed(size_t n, size_t a, size_t b, uint32_t refusal)
 {
     Model m = {.p = 1021, .n = n, .a = a, .b = b};
-    Called c = call_model(harness_mixed, &m, exact_lengths(&m, MIXED_SIZE), MIXED_SIZE);
+    static uint8_t file[WUNDRESKA_FILE_MAX];
+    Called c = call_model(harness_mixed, &m, exact_lengths(&m, WUNDRESKA_MIXED_SIZE), WUNDRESKA_MIXED_SIZE);
+    count_case(refusal_complaint(&c, refusal), &m);
+    c = call_file(wundreska_mixed, file, write_file(&m, file), WUNDRESKA_MIXED_SIZE, WUNDRESKA_MIXED_SIZE);
     count_case(refusal_complaint(&c, refusal), &m);
 }
 
@@ -39,19 +43,19 @@ static void compare_shortcut(void)
 
 void compare_edges(void)
 {
-    static uint8_t file[FILE_MAX + 1];
+    static uint8_t file[WUNDRESKA_FILE_MAX + 1];
     begin_category("edges, with the paper's numbers");
-    expect(1021, 64, 0, 0);
+    expect(1021, WUNDRESKA_COLUMNS_MAX, 0, 0);
     expect(1021, 0, 0, 4);
-    expect(1021, 65, 0, 4);
+    expect(1021, WUNDRESKA_COLUMNS_MAX + 1, 0, 4);
     expect(2, 1, 0, 0);
-    expect(65521, 1, 0, 0);
+    expect(WUNDRESKA_PRIME_MAX, 1, 0, 0);
     expect(1, 1, 0, 3);
     expect(65535, 1, 0, 3);
     expect(1021, 1, 1020, 0);
     expect(1021, 1, 1021, 5);
-    expect_mixed(63, 1, 1, 0);
-    expect_mixed(64, 1, 1, 10);
+    expect_mixed(WUNDRESKA_COLUMNS_MAX - 1, 1, 1, 0);
+    expect_mixed(WUNDRESKA_COLUMNS_MAX, 1, 1, 10);
     expect_mixed(2, 1, 2, 10);
     Model m = draw_model(all_primes, COUNT(all_primes), 8, 8);
     size_t length = write_file(&m, file);
@@ -65,9 +69,9 @@ void compare_edges(void)
 void compare_mixed_sizes(void)
 {
     begin_category("every n and a = b, mixed");
-    for (size_t n = 1; n <= LIMIT; n++)
-        for (size_t a = 0; a <= LIMIT; a++)
-            expect_mixed(n, a, a, a + n > LIMIT ? 10 : 0);
+    for (size_t n = 1; n <= WUNDRESKA_COLUMNS_MAX; n++)
+        for (size_t a = 0; a <= WUNDRESKA_ROWS_MAX; a++)
+            expect_mixed(n, a, a, a + n > WUNDRESKA_COLUMNS_MAX ? 10 : 0);
 }
 
 /* ---- models handed over with several faults at once ---- */
@@ -80,7 +84,8 @@ static void spoil_prime(Model *m)
 
 static void spoil_size(Model *m)
 {
-    static const size_t others[] = {65, 66, 128, 256, 257, SIZE_MAX, (size_t)1 << 32, ((size_t)1 << 32) + 1};
+    static const size_t others[] = {WUNDRESKA_COLUMNS_MAX + 1, WUNDRESKA_ROWS_MAX + 2, 2 * WUNDRESKA_COLUMNS_MAX, 256, 257,
+                                    SIZE_MAX, (size_t)1 << 32, ((size_t)1 << 32) + 1};
     size_t *sizes[] = {&m->n, &m->a, &m->b};
     *sizes[draw(3)] = one_in(4) ? 0 : others[draw(COUNT(others))];
 }
@@ -92,8 +97,9 @@ static void spoil_constant(Model *m)
 
 static void spoil_parameter(Model *m)
 {
-    if (m->n < 64)
-        m->parameters[draw(m->b + 1)] |= UINT64_C(1) << (m->n + draw(64 - m->n));
+    enum { WIDTH = 64 * ROW_WORDS };
+    if (m->n < WIDTH)
+        m->parameters[draw(m->b + 1)] |= just(m->n + draw(WIDTH - m->n));
 }
 
 /* Up to all faults; the lengths are those of the sound model, some short by one, some longer. */
@@ -104,7 +110,7 @@ static Lengths spoil(Model *m, size_t written)
         spoil_constant(m);
     if (one_in(3))
         spoil_parameter(m);
-    size_t *lengths[] = {&l.constants, &l.parameters, &l.out};
+    size_t *lengths[] = {&l.constants, &l.rows, &l.out};
     for (int i = 0; i < 3; i++)
         *lengths[i] += one_in(3) ? draw(5) : 0;
     for (int i = 0; i < 3; i++)
@@ -118,7 +124,7 @@ static Lengths spoil(Model *m, size_t written)
 
 static uint32_t expected_refusal(const Model *m, Lengths l, int mixed, size_t written)
 {
-    uint32_t refusal = judge_areas(m, l.constants, l.parameters);
+    uint32_t refusal = judge_areas(m, l.constants, l.rows);
     if (!refusal && mixed)
         refusal = judge_mixed(m);
     if (!refusal && l.out < written)
@@ -131,25 +137,22 @@ static const char *layered_refusal_complaint(const Model *m, Lengths l)
     Called c = call_model(harness_layered, m, l, WUNDRESKA_ANSWER_SIZE);
     uint32_t refusal = expected_refusal(m, l, 0, WUNDRESKA_ANSWER_SIZE);
     const char *complaint = refusal_complaint(&c, refusal);
-    return complaint || refusal ? complaint : answer_complaint(m, &c, layered_truth(m));
+    return complaint || refusal ? complaint : called_complaint(m, &c, layered_truth(m));
 }
 
 static const char *mixed_refusal_complaint(const Model *m, Lengths l)
 {
-    Called c = call_model(harness_mixed, m, l, MIXED_SIZE);
-    uint32_t refusal = expected_refusal(m, l, 1, MIXED_SIZE);
+    Called c = call_model(harness_mixed, m, l, WUNDRESKA_MIXED_SIZE);
+    uint32_t refusal = expected_refusal(m, l, 1, WUNDRESKA_MIXED_SIZE);
     const char *complaint = refusal_complaint(&c, refusal);
-    if (complaint || refusal)
-        return complaint;
-    Model form = layered_form(m);
-    return mixed_answer_complaint(m, &c, mixed_rank(m), layered_truth(&form));
+    return complaint || refusal ? complaint : called_mixed_complaint(m, &c);
 }
 
 /* The file of a spoilt model that is accepted may be another than that of the sound one. */
 static const char *write_refusal_complaint(const Model *m, Lengths l)
 {
-    static uint8_t file[FILE_MAX];
-    uint32_t refusal = judge_areas(m, l.constants, l.parameters);
+    static uint8_t file[WUNDRESKA_FILE_MAX];
+    uint32_t refusal = judge_areas(m, l.constants, l.rows);
     size_t length = refusal ? 0 : write_file(m, file);
     if (!refusal && l.out < length)
         refusal = 8;
@@ -160,7 +163,7 @@ static const char *write_refusal_complaint(const Model *m, Lengths l)
 
 void compare_spoilt_models(void)
 {
-    static uint8_t file[FILE_MAX];
+    static uint8_t file[WUNDRESKA_FILE_MAX];
     begin_category("layered models handed over with several faults");
     for (int i = 0; i < 40000; i++) {
         Model m = draw_model(all_primes, COUNT(all_primes), 10, 8);
@@ -169,9 +172,9 @@ void compare_spoilt_models(void)
     }
     begin_category("mixed models handed over with several faults");
     for (int i = 0; i < 40000; i++) {
-        Model m = one_in(3) ? draw_model(all_primes, COUNT(all_primes), LIMIT, 10)
+        Model m = one_in(3) ? draw_model(all_primes, COUNT(all_primes), WUNDRESKA_COLUMNS_MAX, 10)
                             : draw_mixed(all_primes, COUNT(all_primes), 10);
-        Lengths l = spoil(&m, MIXED_SIZE);
+        Lengths l = spoil(&m, WUNDRESKA_MIXED_SIZE);
         count_case(mixed_refusal_complaint(&m, l), &m);
     }
     begin_category("models to write, with several faults");

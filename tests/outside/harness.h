@@ -1,7 +1,8 @@
 /* The library's calls for models handed over without a file, as the crate `harness` exports them for tests and measuring.
  *
- * Each takes p, n, a, b, the constants (row by row), the parameter rows as words, and an area to write to. Each returns 0 or
- * the refusal: 3, 4, 8 for the constants' and parameters' areas, 5, 6, 10 where mixed, and last 8 for the area written. */
+ * Each takes p, n, a, b, the constants (row by row), the parameter rows as words, and an area to write to; lengths count
+ * entries. Each returns 0 or the refusal: 3, 4, 8 for the constants' and parameters' areas, 5, 6, 10 where mixed, and last 8
+ * for the area written. */
 #ifndef HARNESS_H
 #define HARNESS_H
 
@@ -11,12 +12,11 @@
 typedef uint32_t ModelCall(uint32_t p, size_t n, size_t a, size_t b, const uint16_t *constants, size_t constants_len,
                            const uint64_t *parameters, size_t parameters_len, uint8_t *out, size_t out_len);
 
-/* The 90 bytes of wundreska_check. */
+/* The bytes of wundreska_check's answer. */
 ModelCall harness_layered;
 
-/* 26 bytes: verdict, rank, rows I, columns J, short set of the layered form, 8 bytes a set. */
+/* The bytes of wundreska_mixed's answer. */
 ModelCall harness_mixed;
-enum { MIXED_SIZE = 26, MIXED_ROWS = 2, MIXED_COLUMNS = 10, MIXED_SHORT = 18 };
 
 /* The bytes of the model's file. */
 ModelCall harness_write;

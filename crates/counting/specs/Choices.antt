@@ -1,6 +1,6 @@
--- The largest value of a number, and whether some or every test passes, over all functions that choose for each column below n one of finitely many
--- things; and the same over all sets of columns. The definitions of the rank, of the placed set and of the short set are made of these. Definitions
--- only: what they say stands in `ChoiceLaws`.
+-- `largest` is the maximum of F f, `some` is "there is an f with P f", `every` is "all f have P f", where f runs over all functions that choose for each
+-- column below n one of finitely many things (a seat, or in and out of a set): finite, so that they compute. Rank, placed set and short set are made of
+-- these. Definitions only: that they are maximum and quantifiers is proved in `ChoiceLaws` (`largest-le`, `largest-at`, `some-iff`, `every-iff`).
 use Prim.Native.Nat.{ℕ, zero, suc, max, _<_}
 use mathlib.Core.Bool.{Bool, true, false, not, decide}
 use native.Mathlib.Decide.{decLt}

@@ -1,4 +1,3 @@
--- A call that lends an area, the bytes of answers, and the laws that the proofs of such calls use.
+-- A call that lends an area, and the bytes of answers.
 pub mod AreaCall
-pub mod AreaLaws
 pub mod AnswerBytes

@@ -1,5 +1,4 @@
--- What the layered rank call promises, the model in a file, and the laws that the proofs use.
+-- The model in a file, what the layered rank call promises, and laws that its proof uses.
 pub mod FileModel
 pub mod Answers
 pub mod AnswerLaws
-pub mod FileLaws

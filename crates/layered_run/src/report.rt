@@ -1,5 +1,5 @@
 // One line for a model: its name, and what the layered rank call answers.
-use solvability::Answer;
+use layered::Answer;
 
 // No row shows a column.
 const NONE: u8 = 255;
@@ -42,7 +42,7 @@ fn tell(answer: Answer) {
 
 // The rest of a line whose name is written.
 pub fn answer_line(p: u32, n: usize, a: usize, b: usize, constants: &[u16], parameters: &[u64]) {
-    tell(solvability::layered_rank(p, n, a, b, constants, parameters));
+    tell(layered::layered_rank(p, n, a, b, constants, parameters));
 }
 
 // A whole line.

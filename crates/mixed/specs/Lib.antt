@@ -3,4 +3,3 @@ pub mod MixedForm
 pub mod MixedEntries
 pub mod MixedAnswers
 pub mod MixedAnswerLaws
-pub mod MixedFileLaws

@@ -47,14 +47,7 @@ fn refuse(number: u32) -> MixedAnswer
 }
 
 // The refusal of a mixed question, or 0.
-pub fn judge_mixed(
-    p: u32,
-    n: usize,
-    a: usize,
-    b: usize,
-    constants: &[u16],
-    parameters: &[u64],
-) -> u32
+fn judge_mixed(p: u32, n: usize, a: usize, b: usize, constants: &[u16], parameters: &[u64]) -> u32
     ensures { λ r. ⌜ r ≡ mixed-refusal p n a b (now (constants .entry)) (row-numbers (now (parameters .entry))) ⌝ }
 {
     let number = judge_model(p, n, a, b, constants, parameters);

@@ -1,5 +1,5 @@
 // One line for a model: its name, and what the mixed rank call answers.
-use solvability::MixedAnswer;
+use mixed::MixedAnswer;
 
 pub fn number(n: u64) {
     io::write_all(1, b" ");
@@ -25,11 +25,7 @@ fn tell(answer: MixedAnswer, m: usize, n: usize) {
 
 // The rest of a line whose name is written.
 pub fn answer_line(p: u32, n: usize, a: usize, b: usize, constants: &[u16], parameters: &[u64]) {
-    tell(
-        solvability::mixed_rank(p, n, a, b, constants, parameters),
-        a,
-        n,
-    );
+    tell(mixed::mixed_rank(p, n, a, b, constants, parameters), a, n);
 }
 
 // A whole line.

@@ -1,26 +1,31 @@
--- The report of a file, by the answer to its model. Assumes nothing.
+-- The report of a rank call, by the answer that it gives. Assumes nothing.
 use Prim.Native.Nat.{ℕ, _≤_}
-use mathlib.Core.Path.{_≡_, sym, ap, _∙_}
+use mathlib.Core.Path.{sym, ap, _∙_}
 use mathlib.Core.List.{List}
 use lib.ListN.{length}
 use native.Mathlib.Decide.{ℕ-discrete}
-use Rattle.format.specs.File.Format.{judge}
-use Rattle.layered.specs.declared.Answer.{Answer}
-use Rattle.layered.specs.Answers.{LayeredFileCall}
-use Rattle.report.specs.Report.{refused-line, report-text, Reporting}
-use Rattle.report.specs.ReportLaws.{reporting-as, reporting-within, report-refused, report-answer}
-use Rattle.report.specs.FileReport.{FileReport}
+use Rattle.layered.specs.Answers.{RankCall}
+use Rattle.text.specs.declared.Printed.{Printed}
+use Rattle.text.specs.Text.{refused-line, Prints}
+use Rattle.text.specs.PutLaws.{prints-as, prints-within}
+use Rattle.report.specs.Report.{report-text}
+use Rattle.report.specs.ReportLaws.{report-refused, report-answer}
+use Rattle.report.specs.FileReport.{Reports}
 
-pub file-reported : {s out out′ : List ℕ} {len : ℕ} (t : Answer) → LayeredFileCall s t → Reporting (report-text (t .refusal) (t .verdict) (t .rank) (t .constants) (t .short) (t .rows)) out len out′ → FileReport s out len out′
-file-reported t h w =
-    record {
-      if-refused = λ z. reporting-as (report-refused _ _ _ _ _ _ (λ y. z (sym (h .is-refusal) ∙ y)) ∙ ap refused-line (h .is-refusal)) w;
-      if-accepted = λ z. record { answer = t; is-answer = h .if-accepted z; is-shown = reporting-as (report-answer _ _ _ _ _ _ (h .is-refusal ∙ z)) w };
-    }
+pub call-reported : {A : Type 0} {Holds : A → Type 0} {text : A → List ℕ} {due : ℕ} {area area′ : List ℕ} {r : Printed} {Refused : Type 0} (t : A) (given : ℕ) → RankCall due given Refused (Holds t)
+    → Prints (report-text given (text t)) area r area′ → Reports due Holds text area r area′
+call-reported t given h w = record {
+  if-refused = λ nz. prints-as (report-refused given _ (λ z. nz (sym (h .is-refusal) ∙ z)) ∙ ap refused-line (h .is-refusal)) w;
+  if-accepted = λ z. record {
+    answer = t;
+    is-answer = h .if-accepted z;
+    is-shown = prints-as (report-answer given _ (h .is-refusal ∙ z)) w;
+  };
+}
 
--- a report lies within the area
-pub file-report-within : {file out out′ : List ℕ} {r : ℕ} → FileReport file out r out′ → r ≤ length out′
-file-report-within {file} h = elim (ℕ-discrete (judge file) 0) [
-  | yes z ↦ reporting-within (h .if-accepted z .is-shown)
-  | no nz ↦ reporting-within (h .if-refused nz)
+-- a report lies within the area, so that the caller may lend that part on
+pub reports-within : {A : Type 0} {Holds : A → Type 0} {text : A → List ℕ} {due : ℕ} {area area′ : List ℕ} {r : Printed} → Reports due Holds text area r area′ → r .length ≤ length area′
+reports-within {due = due} h = elim (ℕ-discrete due 0) [
+  | yes z ↦ prints-within (h .if-accepted z .is-shown)
+  | no nz ↦ prints-within (h .if-refused nz)
 ]

@@ -1,23 +1,22 @@
--- The report's text, computed: document 01's example whole, a model that is open, a refusal, and decimals at their edges. Assumes nothing.
+-- The report's text, computed: document 01's example whole, a model that is open, and a refusal. Assumes nothing.
+use Prim.Native.Nat.{_-_}
 use mathlib.Core.Path.{_≡_, refl}
-use mathlib.Core.List.{[], _∷_, _++_, flatMap}
+use mathlib.Core.List.{[], _∷_, flatMap}
 use lib.ListN.{replicate}
 use Rattle.columns.specs.Columns.{members}
-use Rattle.report.specs.Report.{ascii, digits, decimal, line, item, columns-from, column-items, row-item, row-items, verdict-line, answer-text, refused-line, report-text}
+use Rattle.limits.specs.Limits.{most-rows, no-column}
+use Rattle.text.specs.Text.{ascii, digits, decimal, line, item, columns-from, column-items, verdict-line, refused-line}
+use Rattle.report.specs.Report.{row-item, row-items, answer-text, report-text}
 
-document-example : report-text 0 1 2 1 0 (1 ∷ replicate 63 255) ≡ ascii "verdict determined\nrank 2\nconstants 0\nparameters 0:1\nshort\n"
+document-example : report-text 0 (answer-text (record { refusal = 0; verdict = 1; rank = 2; placed = 3; constants = 1; short = 0; rows = 1 ∷ replicate (most-rows - 1) no-column })) ≡ ascii "verdict determined\nrank 2\nconstants 0\nparameters 0:1\nshort\n"
 unfolding ascii digits decimal line item columns-from column-items row-item row-items verdict-line answer-text report-text members flatMap
 document-example = refl
 
--- columns 0, 9, 10 and 63; rows 1 and 63
-open-example : report-text 0 0 64 9223372036854777345 3 (255 ∷ 63 ∷ (replicate 61 255 ++ (10 ∷ []))) ≡ ascii "verdict open\nrank 64\nconstants 0 9 10 63\nparameters 1:63 63:10\nshort 0 1\n"
+-- columns 0, 9, 10 and 63; rows 1 and 3
+open-example : report-text 0 (answer-text (record { refusal = 0; verdict = 0; rank = 64; placed = 0; constants = 9223372036854777345; short = 3; rows = no-column ∷ 63 ∷ no-column ∷ 10 ∷ [] })) ≡ ascii "verdict open\nrank 64\nconstants 0 9 10 63\nparameters 1:63 3:10\nshort 0 1\n"
 unfolding ascii digits decimal line item columns-from column-items row-item row-items verdict-line answer-text report-text members flatMap
 open-example = refl
 
-refusal-example : report-text 7 0 0 0 0 (replicate 64 255) ≡ ascii "refused 7\n"
+refusal-example : report-text 7 (answer-text (record { refusal = 7; verdict = 0; rank = 0; placed = 0; constants = 0; short = 0; rows = replicate most-rows no-column })) ≡ ascii "refused 7\n"
 unfolding ascii digits decimal line item refused-line report-text
 refusal-example = refl
-
-decimals : (decimal 0 ≡ ascii "0") × (decimal 9 ≡ ascii "9") × (decimal 10 ≡ ascii "10") × (decimal 100 ≡ ascii "100") × (decimal 255 ≡ ascii "255")
-unfolding ascii digits decimal
-decimals = (refl, refl, refl, refl, refl)

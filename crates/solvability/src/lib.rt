@@ -14,7 +14,6 @@ pub use loader::judge_row;
 pub use loader::read_file;
 pub use loader::row;
 pub use mixed::MixedAnswer;
-pub use mixed::judge_mixed;
 pub use mixed::mixed_file;
 pub use mixed::mixed_rank;
 pub use writer::Written;

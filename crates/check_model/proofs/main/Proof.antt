@@ -1,7 +1,7 @@
 -- `main` meets its contract: the report lies within the text. Assumes nothing.
 use mathlib.Core.Path.{sym}
 use lib.Seq.{length-take-le}
-use Rattle.report.specs.FileReportLaws.{file-report-within}
+use Rattle.report.specs.FileReportLaws.{reports-within}
 use borrow.Author.Needs.{needs}
 use Rattle.check_model.proofs.main.Statement.{statement}
 use Rattle.check_model.proofs.main.Tie as tie
@@ -25,12 +25,12 @@ report-file-requires : tie.Need-report-file-requires
 report-file-requires c κs = search needs
 
 array-share-prefix-text : tie.Need-array-share-prefix-text
-array-share-prefix-text c = search (needs, file-report-within (c .before .report-file .ensures))
+array-share-prefix-text c = search (needs, reports-within (c .before .report-file .ensures))
 
 slice-aggregate-write-all : tie.Need-slice-aggregate-write-all
 slice-aggregate-write-all c =
     let r = c .before .before .report-file in
-    search (needs, sym (length-take-le (r .result) (r .last .1 .0) (file-report-within (r .ensures))))
+    search (needs, sym (length-take-le (r .result .length) (r .last .1 .0) (reports-within (r .ensures))))
 
 write-all-requires : tie.Need-write-all-requires
 write-all-requires c κs = search needs

@@ -5,7 +5,7 @@ use borrow.Author.Needs.{needs}
 use Rattle.format.specs.Refusals.{first-refusal, model-tests, refusal}
 use Rattle.rank.specs.ListedModel.{listed-model}
 use Rattle.host.specs.AnswerBytes.{answer-length, answer-bytes, AnswerWritten}
-use Rattle.host.specs.AreaLaws.{refused-before, answer-put}
+use Rattle.host.proofs.AreaLaws.{refused-before, answer-put}
 use Rattle.harness.proofs.harness_layered.Statement.{statement}
 use Rattle.harness.proofs.harness_layered.Tie as tie
 

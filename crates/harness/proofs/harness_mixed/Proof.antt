@@ -5,7 +5,7 @@ use borrow.Author.Needs.{needs}
 use Rattle.format.specs.Refusals.{first-refusal, mixed-tests, mixed-refusal}
 use Rattle.mixed_models.specs.Mixed.{mixed}
 use Rattle.host.specs.AnswerBytes.{mixed-length, mixed-bytes, MixedWritten}
-use Rattle.host.specs.AreaLaws.{refused-before, answer-put}
+use Rattle.host.proofs.AreaLaws.{refused-before, answer-put}
 use Rattle.harness.proofs.harness_mixed.Statement.{statement}
 use Rattle.harness.proofs.harness_mixed.Tie as tie
 

@@ -7,7 +7,7 @@ use borrow.Author.Needs.{needs}
 use Rattle.limits.specs.Limits.{most-rows}
 use Rattle.columns.specs.ColumnSets.{whole}
 use Rattle.host.specs.AnswerBytes.{front-length, front-bytes, answer-length, answer-bytes}
-use Rattle.host.specs.AreaLaws.{put-refused, put-done}
+use Rattle.host.proofs.AreaLaws.{put-refused, put-done}
 use Rattle.format.specs.OverLaws.{wrote-first, wrote-run, wrote-all}
 use Rattle.host.proofs.put_answer.Statement.{statement}
 use Rattle.host.proofs.put_answer.Tie as tie
@@ -36,13 +36,15 @@ same-length c = search needs
 returns-2 : tie.Need-returns-2
 unfolding front-bytes
 returns-2 c =
-    let start = c .before .before .before .before .before .before .before .before .before .before .before in
-    let r = start .args .answer in
+    let at-rows = c .before .before in
+    let at-front = at-rows .before .before .before .before .before in
+    let at-else = at-front .before .before in
+    let r = at-else .before .before .args .answer in
     let front = front-bytes (r .verdict) (r .rank) (whole (r .placed)) (whole (r .constants)) (whole (r .short)) in
-    let room = c .before .before .before .before .before .before .before .before .before .if1 .left in
-    let long = put-rows-requires (c .before .before .before) (c .before .before .put-rows .lifetimes) .1 in
-    let w₁ = wrote-first (answer-bytes r) front (r .rows) front-length refl (omega (arith, length-append front (r .rows), room)) (c .before .before .before .before .before .before .before .put-front .ensures) refl in
-    put-done answer-length (answer-bytes r) _ room (wrote-all (wrote-run (r .rows) [] _ most-rows w₁ (sym (append-nil (r .rows))) (c .before .before .put-rows .ensures) long) refl)
+    let room = at-else .if1 .left in
+    let long = put-rows-requires (at-rows .before) (at-rows .put-rows .lifetimes) .1 in
+    let w₁ = wrote-first (answer-bytes r) front (r .rows) front-length refl (omega (arith, length-append front (r .rows), room)) (at-front .put-front .ensures) refl in
+    put-done answer-length (answer-bytes r) _ room (wrote-all (wrote-run (r .rows) [] _ most-rows w₁ (sym (append-nil (r .rows))) (at-rows .put-rows .ensures) long) refl)
 
 pub put-answer-spec : {M : Type 1} → statement M
 put-answer-spec =

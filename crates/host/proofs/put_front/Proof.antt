@@ -55,14 +55,19 @@ same-length c = search needs
 returns : tie.Need-returns
 unfolding front-bytes
 returns c =
-    let a = c .before .before .before .before .before .before .before .before .before .before .before .before .before .before .before .before .before .args in
+    let at-third = c .before .before in
+    let at-second = at-third .before .before .before .before in
+    let at-first = at-second .before .before .before .before in
+    let at-numbers = at-first .before .before .before .before in
+    let start = at-numbers .before .before .before in
+    let a = start .args in
     let first = bytes-of set-bytes (whole (a .first)) in
     let second = bytes-of set-bytes (whole (a .second)) in
     let third = bytes-of set-bytes (whole (a .third)) in
-    let w₁ = wrote-first (front-bytes (a .verdict) (a .rank) (whole (a .first)) (whole (a .second)) (whole (a .third))) (a .verdict ∷ a .rank ∷ []) (first ++ (second ++ third)) 2 refl (c .before .before .before .before .before .before .before .before .before .before .before .before .before .before .before .before .before .pre) (c .before .before .before .before .before .before .before .before .before .before .before .before .before .before .put-numbers .ensures) refl in
-    let w₂ = wrote-room first (second ++ third) _ set-bytes w₁ refl (c .before .before .before .before .before .before .before .before .before .before .put-set .ensures .bytes-are) refl in
-    let w₃ = wrote-room second third _ set-bytes w₂ refl (c .before .before .before .before .before .before .put-set2 .ensures .bytes-are) refl in
-    wrote-all (wrote-room third [] _ set-bytes w₃ (sym (append-nil third)) (c .before .before .put-set3 .ensures .bytes-are) refl) refl
+    let w₁ = wrote-first (front-bytes (a .verdict) (a .rank) (whole (a .first)) (whole (a .second)) (whole (a .third))) (a .verdict ∷ a .rank ∷ []) (first ++ (second ++ third)) 2 refl (start .pre) (at-numbers .put-numbers .ensures) refl in
+    let w₂ = wrote-room first (second ++ third) _ set-bytes w₁ refl (at-first .put-set .ensures .bytes-are) refl in
+    let w₃ = wrote-room second third _ set-bytes w₂ refl (at-second .put-set2 .ensures .bytes-are) refl in
+    wrote-all (wrote-room third [] _ set-bytes w₃ (sym (append-nil third)) (at-third .put-set3 .ensures .bytes-are) refl) refl
 
 pub put-front-spec : {M : Type 1} → statement M
 put-front-spec =

@@ -1,7 +1,7 @@
 -- `host::put_mixed` meets its contract. Assumes nothing.
 use borrow.Author.Needs.{needs}
 use Rattle.host.specs.AnswerBytes.{mixed-length}
-use Rattle.host.specs.AreaLaws.{put-refused, put-done}
+use Rattle.host.proofs.AreaLaws.{put-refused, put-done}
 use Rattle.host.proofs.put_mixed.Statement.{statement}
 use Rattle.host.proofs.put_mixed.Tie as tie
 

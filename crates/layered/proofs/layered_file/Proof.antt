@@ -1,7 +1,7 @@
 -- `layered::layered_file` meets its contract, by what the reading and the layered rank call ensure. Assumes nothing.
 use mathlib.Core.Path.{sym, _∙_}
 use Rattle.columns.specs.Words.Bytes.{AreBytes}
-use Rattle.layered.specs.FileLaws.{own-refusal, call-refused, file-answered}
+use Rattle.layered.proofs.FileLaws.{own-refusal, call-refused, file-answered}
 use borrow.Author.Needs.{needs}
 use Rattle.layered.proofs.layered_file.Statement.{statement}
 use Rattle.layered.proofs.layered_file.Tie as tie

@@ -1,6 +1,6 @@
 -- `mixed::mixed_file` meets its contract, by what the reading and the mixed rank call ensure. Assumes nothing.
 use Rattle.columns.specs.Words.Bytes.{AreBytes}
-use Rattle.mixed.specs.MixedFileLaws.{mixed-file-refused, mixed-file-answered}
+use Rattle.mixed.proofs.MixedFileLaws.{mixed-file-refused, mixed-file-answered}
 use borrow.Author.Needs.{needs}
 use Rattle.mixed.proofs.mixed_file.Statement.{statement}
 use Rattle.mixed.proofs.mixed_file.Tie as tie

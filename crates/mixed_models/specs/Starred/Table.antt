@@ -80,62 +80,36 @@ unfoldable run : ℕ
 unfolding residues res mk plus times inv-of last members # indicator any all set choose touching beside unit pivot hits same-row among seats within pivoted owners proper owns sits apart sound rows-left spares spared earlier within-set refuses refused-by places-all below-all passes decide Dec·not ℕ-discrete decLe decLt
 run = 0
 
-passes-S1 : (P : Prime 1021) → passes (listed-modulo 1021 P 1 0 0 [] []) claim-S1 ≡ true
-unfolding run
-passes-S1 P = refl
+-- each claim passes its test: at 1,021, and S5 at 3
+record Passing (P : Prime 1021) (R : Prime 3) : Type 0 where
+  s1 : passes (listed-modulo 1021 P 1 0 0 [] []) claim-S1 ≡ true
+  s2 : passes (listed-modulo 1021 P 2 1 1 (1 ∷ 0 ∷ []) (2 ∷ [])) claim-S2 ≡ true
+  s3 : passes (listed-modulo 1021 P 2 2 0 (1 ∷ 1 ∷ 1 ∷ 1 ∷ []) []) claim-S3 ≡ true
+  s4 : passes (listed-modulo 1021 P 5 2 2 (1 ∷ 1 ∷ 1 ∷ 1 ∷ 0 ∷ 0 ∷ 2 ∷ 1 ∷ 1 ∷ 0 ∷ []) (17 ∷ 18 ∷ [])) claim-S4 ≡ true
+  s5 : passes (listed-modulo 3 R 2 2 0 (1 ∷ 2 ∷ 2 ∷ 1 ∷ []) []) claim-S5 ≡ true
+  s6 : passes (listed-modulo 1021 P 2 2 0 (1 ∷ 2 ∷ 2 ∷ 1 ∷ []) []) claim-S6 ≡ true
+  s7 : passes (layered-form (mixed-at 1021 P 1 1 (1 ∷ []) (1 ∷ []))) claim-S7 ≡ true
+  s8 : passes (layered-form (mixed-at 1021 P 2 2 (1 ∷ 1 ∷ 1 ∷ 1 ∷ []) (0 ∷ 0 ∷ []))) claim-S8 ≡ true
+  s9 : passes (layered-form (mixed-at 1021 P 2 2 (1 ∷ 1 ∷ 1 ∷ 1 ∷ []) (1 ∷ 0 ∷ []))) claim-S9 ≡ true
+  s10 : passes (listed-modulo 1021 P 2 0 2 [] (1 ∷ 1 ∷ [])) claim-S10 ≡ true
+  s11 : passes (listed-modulo 1021 P 1 0 2 [] (1 ∷ 1 ∷ [])) claim-S11 ≡ true
 
-passes-S2 : (P : Prime 1021) → passes (listed-modulo 1021 P 2 1 1 (1 ∷ 0 ∷ []) (2 ∷ [])) claim-S2 ≡ true
+passing : (P : Prime 1021) (R : Prime 3) → Passing P R
 unfolding run
-passes-S2 P = refl
-
-passes-S3 : (P : Prime 1021) → passes (listed-modulo 1021 P 2 2 0 (1 ∷ 1 ∷ 1 ∷ 1 ∷ []) []) claim-S3 ≡ true
-unfolding run
-passes-S3 P = refl
-
-passes-S4 : (P : Prime 1021) → passes (listed-modulo 1021 P 5 2 2 (1 ∷ 1 ∷ 1 ∷ 1 ∷ 0 ∷ 0 ∷ 2 ∷ 1 ∷ 1 ∷ 0 ∷ []) (17 ∷ 18 ∷ [])) claim-S4 ≡ true
-unfolding run
-passes-S4 P = refl
-
-passes-S5 : (P : Prime 3) → passes (listed-modulo 3 P 2 2 0 (1 ∷ 2 ∷ 2 ∷ 1 ∷ []) []) claim-S5 ≡ true
-unfolding run
-passes-S5 P = refl
-
-passes-S6 : (P : Prime 1021) → passes (listed-modulo 1021 P 2 2 0 (1 ∷ 2 ∷ 2 ∷ 1 ∷ []) []) claim-S6 ≡ true
-unfolding run
-passes-S6 P = refl
-
-passes-S10 : (P : Prime 1021) → passes (listed-modulo 1021 P 2 0 2 [] (1 ∷ 1 ∷ [])) claim-S10 ≡ true
-unfolding run
-passes-S10 P = refl
-
-passes-S11 : (P : Prime 1021) → passes (listed-modulo 1021 P 1 0 2 [] (1 ∷ 1 ∷ [])) claim-S11 ≡ true
-unfolding run
-passes-S11 P = refl
-
-passes-S7 : (P : Prime 1021) → passes (layered-form (mixed-at 1021 P 1 1 (1 ∷ []) (1 ∷ []))) claim-S7 ≡ true
-unfolding run
-passes-S7 P = refl
-
-passes-S8 : (P : Prime 1021) → passes (layered-form (mixed-at 1021 P 2 2 (1 ∷ 1 ∷ 1 ∷ 1 ∷ []) (0 ∷ 0 ∷ []))) claim-S8 ≡ true
-unfolding run
-passes-S8 P = refl
-
-passes-S9 : (P : Prime 1021) → passes (layered-form (mixed-at 1021 P 2 2 (1 ∷ 1 ∷ 1 ∷ 1 ∷ []) (1 ∷ 0 ∷ []))) claim-S9 ≡ true
-unfolding run
-passes-S9 P = refl
+passing P R = record { s1 = refl; s2 = refl; s3 = refl; s4 = refl; s5 = refl; s6 = refl; s7 = refl; s8 = refl; s9 = refl; s10 = refl; s11 = refl }
 
 pub table : Table
 unfolding modulus modulus-at true? is-prime undivided # indicator decide ℕ-discrete
-table = record {
-  s1 = answers S1 claim-S1 0 (passes-S1 (modulus 1021 .1)) refl;
-  s2 = answers S2 claim-S2 1 (passes-S2 (modulus 1021 .1)) refl;
-  s3 = answers S3 claim-S3 0 (passes-S3 (modulus 1021 .1)) refl;
-  s4 = answers S4 claim-S4 0 (passes-S4 (modulus 1021 .1)) refl;
-  s5 = answers S5 claim-S5 0 (passes-S5 (modulus 3 .1)) refl;
-  s6 = answers S6 claim-S6 1 (passes-S6 (modulus 1021 .1)) refl;
-  s7 = mixed-answers S7 claim-S7 1 1 (passes-S7 (modulus 1021 .1)) refl refl;
-  s8 = mixed-answers S8 claim-S8 0 1 (passes-S8 (modulus 1021 .1)) refl refl;
-  s9 = mixed-answers S9 claim-S9 1 2 (passes-S9 (modulus 1021 .1)) refl refl;
-  s10 = answers S10 claim-S10 0 (passes-S10 (modulus 1021 .1)) refl;
-  s11 = answers S11 claim-S11 1 (passes-S11 (modulus 1021 .1)) refl;
+table = let holds : Passing (modulus 1021 .1) (modulus 3 .1) = passing (modulus 1021 .1) (modulus 3 .1) in record {
+  s1 = answers S1 claim-S1 0 (holds .s1) refl;
+  s2 = answers S2 claim-S2 1 (holds .s2) refl;
+  s3 = answers S3 claim-S3 0 (holds .s3) refl;
+  s4 = answers S4 claim-S4 0 (holds .s4) refl;
+  s5 = answers S5 claim-S5 0 (holds .s5) refl;
+  s6 = answers S6 claim-S6 1 (holds .s6) refl;
+  s7 = mixed-answers S7 claim-S7 1 1 (holds .s7) refl refl;
+  s8 = mixed-answers S8 claim-S8 0 1 (holds .s8) refl refl;
+  s9 = mixed-answers S9 claim-S9 1 2 (holds .s9) refl refl;
+  s10 = answers S10 claim-S10 0 (holds .s10) refl;
+  s11 = answers S11 claim-S11 1 (holds .s11) refl;
 }

@@ -8,8 +8,9 @@ use Rattle.residue.specs.Fields.{Field}
 use Rattle.counting.specs.Sets.{Set, _∈_, #, all, set}
 use Rattle.rank.specs.Linear.Independence.{Indep}
 
--- A layered model: n columns, of which those in E are offered (document 01 offers all); a constant rows, with the constant Q i x in row i at column x;
--- b parameter rows, with a parameter in row r at column x where T r x; and a test for independent sets of constant columns, true of them and of no others.
+-- A layered model: n columns; a constant rows, with the constant Q i x in row i at column x; b parameter rows, with a parameter in row r at column x
+-- where T r x; E, the columns that are offered: an assignment places no others, and where document 01 says n their number is meant. Its own models
+-- offer all. Last a test for independent sets of constant columns, true of them and of no others.
 pub record Model : Type 1 where
   pub K : Field
   pub a : ℕ

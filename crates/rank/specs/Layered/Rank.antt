@@ -46,8 +46,8 @@ module _ (M : Model) where
   unfoldable pub matching : Set → ℕ
   matching J = largest-assignment (λ A. cond (legal M A && all n (λ x. row-outside J x (A x))) (size M A) 0)
 
-  -- the rank: the largest sum of a rank of the constants on some columns and a matching of parameter rows on the remaining ones;
-  -- `rank-largest` says that it is the largest number of columns in a legal assignment
+  -- the rank: the largest sum of a rank of the constants on some columns and a matching of parameter rows on the remaining ones; by
+  -- `rank-is-the-largest-legal-size` (Theorems) it is the largest number of columns in an assignment that is `Legal`
   unfoldable pub rank : ℕ
   rank = largest-part n E (λ J. constant-rank J + matching J)
 
@@ -64,7 +64,8 @@ module _ (M : Model) where
   unfoldable pub placed : Set
   placed = taken n
 
-  -- the short set: the columns that lie in every set whose sum is the rank; `sum-short` says that it is such a set itself, so the smallest
+  -- the short set: the columns that lie in every set whose sum is the rank; by `short-is-the-smallest` (Theorems)
+  -- it is such a set itself, so the smallest
   unfoldable pub short : Set
   short x = every-part n E (λ J. not (decide (ℕ-discrete (sum J) rank)) || J x)
 

@@ -7,7 +7,7 @@ use Rattle.format.specs.File.Piece.{closed}
 use Rattle.format.specs.File.Format.{fields, judge}
 use Rattle.layered.specs.FileModel.{file-model}
 use Rattle.host.specs.AnswerBytes.{answer-length, answer-bytes, AnswerWritten}
-use Rattle.host.specs.AreaLaws.{refused-before, answer-put}
+use Rattle.host.proofs.AreaLaws.{refused-before, answer-put}
 use Rattle.solvability.proofs.calls.wundreska_check.Statement.{statement}
 use Rattle.solvability.proofs.calls.wundreska_check.Tie as tie
 

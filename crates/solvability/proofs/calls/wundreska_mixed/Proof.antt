@@ -7,7 +7,7 @@ use Rattle.format.specs.File.Piece.{closed}
 use Rattle.format.specs.File.Format.{fields}
 use Rattle.mixed.specs.MixedAnswers.{file-mixed, mixed-question}
 use Rattle.host.specs.AnswerBytes.{mixed-length, mixed-bytes, MixedWritten}
-use Rattle.host.specs.AreaLaws.{refused-short, refused-around, answer-put}
+use Rattle.host.proofs.AreaLaws.{refused-short, refused-around, answer-put}
 use Rattle.solvability.proofs.calls.wundreska_mixed.Statement.{statement}
 use Rattle.solvability.proofs.calls.wundreska_mixed.Tie as tie
 

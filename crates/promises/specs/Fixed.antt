@@ -1,0 +1,20 @@
+-- Two answers that agree in all that the promises fix: in everything but the two results that document 01 leaves open. Definitions only.
+use Prim.Native.Nat.{ℕ}
+use mathlib.Core.Path.{_≡_}
+use Rattle.layered.specs.declared.Answer.{Answer}
+use Rattle.mixed.specs.declared.MixedAnswer.{MixedAnswer}
+
+-- layered answers; open is which side and row a placed column takes
+pub record SameAnswer (r s : Answer) : Type 0 where
+  pub same-refusal : r .refusal ≡ s .refusal
+  pub same-verdict : r .verdict ≡ s .verdict
+  pub same-rank : r .rank ≡ s .rank
+  pub same-placed : r .placed ≡ s .placed
+  pub same-short : r .short ≡ s .short
+
+-- mixed answers; open is which rows I and columns J are shown
+pub record SameMixed (r s : MixedAnswer) : Type 0 where
+  pub same-refusal : r .refusal ≡ s .refusal
+  pub same-verdict : r .verdict ≡ s .verdict
+  pub same-rank : r .rank ≡ s .rank
+  pub same-short : r .short ≡ s .short

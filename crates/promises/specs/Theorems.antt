@@ -1,0 +1,114 @@
+-- What is proved over the promises of the calls, one theorem after another. Assumes nothing.
+use Prim.Native.Nat.{ℕ, _+_, _*_, _^_, _≤_, _<_}
+use mathlib.Core.Path.{_≡_, sym}
+use mathlib.Core.List.{List}
+use native.Mathlib.Omega.{arith}
+use lib.ListN.{length, getD, take}
+use lib.Seq.{take-take}
+use Rattle.columns.specs.Columns.{width}
+use Rattle.columns.specs.Words.Bytes.{AreBytes}
+use Rattle.mixed_models.specs.Starred.Models.{S2}
+use Rattle.format.specs.Lists.{over}
+use Rattle.limits.specs.Limits.{longest-file}
+use Rattle.format.specs.Refusals.{refusal, mixed-refusal}
+use Rattle.format.specs.File.Format.{judge, ReadCall, WriteCall}
+use Rattle.layered.specs.Answers.{LayeredCall}
+use Rattle.layered.specs.declared.Answer.{Answer}
+use Rattle.layered.specs.FileModel.{file-model}
+use Rattle.mixed.specs.MixedAnswers.{MixedCall}
+use Rattle.mixed.specs.declared.MixedAnswer.{MixedAnswer}
+use Rattle.promises.specs.Fixed.{SameAnswer, SameMixed}
+use Rattle.solvability.specs.Host.{HostAnswer, HostMixedAnswer}
+use Rattle.text.specs.declared.Printed.{Printed}
+use Rattle.report.specs.FileReport.{FileReport}
+use Rattle.mixed_report.specs.MixedReport.{MixedFileReport}
+use Rattle.promises.specs.TripLaws.{read-then-written, written-then-read}
+use Rattle.promises.specs.CutLaws.{judge-cut}
+use Rattle.promises.specs.CutCallLaws.{reading-cut, host-cut, host-mixed-cut, report-cut, mixed-report-cut}
+use Rattle.promises.specs.AnswerLaws.{refusal-same, mixed-refusal-same, write-same, layered-same, mixed-same}
+use Rattle.promises.specs.DocumentFile.{document-file, document-accepted, document-model}
+
+-- ---- there and back
+
+-- A file that was read is written again as it was, whatever the areas held before.
+pub read-then-write : (s cs ws : List ℕ) → AreBytes s → (p n a b : ℕ) (cs′ ws′ : List ℕ) → ReadCall s cs ws 0 p n a b cs′ ws′
+    → (out : List ℕ) → length s ≤ length out → (the-refusal len : ℕ) (out′ : List ℕ) → WriteCall p n a b cs′ ws′ out the-refusal len out′
+    → (the-refusal ≡ 0) × (len ≡ length s) × (out′ ≡ over s out)
+read-then-write = read-then-written
+
+-- A model that was written is read again as it was, into any areas that hold it; its parameter rows are 64-bit words.
+pub write-then-read : (p n a b : ℕ) (cs ws : List ℕ) → ((i : ℕ) → getD ws i 0 < 2 ^ width)
+    → (out : List ℕ) (len : ℕ) (out′ : List ℕ) → WriteCall p n a b cs ws out 0 len out′
+    → (cs₂ ws₂ : List ℕ) → a * n ≤ length cs₂ → b ≤ length ws₂
+    → (k p′ n′ a′ b′ : ℕ) (cs₂′ ws₂′ : List ℕ) → ReadCall (take len out′) cs₂ ws₂ k p′ n′ a′ b′ cs₂′ ws₂′
+    → (k ≡ 0) × (p′ ≡ p) × (n′ ≡ n) × (a′ ≡ a) × (b′ ≡ b) × (take (a * n) cs₂′ ≡ take (a * n) cs) × (take b ws₂′ ≡ take b ws)
+write-then-read = written-then-read
+
+-- ---- input cut off
+
+-- A file cut off anywhere behind the longest file is judged as the whole.
+pub cut-input : (k : ℕ) (s : List ℕ) → longest-file < k → judge (take k s) ≡ judge s
+cut-input = judge-cut
+
+-- One byte more than the longest file, which is what the programs read, is enough.
+pub cut-input-behind-the-longest : (s : List ℕ) → judge (take (longest-file + 1) s) ≡ judge s
+cut-input-behind-the-longest s = judge-cut (longest-file + 1) s (omega arith)
+
+-- What is promised of the part is promised of the whole: of the reading into areas,
+pub cut-input-read : (k : ℕ) (s : List ℕ) → AreBytes s → longest-file < k
+    → (cs ws : List ℕ) (the-refusal p n a b : ℕ) (cs′ ws′ : List ℕ)
+    → ReadCall (take k s) cs ws the-refusal p n a b cs′ ws′ → ReadCall s cs ws the-refusal p n a b cs′ ws′
+cut-input-read = reading-cut
+
+-- of the C calls,
+pub cut-input-host : (k : ℕ) (s : List ℕ) → AreBytes s → longest-file < k
+    → (area : List ℕ) (number : ℕ) (area′ : List ℕ) → HostAnswer (take k s) area number area′ → HostAnswer s area number area′
+cut-input-host = host-cut
+
+pub cut-input-host-mixed : (k : ℕ) (s : List ℕ) → AreBytes s → longest-file < k
+    → (area : List ℕ) (number : ℕ) (area′ : List ℕ) → HostMixedAnswer (take k s) area number area′ → HostMixedAnswer s area number area′
+cut-input-host-mixed = host-mixed-cut
+
+-- and of the reports that the programs write.
+pub cut-input-report : (k : ℕ) (s : List ℕ) → AreBytes s → longest-file < k
+    → (area : List ℕ) (r : Printed) (area′ : List ℕ) → FileReport (take k s) area r area′ → FileReport s area r area′
+cut-input-report = report-cut
+
+pub cut-input-report-mixed : (k : ℕ) (s : List ℕ) → AreBytes s → longest-file < k
+    → (area : List ℕ) (r : Printed) (area′ : List ℕ) → MixedFileReport (take k s) area r area′ → MixedFileReport s area r area′
+cut-input-report-mixed = mixed-report-cut
+
+-- ---- areas longer than the model
+
+module _ (p n a b : ℕ) (cs ws : List ℕ) where
+  cut-cs : take (a * n) cs ≡ take (a * n) (take (a * n) cs)
+  cut-cs = sym (take-take (a * n) (a * n) cs (omega arith))
+
+  cut-ws : take b ws ≡ take b (take b ws)
+  cut-ws = sym (take-take b b ws (omega arith))
+
+  -- What stands in the areas behind the model does not change the refusal,
+  pub surplus-not-tested : refusal p n a b cs ws ≡ refusal p n a b (take (a * n) cs) (take b ws)
+  surplus-not-tested = refusal-same p n a b cs (take (a * n) cs) ws (take b ws) cut-cs cut-ws
+
+  pub surplus-not-tested-mixed : mixed-refusal p n a b cs ws ≡ mixed-refusal p n a b (take (a * n) cs) (take b ws)
+  surplus-not-tested-mixed = mixed-refusal-same p n a b cs (take (a * n) cs) ws (take b ws) cut-cs cut-ws
+
+  -- nor what is written of the model,
+  pub surplus-not-written : {out out′ : List ℕ} {the-refusal len : ℕ}
+      → WriteCall p n a b cs ws out the-refusal len out′ → WriteCall p n a b (take (a * n) cs) (take b ws) out the-refusal len out′
+  surplus-not-written = write-same p n a b cs (take (a * n) cs) ws (take b ws) cut-cs cut-ws
+
+  -- nor the layered answer in the parts that are fixed,
+  pub surplus-not-read : {r s : Answer} → LayeredCall p n a b cs ws r → LayeredCall p n a b (take (a * n) cs) (take b ws) s → SameAnswer r s
+  surplus-not-read = layered-same p n a b cs (take (a * n) cs) ws (take b ws) cut-cs cut-ws
+
+  -- nor the mixed one.
+  pub surplus-not-read-mixed : {r s : MixedAnswer} → MixedCall p n a b cs ws r → MixedCall p n a b (take (a * n) cs) (take b ws) s → SameMixed r s
+  surplus-not-read-mixed = mixed-same p n a b cs (take (a * n) cs) ws (take b ws) cut-cs cut-ws
+
+-- ---- document 01's file
+
+-- It is accepted, and its model is S2 of the starred table.
+pub S2-is-the-file : (judge document-file ≡ 0) × (file-model document-file ≡ S2)
+S2-is-the-file = (document-accepted, document-model)

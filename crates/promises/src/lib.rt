@@ -1,0 +1,1 @@
+// Theorems alone, in specs/, over the promises of the calls: files read and written, input cut off, areas longer than the model.

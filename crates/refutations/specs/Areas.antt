@@ -1,0 +1,102 @@
+-- What a call does to lent areas, from its promise alone: a refused one changes nothing and gives zeros, an accepted one leaves the surplus.
+-- Assumes nothing.
+use Prim.Native.Nat.{ℕ, zero, suc}
+use mathlib.Core.Path.{_≡_, refl, sym, ap, _∙_}
+use mathlib.Core.Logic.{_≢_}
+use mathlib.Core.List.{List, [], _∷_, _++_, flatten}
+use lib.ListN.{length, drop}
+use Rattle.format.specs.Lists.{over}
+use Rattle.format.specs.Refusals.{Tests, where-accepted}
+use Rattle.format.specs.File.Format.{FileModel, fields, decode, no-model, model-read, read-refusal, ReadCall, write-refusal, bytes-written, WriteCall, lookup-refusal, lookup-length, lookup-start}
+use Rattle.text.specs.Text.{print-refusal, printed, Prints}
+use Rattle.text.specs.declared.Printed.{Printed}
+use Rattle.host.specs.AreaCall.{AreaCall, Written}
+use Rattle.solvability.specs.Host.{HostAnswer, HostMixedAnswer}
+
+where-refused : {A : Type 0} (k : ℕ) (x o : A) → k ≢ 0 → where-accepted k x o ≡ o
+where-refused zero x o h = absurd (h refl)
+where-refused (suc k) x o h = refl
+
+drop-front : (xs ys : List ℕ) → drop (length xs) (xs ++ ys) ≡ ys
+drop-front [] ys = refl
+drop-front (x ∷ xs) ys = drop-front xs ys
+
+surplus : (xs area : List ℕ) → drop (length xs) (over xs area) ≡ drop (length xs) area
+unfolding over
+surplus xs area = drop-front xs (drop (length xs) area)
+
+-- a refused read changes no lent element and gives no number
+pub read-refused : (s cs ws : List ℕ) (k p n a b : ℕ) (cs′ ws′ : List ℕ) → ReadCall s cs ws k p n a b cs′ ws′ → read-refusal s cs ws ≢ 0
+    → (cs′ ≡ cs) × (ws′ ≡ ws) × (p ≡ 0) × (n ≡ 0) × (a ≡ 0) × (b ≡ 0)
+unfolding over model-read flatten
+read-refused s cs ws k p n a b cs′ ws′ x h =
+    let e : model-read s cs ws ≡ no-model = where-refused (read-refusal s cs ws) (decode s) no-model h in (
+      x .constants-are ∙ ap (λ (m : FileModel). over (flatten (m .constants)) cs) e,
+      x .parameters-are ∙ ap (λ (m : FileModel). over (m .parameters) ws) e,
+      x .p-is ∙ ap (λ (m : FileModel). m .p) e,
+      x .n-is ∙ ap (λ (m : FileModel). m .n) e,
+      x .a-is ∙ ap (λ (m : FileModel). m .a) e,
+      x .b-is ∙ ap (λ (m : FileModel). m .b) e,
+    )
+
+-- an accepted read leaves what is behind the constants and the parameter rows
+pub read-surplus : (s cs ws : List ℕ) (k p n a b : ℕ) (cs′ ws′ : List ℕ) → ReadCall s cs ws k p n a b cs′ ws′
+    → (drop (length (flatten (model-read s cs ws .constants))) cs′ ≡ drop (length (flatten (model-read s cs ws .constants))) cs)
+    × (drop (length (model-read s cs ws .parameters)) ws′ ≡ drop (length (model-read s cs ws .parameters)) ws)
+read-surplus s cs ws k p n a b cs′ ws′ x = (
+  ap (drop (length (flatten (model-read s cs ws .constants)))) (x .constants-are) ∙ surplus (flatten (model-read s cs ws .constants)) cs,
+  ap (drop (length (model-read s cs ws .parameters))) (x .parameters-are) ∙ surplus (model-read s cs ws .parameters) ws,
+)
+
+pub write-refused : (p n a b : ℕ) (cs ws out : List ℕ) (k len : ℕ) (out′ : List ℕ) → WriteCall p n a b cs ws out k len out′ → write-refusal p n a b cs ws out ≢ 0 → (out′ ≡ out) × (len ≡ 0)
+unfolding over bytes-written
+write-refused p n a b cs ws out k len out′ x h =
+    let e : bytes-written p n a b cs ws out ≡ [] = where-refused (write-refusal p n a b cs ws out) _ [] h in
+    (x .bytes-are ∙ ap (λ (l : List ℕ). over l out) e, x .length-is ∙ ap (λ (l : List ℕ). length l) e)
+
+-- the length returned is that of what is written, and nothing behind it changes
+pub write-surplus : (p n a b : ℕ) (cs ws out : List ℕ) (k len : ℕ) (out′ : List ℕ) → WriteCall p n a b cs ws out k len out′ → drop len out′ ≡ drop len out
+write-surplus p n a b cs ws out k len out′ x =
+    ap (λ (j : ℕ). drop j out′) (x .length-is) ∙ ap (drop (length (bytes-written p n a b cs ws out))) (x .bytes-are) ∙ surplus (bytes-written p n a b cs ws out) out ∙ ap (λ (j : ℕ). drop j out) (sym (x .length-is))
+
+-- a refused printing changes no byte and gives no length
+pub print-refused : (text area : List ℕ) (r : Printed) (area′ : List ℕ) → Prints text area r area′ → print-refusal text area ≢ 0 → (area′ ≡ area) × (r .length ≡ 0)
+unfolding over printed
+print-refused text area r area′ x h =
+    let e : printed text area ≡ [] = where-refused (print-refusal text area) text [] h in
+    (x .bytes-are ∙ ap (λ (l : List ℕ). over l area) e, x .length-is ∙ ap (λ (l : List ℕ). length l) e)
+
+pub print-surplus : (text area : List ℕ) (r : Printed) (area′ : List ℕ) → Prints text area r area′ → drop (r .length) area′ ≡ drop (r .length) area
+print-surplus text area r area′ x =
+    ap (λ (j : ℕ). drop j area′) (x .length-is) ∙ ap (drop (length (printed text area))) (x .bytes-are) ∙ surplus (printed text area) area ∙ ap (λ (j : ℕ). drop j area) (sym (x .length-is))
+
+-- two results of one call on a file agree in the number, and where it refuses the area is as it was
+module _ (before after : Tests) (least : ℕ) (Shown : List ℕ → List ℕ → Type 0) (area : List ℕ) where
+  area-number : (k k′ : ℕ) (area′ area″ : List ℕ) → AreaCall before after least Shown area k area′ → AreaCall before after least Shown area k′ area″ → k ≡ k′
+  area-number k k′ area′ area″ x y = x .is-number ∙ sym (y .is-number)
+
+  area-refused : (k : ℕ) (area′ : List ℕ) → AreaCall before after least Shown area k area′ → k ≢ 0 → area′ ≡ area
+  area-refused k area′ x h = x .if-refused (λ e. h (x .is-number ∙ e))
+
+-- the layered call,
+pub host-number : (file area : List ℕ) (k k′ : ℕ) (area′ area″ : List ℕ) → HostAnswer file area k area′ → HostAnswer file area k′ area″ → k ≡ k′
+host-number file area = area-number _ _ _ _ area
+
+pub host-refused : (file area : List ℕ) (k : ℕ) (area′ : List ℕ) → HostAnswer file area k area′ → k ≢ 0 → area′ ≡ area
+host-refused file area = area-refused _ _ _ _ area
+
+-- and the mixed one
+pub host-mixed-number : (file area : List ℕ) (k k′ : ℕ) (area′ area″ : List ℕ) → HostMixedAnswer file area k area′ → HostMixedAnswer file area k′ area″ → k ≡ k′
+host-mixed-number file area = area-number _ _ _ _ area
+
+pub host-mixed-refused : (file area : List ℕ) (k : ℕ) (area′ : List ℕ) → HostMixedAnswer file area k area′ → k ≢ 0 → area′ ≡ area
+host-mixed-refused file area = area-refused _ _ _ _ area
+
+-- the bytes behind an answer are as they were
+pub written-surplus : {A : Type 0} (Holds : A → Type 0) (bytes : A → List ℕ) (area area′ : List ℕ) (w : Written Holds bytes area area′)
+    → drop (length (bytes (w .answer))) area′ ≡ drop (length (bytes (w .answer))) area
+written-surplus Holds bytes area area′ w = ap (drop (length (bytes (w .answer)))) (w .is-shown) ∙ surplus (bytes (w .answer)) area
+
+pub lookup-refused : (s : List ℕ) (i : ℕ) → lookup-refusal s i ≢ 0 → (lookup-length s i ≡ 0) × (lookup-start s i ≡ 0)
+unfolding lookup-length lookup-start
+lookup-refused s i h = (where-refused (lookup-refusal s i) _ 0 h, where-refused (lookup-refusal s i) _ 0 h)

@@ -1,0 +1,51 @@
+// Prints S2's report, and S9's mixed one, into an area a byte longer than the text, one as long and one a byte shorter: which number and
+// which length the call gives, and then the whole area, which held full stops before.
+use text::Printed;
+
+const FULL_STOP: u8 = 46;
+
+fn main() {
+    let mut longer = [FULL_STOP; 60];
+    layered(&mut longer);
+    let mut whole = [FULL_STOP; 59];
+    layered(&mut whole);
+    let mut short = [FULL_STOP; 58];
+    layered(&mut short);
+    let mut mixed_longer = [FULL_STOP; 50];
+    mixed(&mut mixed_longer);
+    let mut mixed_whole = [FULL_STOP; 49];
+    mixed(&mut mixed_whole);
+    let mut mixed_short = [FULL_STOP; 48];
+    mixed(&mut mixed_short);
+}
+
+// The report of S2, document 01's file: p 1,021, n 2, one constant row 1 0, one parameter row {1}.
+fn layered(area: &mut [u8]) {
+    let file =
+        b"\x01\x02\x00\xFD\x03\x02\x03\x00\x02\x01\x01\x03\x04\x00\x01\x00\x00\x00\x04\x08\x00\x02\x00\x00\x00\x00\x00\x00\x00\x05\x00\x00";
+    let printed = report::report_file(file, area);
+    show(b"layered", printed, area);
+}
+
+// The mixed report of S9: p 1,021, n 2, two constant rows 1 1, parameter rows {0} and none.
+fn mixed(area: &mut [u8]) {
+    let file =
+        b"\x01\x02\x00\xFD\x03\x02\x03\x00\x02\x02\x02\x03\x04\x00\x01\x00\x01\x00\x03\x04\x00\x01\x00\x01\x00\x04\x08\x00\x01\x00\x00\x00\x00\x00\x00\x00\x04\x08\x00\x00\x00\x00\x00\x00\x00\x00\x00\x05\x00\x00";
+    let printed = mixed_report::report_mixed_file(file, area);
+    show(b"mixed", printed, area);
+}
+
+fn show(word: &[u8], printed: Printed, area: &[u8]) {
+    io::write_all(1, word);
+    number(b" area ", area.len() as u64);
+    number(b" refusal ", printed.refusal as u64);
+    number(b" length ", printed.length as u64);
+    io::write_all(1, b"\n");
+    io::write_all(1, area);
+    io::write_all(1, b"\n");
+}
+
+fn number(word: &[u8], x: u64) {
+    io::write_all(1, word);
+    io::print_decimal(1, x);
+}

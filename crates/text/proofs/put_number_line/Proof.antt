@@ -1,0 +1,30 @@
+-- `text::put_number_line` meets its contract. Assumes nothing.
+use mathlib.Core.Path.{sym}
+use Rattle.text.specs.PutLaws.{puts-as, puts-then}
+use Rattle.text.specs.TextLaws.{line-is}
+use borrow.Author.Needs.{needs}
+use Rattle.text.proofs.put_number_line.Statement.{statement}
+use Rattle.text.proofs.put_number_line.Tie as tie
+
+put-bytes-requires : tie.Need-put-bytes-requires
+put-bytes-requires c κs = search needs
+
+put-item-requires : tie.Need-put-item-requires
+put-item-requires c κs = search needs
+
+put-byte-requires : tie.Need-put-byte-requires
+put-byte-requires c κs = search needs
+
+same-length : tie.Need-same-length
+same-length c = search needs
+
+returns : tie.Need-returns
+returns c =
+    let end = c .before .before in
+    let items = end .before .before .before .before in
+    let word = items .before .before .before .before in
+    puts-as (sym (line-is _ _)) (puts-then (word .put-bytes .ensures) (puts-then (items .put-item .ensures) (end .put-byte .ensures)))
+
+pub put-number-line-spec : {M : Type 1} → statement M
+put-number-line-spec =
+    tie.close (tie.spec put-bytes-requires put-item-requires put-byte-requires same-length returns)

@@ -1,0 +1,47 @@
+-- `text::put_verdict_line` meets its contract. Assumes nothing.
+use mathlib.Core.Path.{sym}
+use Rattle.text.specs.Text.{ascii}
+use Rattle.text.specs.PutLaws.{puts-as}
+use Rattle.text.specs.TextLaws.{verdict-determined, verdict-open}
+use borrow.Author.Needs.{needs}
+use Rattle.text.proofs.put_verdict_line.Statement.{statement}
+use Rattle.text.proofs.put_verdict_line.Tie as tie
+
+slice-aggregate-put-bytes : tie.Need-slice-aggregate-put-bytes
+slice-aggregate-put-bytes c = search needs
+
+put-bytes-requires : tie.Need-put-bytes-requires
+put-bytes-requires c κs = search needs
+
+same-length : tie.Need-same-length
+same-length c = search needs
+
+returns : tie.Need-returns
+unfolding ascii
+returns c = puts-as (sym (verdict-determined _ (c .before .before .before .before .before .if1 .taken))) (c .before .before .put-bytes .ensures)
+
+slice-aggregate-put-bytes-2 : tie.Need-slice-aggregate-put-bytes-2
+slice-aggregate-put-bytes-2 c = search needs
+
+put-bytes-requires-2 : tie.Need-put-bytes-requires-2
+put-bytes-requires-2 c κs = search needs
+
+same-length-2 : tie.Need-same-length-2
+same-length-2 c = search needs
+
+returns-2 : tie.Need-returns-2
+unfolding ascii
+returns-2 c = puts-as (sym (verdict-open _ (c .before .before .before .before .before .if1 .left))) (c .before .before .put-bytes2 .ensures)
+
+pub put-verdict-line-spec : {M : Type 1} → statement M
+put-verdict-line-spec =
+    tie.close
+    (tie.spec
+    slice-aggregate-put-bytes
+    put-bytes-requires
+    same-length
+    returns
+    slice-aggregate-put-bytes-2
+    put-bytes-requires-2
+    same-length-2
+    returns-2)

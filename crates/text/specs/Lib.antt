@@ -1,0 +1,5 @@
+-- Text: what it says, and how it is put into an area.
+pub mod Text
+pub mod PutLaws
+pub mod TextLaws
+pub mod TextExamples

@@ -1,0 +1,131 @@
+// Writers of text: bytes, decimals, items and lines put into an area from a place on. Each gives the place behind what it put. A byte
+// that has no room is left out, so that every function is total; `print` is for a whole text, and refuses where it has no room.
+ghost use mathlib.Core.Path.{_≡_};
+ghost use mathlib.Core.List.{[], _∷_};
+ghost use Prim.Native.Nat.{_+_, _<_};
+ghost use Rattle.columns.specs.Columns.{members};
+ghost use Rattle.text.specs.Text.{decimal, line, item, column-items, verdict-line, refused-line, Puts, Prints};
+use format::refusals;
+
+const LINE_FEED: u8 = 10;
+
+const SPACE: u8 = 32;
+
+const ZERO: u8 = 48;
+
+// How many bytes were printed; 0 where the printing is refused.
+pub struct Printed {
+    pub refusal: u32,
+    pub length: usize,
+}
+
+// The text over the front of the area, or the refusal of an area that is too short for it.
+pub fn print(text: &[u8], out: &mut [u8]) -> Printed
+    ensures { λ r. ⌜ Prints (now (text .entry)) (now (out .entry)) r (now (out .exit)) ⌝ }
+{
+    if out.len() < text.len() {
+        return Printed {
+            refusal: refusals::AREA_SHORT,
+            length: 0,
+        };
+    }
+    let length = put_bytes(out, 0, text);
+    Printed { refusal: 0, length }
+}
+
+// A verdict as its word.
+pub fn put_verdict_line(out: &mut [u8], at: usize, verdict: u8) -> usize
+    ensures { λ r. ⌜ Puts (verdict-line verdict) (now (out .entry)) at (now (out .exit)) r ⌝ }
+{
+    if verdict == 1 {
+        return put_bytes(out, at, b"verdict determined\n");
+    }
+    put_bytes(out, at, b"verdict open\n")
+}
+
+// A refusal's number.
+pub fn put_refused_line(out: &mut [u8], at: usize, refusal: u32) -> usize
+    ensures { λ r. ⌜ Puts (refused-line refusal) (now (out .entry)) at (now (out .exit)) r ⌝ }
+{
+    put_number_line(out, at, b"refused", refusal as usize)
+}
+
+// A word and a number.
+pub fn put_number_line(out: &mut [u8], at: usize, word: &[u8], x: usize) -> usize
+    ensures { λ r. ⌜ Puts (line (now (word .entry)) (item x)) (now (out .entry)) at (now (out .exit)) r ⌝ }
+{
+    let after_word = put_bytes(out, at, word);
+    let after_item = put_item(out, after_word, x);
+    put_byte(out, after_item, LINE_FEED)
+}
+
+// A word and the columns of a set.
+pub fn put_column_line(out: &mut [u8], at: usize, word: &[u8], set: u64) -> usize
+    ensures { λ r. ⌜ Puts (line (now (word .entry)) (column-items (members set))) (now (out .entry)) at (now (out .exit)) r ⌝ }
+{
+    let after_word = put_bytes(out, at, word);
+    let after_items = put_columns(out, after_word, set);
+    put_byte(out, after_items, LINE_FEED)
+}
+
+// The columns of the set, ascending.
+fn put_columns(out: &mut [u8], at: usize, set: u64) -> usize
+    ensures { λ r. ⌜ Puts (column-items (members set)) (now (out .entry)) at (now (out .exit)) r ⌝ }
+{
+    let mut place = at;
+    let mut rest = set;
+    while !columns::is_empty(rest) {
+        let x = columns::first(rest);
+        place = put_item(out, place, x);
+        rest = columns::without(rest, x);
+    }
+    place
+}
+
+// A number with the space before it.
+pub fn put_item(out: &mut [u8], at: usize, x: usize) -> usize
+    ensures { λ r. ⌜ Puts (item x) (now (out .entry)) at (now (out .exit)) r ⌝ }
+{
+    let after_space = put_byte(out, at, SPACE);
+    put_decimal(out, after_space, x)
+}
+
+// A number in decimal: the digits before the last are those of its tenth.
+pub fn put_decimal(out: &mut [u8], at: usize, x: usize) -> usize
+    ensures { λ r. ⌜ Puts (decimal x) (now (out .entry)) at (now (out .exit)) r ⌝ }
+{
+    if x < 10 {
+        return put_byte(out, at, digit(x));
+    }
+    let after_tens = put_decimal(out, at, x / 10);
+    put_byte(out, after_tens, digit(x % 10))
+}
+
+fn digit(x: usize) -> u8
+    requires { ⌜ x < 10 ⌝ }
+    ensures { λ r. ⌜ r ≡ 48 + x ⌝ }
+{
+    ZERO + x as u8
+}
+
+pub fn put_bytes(out: &mut [u8], at: usize, text: &[u8]) -> usize
+    ensures { λ r. ⌜ Puts (now (text .entry)) (now (out .entry)) at (now (out .exit)) r ⌝ }
+{
+    let mut place = at;
+    let mut i = 0;
+    while i < text.len() {
+        place = put_byte(out, place, text[i]);
+        i = i + 1;
+    }
+    place
+}
+
+pub fn put_byte(out: &mut [u8], at: usize, x: u8) -> usize
+    ensures { λ r. ⌜ Puts (x ∷ []) (now (out .entry)) at (now (out .exit)) r ⌝ }
+{
+    if at < out.len() {
+        out[at] = x;
+        return at + 1;
+    }
+    at
+}

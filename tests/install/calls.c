@@ -1,0 +1,211 @@
+/* Tries what the header says of every call, beside its answer: a NULL pointer at length 0, the stack it takes, several threads at
+ * once on one file. The last line is 'N passed, M failed'; the exit status is 1 where any failed. */
+#include <pthread.h>
+#include <stdio.h>
+#include <stdlib.h>
+#include <string.h>
+#include <sys/mman.h>
+
+#include "wundreska.h"
+
+typedef uint32_t Call(const uint8_t *file, size_t file_len, uint8_t *answer, size_t answer_len);
+
+typedef struct {
+    const char *name;
+    Call *call;
+    size_t size;           /* of its answer */
+    unsigned columns, rows; /* of the largest model that it takes with as many rows as columns */
+} Entry;
+
+static const Entry entries[] = {
+    {"wundreska_check", wundreska_check, WUNDRESKA_ANSWER_SIZE, WUNDRESKA_COLUMNS_MAX, WUNDRESKA_ROWS_MAX},
+    {"wundreska_mixed", wundreska_mixed, WUNDRESKA_MIXED_SIZE, WUNDRESKA_COLUMNS_MAX / 2, WUNDRESKA_COLUMNS_MAX / 2},
+};
+enum { ENTRIES = sizeof entries / sizeof *entries, MODELS = 12, THREADS = 8, TURNS = 200, PAINT = 0xA5, STACK = 1 << 20 };
+
+static int passed, failed;
+
+static void expect(int holds, const char *what, const char *name)
+{
+    if (holds)
+        passed++;
+    else {
+        failed++;
+        printf("FAILED %s: %s\n", name, what);
+    }
+}
+
+/* --- models: dense and sparse ones at several primes, full size */
+
+static uint8_t file[WUNDRESKA_FILE_MAX];
+static size_t file_len;
+
+static void put(unsigned byte)
+{
+    file[file_len++] = (uint8_t)byte;
+}
+
+static void put_head(unsigned tag, unsigned length)
+{
+    put(tag);
+    put(length & 255);
+    put(length >> 8);
+}
+
+static unsigned drawn(unsigned below)
+{
+    return (unsigned)rand() % below;
+}
+
+/* Fills `file` with a model in which about `share` of 100 places are not empty. */
+static void make_model(unsigned p, unsigned n, unsigned rows, unsigned share)
+{
+    unsigned row, c;
+    file_len = 0;
+    put_head(1, 2);
+    put(p & 255);
+    put(p >> 8);
+    put_head(2, 3);
+    put(n);
+    put(rows);
+    put(rows);
+    for (row = 0; row < rows; row++) {
+        put_head(3, 2 * n);
+        for (c = 0; c < n; c++) {
+            unsigned constant = drawn(100) < share ? drawn(p) : 0;
+            put(constant & 255);
+            put(constant >> 8);
+        }
+    }
+    for (row = 0; row < rows; row++) {
+        uint8_t set[WUNDRESKA_SET_SIZE] = {0};
+        put_head(4, WUNDRESKA_SET_SIZE);
+        for (c = 0; c < n; c++)
+            if (drawn(100) < share)
+                set[c / 8] |= (uint8_t)(1 << c % 8);
+        for (c = 0; c < WUNDRESKA_SET_SIZE; c++)
+            put(set[c]);
+    }
+    put_head(5, 0);
+}
+
+static void make_nth_model(int nth, const Entry *entry)
+{
+    static const unsigned primes[] = {2, 1021, 65521}, shares[] = {2, 5, 40, 100};
+    make_model(primes[nth % 3], entry->columns, entry->rows, shares[nth / 3]);
+}
+
+/* --- the call on a thread of its own */
+
+typedef struct {
+    const Entry *entry;
+    uint8_t answer[WUNDRESKA_ANSWER_SIZE];
+    uint32_t refusal;
+    int steady;    /* every turn gave the same */
+    uint8_t *base; /* an address at the top of what the call takes of the stack */
+} Job;
+
+static void *call_once(void *of)
+{
+    Job *job = (Job *)of;
+    uint8_t here;
+    job->base = &here;
+    job->refusal = job->entry->call(file, file_len, job->answer, job->entry->size);
+    return NULL;
+}
+
+/* How many bytes of a thread's stack the call took, by what it left of the paint. */
+static size_t stack_of_call(const Entry *entry)
+{
+    uint8_t *stack = (uint8_t *)mmap(NULL, STACK, PROT_READ | PROT_WRITE, MAP_PRIVATE | MAP_ANONYMOUS, -1, 0);
+    pthread_attr_t attributes;
+    pthread_t thread;
+    size_t untouched = 0, taken = 0;
+    Job job;
+    job.entry = entry;
+    if (stack == MAP_FAILED)
+        return STACK;
+    memset(stack, PAINT, STACK);
+    pthread_attr_init(&attributes);
+    if (pthread_attr_setstack(&attributes, stack, STACK) == 0 && pthread_create(&thread, &attributes, call_once, &job) == 0) {
+        pthread_join(thread, NULL);
+        while (stack[untouched] == PAINT)
+            untouched++;
+        taken = job.refusal == WUNDRESKA_ACCEPTED ? (size_t)(job.base - stack) - untouched : 0;
+    }
+    pthread_attr_destroy(&attributes);
+    munmap(stack, STACK);
+    return taken;
+}
+
+static void *call_often(void *of)
+{
+    Job *job = (Job *)of, again;
+    int turn;
+    call_once(job);
+    job->steady = 1;
+    again.entry = job->entry;
+    for (turn = 1; turn < TURNS; turn++) {
+        call_once(&again);
+        if (again.refusal != job->refusal || memcmp(again.answer, job->answer, job->entry->size) != 0)
+            job->steady = 0;
+    }
+    return NULL;
+}
+
+/* --- the cases */
+
+static void try_null(const Entry *entry)
+{
+    uint8_t answer[WUNDRESKA_ANSWER_SIZE];
+    make_nth_model(0, entry);
+    expect(entry->call(NULL, 0, answer, sizeof answer) == WUNDRESKA_TRUNCATED, "no file, NULL", entry->name);
+    expect(entry->call(NULL, 0, NULL, 0) == WUNDRESKA_TRUNCATED, "no file and no area, NULL", entry->name);
+    expect(entry->call(file, file_len, NULL, 0) == WUNDRESKA_AREA_SHORT, "no area, NULL", entry->name);
+}
+
+static void try_stack(const Entry *entry)
+{
+    size_t most = 0;
+    int nth;
+    for (nth = 0; nth < MODELS; nth++) {
+        size_t taken;
+        make_nth_model(nth, entry);
+        taken = stack_of_call(entry);
+        expect(taken > 0 && taken < WUNDRESKA_STACK_MAX, "takes less stack than the header says", entry->name);
+        if (taken > most)
+            most = taken;
+    }
+    printf("%s takes at most %lu bytes of the stack\n", entry->name, (unsigned long)most);
+}
+
+static void try_threads(const Entry *entry)
+{
+    static Job jobs[THREADS];
+    pthread_t threads[THREADS];
+    int k, same = 1;
+    make_nth_model(7, entry);
+    for (k = 0; k < THREADS; k++) {
+        jobs[k].entry = entry;
+        if (pthread_create(&threads[k], NULL, call_often, &jobs[k]) != 0)
+            abort();
+    }
+    for (k = 0; k < THREADS; k++)
+        pthread_join(threads[k], NULL);
+    for (k = 0; k < THREADS; k++)
+        same = same && jobs[k].steady && jobs[k].refusal == 0 && memcmp(jobs[k].answer, jobs[0].answer, entry->size) == 0;
+    expect(same, "the same answer on every thread", entry->name);
+}
+
+int main(void)
+{
+    int k;
+    srand(13);
+    for (k = 0; k < ENTRIES; k++) {
+        try_null(&entries[k]);
+        try_stack(&entries[k]);
+        try_threads(&entries[k]);
+    }
+    printf("%d passed, %d failed\n", passed, failed);
+    return failed != 0;
+}

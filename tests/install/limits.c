@@ -1,0 +1,23 @@
+/* Holds the header's numbers to those of document 01, when it is compiled. The header computes most of them from others. */
+#include "wundreska.h"
+
+#define HOLDS(name, condition) typedef char name[(condition) ? 1 : -1]
+
+HOLDS(sizes, WUNDRESKA_COLUMNS_MAX == 64 && WUNDRESKA_ROWS_MAX == 64 && WUNDRESKA_PRIME_MAX == 65521);
+HOLDS(set_holds_every_column, WUNDRESKA_SET_SIZE == 8 && WUNDRESKA_SET_SIZE * 8 == WUNDRESKA_COLUMNS_MAX);
+HOLDS(file, WUNDRESKA_FILE_MAX ==
+                14 + WUNDRESKA_ROWS_MAX * (3 + 2 * WUNDRESKA_COLUMNS_MAX) + (3 + WUNDRESKA_SET_SIZE) * WUNDRESKA_ROWS_MAX);
+HOLDS(file_of_document_01, WUNDRESKA_FILE_MAX == 9102);
+HOLDS(layered, WUNDRESKA_VERDICT == 0 && WUNDRESKA_RANK == 1 && WUNDRESKA_PLACED == 2 && WUNDRESKA_CONSTANTS == 10);
+HOLDS(layered_on, WUNDRESKA_SHORT == 18 && WUNDRESKA_ROWS == 26 && WUNDRESKA_ROWS_SIZE == 64 && WUNDRESKA_ANSWER_SIZE == 90);
+HOLDS(mixed, WUNDRESKA_MIXED_VERDICT == 0 && WUNDRESKA_MIXED_RANK == 1 && WUNDRESKA_MIXED_ROWS == 2);
+HOLDS(mixed_on, WUNDRESKA_MIXED_COLUMNS == 10 && WUNDRESKA_MIXED_SHORT == 18 && WUNDRESKA_MIXED_SIZE == 26);
+HOLDS(refusals, WUNDRESKA_TRUNCATED == 1 && WUNDRESKA_UNEXPECTED == 2 && WUNDRESKA_NOT_PRIME == 3 && WUNDRESKA_SIZES_BEYOND == 4 &&
+                    WUNDRESKA_CONSTANT_BEYOND == 5 && WUNDRESKA_PARAMETER_BEYOND == 6 && WUNDRESKA_TRAILING == 7 &&
+                    WUNDRESKA_AREA_SHORT == 8 && WUNDRESKA_NOT_MIXED == 10);
+HOLDS(verdicts, WUNDRESKA_OPEN == 0 && WUNDRESKA_DETERMINED == 1 && WUNDRESKA_NO_COLUMN == 255);
+
+int main(void)
+{
+    return 0;
+}

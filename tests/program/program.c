@@ -1,0 +1,222 @@
+/* Runs a program that reports on a model file, on some thousands of inputs, and holds what it writes against the reference.
+ *
+ * Run: program layered PROGRAM MODELS, or program mixed PROGRAM MODELS, where MODELS is the folder of stored models. Prints the
+ * cases of each category and, as its last line, 'N passed, M failed' over all cases. What the rules fix is compared to the
+ * byte; where they leave a choice, the one shown is tested. */
+#include "child.h"
+#include "tally.h"
+#include "text.h"
+
+#include <glob.h>
+#include <stdio.h>
+#include <stdlib.h>
+#include <string.h>
+
+/* Inputs are longer than any file, and than what a pipe holds. */
+enum { LONG_INPUT = 1 << 20, AT_ONCE = LONG_INPUT };
+
+static const char *program;
+static int mixed;
+static uint8_t input[LONG_INPUT];
+
+/* ---- what is wrong with an output ---- */
+
+static const char *layered_text_complaint(const Model *m, const char *text, char *again)
+{
+    Answer answer;
+    if (!read_layered(text, &answer))
+        return "no report";
+    write_layered(&answer, again);
+    return answer_complaint(m, &answer, layered_truth(m));
+}
+
+static const char *mixed_text_complaint(const Model *m, const char *text, char *again)
+{
+    MixedAnswer answer;
+    if (!read_mixed(text, &answer))
+        return "no report";
+    write_mixed(&answer, again);
+    return mixed_model_complaint(m, &answer);
+}
+
+static const char *text_complaint(const Model *m, uint32_t refusal, const Output *output)
+{
+    char due[TEXT_MAX];
+    const char *complaint = NULL;
+    if (refusal)
+        write_refused(refusal, due);
+    else
+        complaint = (mixed ? mixed_text_complaint : layered_text_complaint)(m, output->text, due);
+    if (complaint)
+        return complaint;
+    return output->length == strlen(due) && memcmp(output->text, due, output->length) == 0 ? NULL : "the text";
+}
+
+/* A program that hangs once is not run again: each time would take a minute. */
+static void stop_if_hung(const Output *output)
+{
+    if (output->end != HUNG)
+        return;
+    printf("the program did not end within a minute; no other inputs are tried\n");
+    end_tally();
+    exit(1);
+}
+
+/* Runs the program on the front of the input. */
+static void try_in_pieces(size_t length, size_t piece)
+{
+    static Model m;
+    m = (Model){0};
+    uint32_t refusal = judge_file(input, length, &m);
+    if (!refusal && mixed)
+        refusal = judge_mixed(&m);
+    Output output = run_program(program, input, length, piece);
+    count_case(output.end == ENDED ? text_complaint(&m, refusal, &output) : "the program did not end by itself", &m);
+    stop_if_hung(&output);
+}
+
+static void try_input(size_t length)
+{
+    try_in_pieces(length, AT_ONCE);
+}
+
+/* ---- the inputs ---- */
+
+/* A model of up to so many columns and rows, in a file; most often one that the program answers. */
+static size_t draw_file(size_t columns, size_t rows)
+{
+    Model m = mixed && !one_in(5) ? draw_mixed(all_primes, COUNT(all_primes), columns)
+                                  : draw_model(all_primes, COUNT(all_primes), columns, rows);
+    return write_file(&m, input);
+}
+
+static size_t read_stored(const char *path)
+{
+    FILE *in = fopen(path, "rb");
+    size_t length = in ? fread(input, 1, sizeof input, in) : 0;
+    if (in)
+        fclose(in);
+    return length;
+}
+
+static void try_stored_models(const char *folder)
+{
+    char pattern[512];
+    glob_t found;
+    begin_category("stored models");
+    snprintf(pattern, sizeof pattern, "%s/*.model", folder);
+    Model none = {0};
+    if (glob(pattern, 0, NULL, &found) != 0) {
+        count_case("there is none", &none);
+        return;
+    }
+    for (size_t i = 0; i < found.gl_pathc; i++)
+        try_input(read_stored(found.gl_pathv[i]));
+    globfree(&found);
+}
+
+/* The longest file there is; p is given, since small ones have short constants all the same. */
+static size_t write_longest(uint32_t p)
+{
+    Model m;
+    do
+        m = draw_model(&p, 1, WUNDRESKA_COLUMNS_MAX, WUNDRESKA_ROWS_MAX);
+    while (m.n < WUNDRESKA_COLUMNS_MAX || m.a < WUNDRESKA_ROWS_MAX || m.b < WUNDRESKA_ROWS_MAX);
+    return write_file(&m, input);
+}
+
+/* The file's bytes, and behind them others up to a length: all alike, or at random where the filling is below 0. */
+static void try_extended(size_t length, size_t whole, int filling)
+{
+    for (size_t i = length; i < whole; i++)
+        input[i] = filling < 0 ? (int)draw(256) : filling;
+    try_input(whole);
+}
+
+static void try_lengths(size_t length)
+{
+    static const size_t added[] = {0, 1, 2, 3, 100, WUNDRESKA_FILE_MAX, 1 << 16, 1 << 17};
+    for (size_t i = 0; i < COUNT(added); i++) {
+        try_extended(length, length + added[i], 0);
+        try_extended(length, length + added[i], -1);
+    }
+    try_extended(length, LONG_INPUT, -1);
+    for (size_t cut = 1; cut <= 8; cut++)
+        try_input(length - cut);
+}
+
+static void try_long_inputs(void)
+{
+    begin_category("no input, and inputs of the longest file's length, below and above");
+    try_input(0);
+    for (size_t i = 0; i < COUNT(all_primes); i++) {
+        size_t length = write_longest(all_primes[i]);
+        Model none = {0};
+        count_case(length == WUNDRESKA_FILE_MAX ? NULL : "the longest file has another length", &none);
+        try_lengths(length);
+    }
+    begin_category("short files with bytes behind, up to the longest file's length and above");
+    for (int i = 0; i < 100; i++) {
+        size_t length = draw_file(12, 12);
+        try_extended(length, length + 1 + draw(WUNDRESKA_FILE_MAX), draw(6));
+        try_extended(length, WUNDRESKA_FILE_MAX + draw(3), -1);
+    }
+    begin_category("the longest file, damaged");
+    for (int i = 0; i < 300; i++)
+        try_input(damage_file(input, write_longest(1021)));
+}
+
+static void try_random_files(int count, size_t columns, size_t rows)
+{
+    for (int i = 0; i < count; i++)
+        try_input(draw_file(columns, rows));
+}
+
+static void try_damaged_files(int count, size_t columns, size_t rows)
+{
+    for (int i = 0; i < count; i++) {
+        size_t length = damage_file(input, draw_file(columns, rows));
+        try_input(length && one_in(4) ? damage_file(input, length) : length);
+    }
+}
+
+/* A read of a pipe gives what has come so far, so that one read is not enough. */
+static void try_pieces(void)
+{
+    begin_category("files written in pieces");
+    for (int i = 0; i < 10; i++)
+        try_in_pieces(draw_file(3, 3), 1);
+    for (int i = 0; i < 150; i++) {
+        size_t length = draw_file(12, 12);
+        try_in_pieces(length, 1 + draw(length));
+    }
+    for (int i = 0; i < 20; i++)
+        try_in_pieces(write_longest(WUNDRESKA_PRIME_MAX), 1000 + draw(WUNDRESKA_FILE_MAX));
+}
+
+static int compare_all(const char *models)
+{
+    try_stored_models(models);
+    try_long_inputs();
+    begin_category("files of models up to 12 columns and rows");
+    try_random_files(1000, 12, 12);
+    begin_category("files of models of all sizes");
+    try_random_files(600, WUNDRESKA_COLUMNS_MAX, WUNDRESKA_ROWS_MAX);
+    begin_category("damaged files");
+    try_damaged_files(2500, 8, 6);
+    try_damaged_files(300, WUNDRESKA_COLUMNS_MAX, WUNDRESKA_ROWS_MAX);
+    try_pieces();
+    return end_tally() > 0;
+}
+
+int main(int count, char **words)
+{
+    if (count != 4 || (strcmp(words[1], "layered") && strcmp(words[1], "mixed"))) {
+        fprintf(stderr, "usage: program layered|mixed PROGRAM MODELS\n");
+        return 2;
+    }
+    mixed = strcmp(words[1], "mixed") == 0;
+    program = words[2];
+    printf("%s:\n", program);
+    return compare_all(words[3]);
+}

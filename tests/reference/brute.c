@@ -1,0 +1,149 @@
+/* The definitions of document 01, by enumeration. */
+#include "brute.h"
+
+#include <string.h>
+
+typedef struct {
+    const Model *model;
+    uint8_t independent[SETS]; /* by column set, of the constants on the rows asked for */
+    uint8_t placeable[SETS];   /* by column set: some legal assignment places exactly it */
+} Tables;
+
+static int subset(Set inner, Set outer)
+{
+    return (inner & ~outer) == 0;
+}
+
+/* Whether the coefficients make every one of these constant rows zero. */
+static int kills(const Model *m, Set rows, const uint32_t *coefficients)
+{
+    for (size_t r = 0; r < m->a; r++) {
+        uint64_t total = 0;
+        for (size_t c = 0; c < m->n; c++)
+            total += (uint64_t)m->constants[r * m->n + c] * coefficients[c];
+        if (has(rows, r) && total % m->p != 0)
+            return 0;
+    }
+    return 1;
+}
+
+/* The next coefficient vector, counting to the base p; whether there is one. */
+static int next_vector(const Model *m, uint32_t *coefficients)
+{
+    for (size_t c = 0; c < m->n; c++) {
+        if (++coefficients[c] < m->p)
+            return 1;
+        coefficients[c] = 0;
+    }
+    return 0;
+}
+
+/* A set is dependent if some coefficients, not all 0 and 0 outside it, kill the rows. */
+static void find_independent(Tables *t, Set rows)
+{
+    const Model *m = t->model;
+    uint32_t coefficients[BRUTE_COLUMNS] = {0};
+    memset(t->independent, 1, sizeof t->independent);
+    while (next_vector(m, coefficients)) {
+        Set support = 0;
+        for (size_t c = 0; c < m->n; c++)
+            support |= (Set)(coefficients[c] != 0) << c;
+        if (kills(m, rows, coefficients))
+            t->independent[support] = 0;
+    }
+    for (Set set = 0; set < SETS; set++)
+        for (Set inner = 1; inner < set; inner++)
+            if (subset(inner, set) && !t->independent[inner])
+                t->independent[set] = 0;
+}
+
+static size_t rank_in(const Tables *t, Set set)
+{
+    size_t rank = 0;
+    for (Set inner = 0; inner <= set; inner++)
+        if (subset(inner, set) && t->independent[inner] && size_of_set(inner) > rank)
+            rank = size_of_set(inner);
+    return rank;
+}
+
+/* Every seat for the columns from x on: out, the constant side, or a parameter row that is not taken. */
+static void seat_from(Tables *t, size_t x, Set placed, Set constant_side, Set taken)
+{
+    const Model *m = t->model;
+    if (x == m->n) {
+        t->placeable[placed] |= t->independent[constant_side];
+        return;
+    }
+    Set column = just(x);
+    seat_from(t, x + 1, placed, constant_side, taken);
+    seat_from(t, x + 1, placed | column, constant_side | column, taken);
+    for (size_t r = 0; r < m->b; r++)
+        if ((m->parameters[r] & column) && !has(taken, r))
+            seat_from(t, x + 1, placed | column, constant_side, taken | just(r));
+}
+
+static size_t sum_by_definition(const Tables *t, Set set)
+{
+    size_t touching = 0;
+    for (size_t r = 0; r < t->model->b; r++)
+        touching += (t->model->parameters[r] & set) != 0;
+    return rank_in(t, set) + touching + t->model->n - size_of_set(set);
+}
+
+static void find_rank_and_placed(const Tables *t, Enumerated *e)
+{
+    for (Set set = 0; set <= all_below(t->model->n); set++)
+        if (t->placeable[set] && size_of_set(set) > e->rank)
+            e->rank = size_of_set(set);
+    for (size_t x = 0; x < t->model->n; x++)
+        if (t->placeable[e->placed | just(x)])
+            e->placed |= just(x);
+}
+
+static void find_short(const Tables *t, Enumerated *e)
+{
+    e->short_set = all_below(t->model->n);
+    for (Set set = 0; set <= all_below(t->model->n); set++)
+        if ((e->sums[set] = sum_by_definition(t, set)) == e->rank)
+            e->short_set &= set;
+    e->short_is_least = e->sums[e->short_set] == e->rank;
+}
+
+Enumerated enumerate_layered(const Model *model)
+{
+    Tables t = {.model = model};
+    Enumerated e = {0};
+    find_independent(&t, all_below(model->a));
+    seat_from(&t, 0, 0, 0, 0);
+    find_rank_and_placed(&t, &e);
+    find_short(&t, &e);
+    return e;
+}
+
+/* The largest number of parameters on these rows from r on and these columns, no two in a row or column. */
+static size_t matched_from(const Model *m, size_t r, Set rows, Set columns)
+{
+    if (r == m->b)
+        return 0;
+    size_t best = matched_from(m, r + 1, rows, columns);
+    for (size_t c = 0; c < m->n && has(rows, r); c++)
+        if (has(m->parameters[r] & columns, c)) {
+            size_t size = 1 + matched_from(m, r + 1, rows, columns & ~just(c));
+            best = size > best ? size : best;
+        }
+    return best;
+}
+
+size_t enumerate_mixed_rank(const Model *model)
+{
+    Tables t = {.model = model};
+    size_t rank = 0;
+    for (Set rows = 0; rows <= all_below(model->a); rows++) {
+        find_independent(&t, rows);
+        for (Set columns = 0; columns <= all_below(model->n); columns++) {
+            size_t size = rank_in(&t, columns) + matched_from(model, 0, ~rows, ~columns);
+            rank = size > rank ? size : rank;
+        }
+    }
+    return rank;
+}
