@@ -11,6 +11,10 @@ use Rattle.columns.specs.declared.ColumnSet.{ColumnSet}
 unfoldable pub whole : ColumnSet → ℕ
 whole s = s .word
 
+-- the set with a number
+unfoldable pub set-of : ℕ → ColumnSet
+set-of w = record { word = w }
+
 -- the set with no column
 unfoldable pub empty-set : ColumnSet
 empty-set = record { word = 0 }
