@@ -1,12 +1,13 @@
 -- The laws of tests and statements about every element of a list. Assumes nothing.
-use Prim.Native.Nat.{ℕ, zero, suc, _-_, _≤_, _<_}
-use mathlib.Core.Path.{_≡_, refl}
+use Prim.Native.Nat.{ℕ, zero, suc, _+_, _-_, _≤_, _<_, min}
+use mathlib.Core.Path.{_≡_, refl, sym, ap, _∙_}
 use mathlib.Core.Logic.{_↔_}
-use mathlib.Core.Bool.{Bool, true, false, _&&_}
+use mathlib.Core.Bool.{Bool, true, false}
 use mathlib.Core.List.{List, [], _∷_}
+use native.Mathlib.Numerals.{add-one}
 use native.Mathlib.Omega.{arith}
-use lib.ListN.{length, getD, take, drop, length-drop}
-use lib.Seq.{take-all, drop-cons}
+use lib.ListN.{length, getD, take, drop, length-take, length-drop, drop-of-length-le}
+use lib.Seq.{take-all, drop-cons, getD-take}
 use Rattle.counting.specs.Bools.{and-in, and-left, and-right}
 use Rattle.format.specs.Lists.{all-pass, All}
 
@@ -41,24 +42,6 @@ pub all-pass-done : (f : ℕ → Bool) → all-pass f [] ≡ true
 unfolding all-pass
 all-pass-done f = refl
 
--- by their numbers: the first k pass, and so does the next; or one of them does not
-pub all-pass-more : (f : ℕ → Bool) (xs : List ℕ) (k : ℕ) → k < length xs → all-pass f (take k xs) ≡ true → f (getD xs k 0) ≡ true → all-pass f (take (suc k) xs) ≡ true
-unfolding all-pass
-all-pass-more f [] k l e d = absurd (omega arith)
-all-pass-more f (x ∷ xs) zero l e d = and-in d refl
-all-pass-more f (x ∷ xs) (suc k) l e d = and-in (and-left (f x) (all-pass f (take k xs)) e) (all-pass-more f xs k (omega arith) (and-right (f x) (all-pass f (take k xs)) e) d)
-
-pub all-pass-misses : (f : ℕ → Bool) (xs : List ℕ) (k i : ℕ) → i < k → i < length xs → f (getD xs i 0) ≡ false → all-pass f (take k xs) ≡ false
-unfolding all-pass
-all-pass-misses f xs zero i l m d = absurd (omega arith)
-all-pass-misses f [] (suc k) i l m d = absurd (omega arith)
-all-pass-misses f (x ∷ xs) (suc k) zero l m d = rw d refl
-all-pass-misses f (x ∷ xs) (suc k) (suc i) l m d = rw (all-pass-misses f xs k i (omega arith) (omega arith) d) (and-false (f x))
-  where
-    and-false : (b : Bool) → (b && false) ≡ false
-    and-false true = refl
-    and-false false = refl
-
 -- a list by its first element and the rest
 pub first-rest : (xs : List ℕ) → 0 < length xs → xs ≡ getD xs 0 0 ∷ drop 1 xs
 first-rest xs l = drop-cons xs 0 0 l
@@ -66,6 +49,16 @@ first-rest xs l = drop-cons xs 0 0 l
 pub nothing : (xs : List ℕ) → length xs ≤ 0 → xs ≡ []
 nothing [] l = refl
 nothing (x ∷ xs) l = absurd (omega arith)
+
+-- of the first b elements, those from r on
+pub first-left : (b r : ℕ) (xs : List ℕ) → r < b → r < length xs → drop r (take b xs) ≡ getD xs r 0 ∷ drop (r + 1) (take b xs)
+first-left b r xs l h =
+    drop-cons (take b xs) r 0 (rw (length-take b xs) (omega arith)) ∙ ap (λ (x : ℕ). x ∷ drop (suc r) (take b xs)) (getD-take b xs r 0 l)
+    ∙ ap (λ (k : ℕ). getD xs r 0 ∷ drop k (take b xs)) (sym (add-one r))
+
+-- there are none from their end on
+pub none-left : (b r : ℕ) (xs : List ℕ) → min b (length xs) ≤ r → drop r (take b xs) ≡ []
+none-left b r xs h = drop-of-length-le (take b xs) {i = r} (rw (length-take b xs) h)
 
 -- a part that goes to the end
 pub tail-part : (k : ℕ) (xs : List ℕ) → take (length xs - k) (drop k xs) ≡ drop k xs

@@ -1,20 +1,35 @@
 // One line for a model: its name, and what the layered rank call answers.
 use layered::Answer;
-
-// No row shows a column.
-const NONE: u8 = 255;
+use limits::MOST_COLUMNS;
+use limits::MOST_ROWS;
+use limits::NO_COLUMN;
 
 pub fn number(n: u64) {
     io::write_all(1, b" ");
     io::print_decimal(1, n);
 }
 
+fn each_column(set: u64) {
+    for x in 0..MOST_COLUMNS {
+        if columns::contains(set, x) {
+            number(x as u64);
+        }
+    }
+}
+
+// The columns of a set, in braces.
+fn braces(set: u64) {
+    io::write_all(1, b" {");
+    each_column(set);
+    io::write_all(1, b" }");
+}
+
 // How many rows have a column.
-fn serving(rows: [u8; 64]) -> u32 {
-    let mut count: u32 = 0;
-    for i in 0..64 {
-        if rows[i] != NONE {
-            count = std::num::wrapping_add_u32(count, 1);
+fn serving(rows: [u8; MOST_ROWS]) -> usize {
+    let mut count: usize = 0;
+    for i in 0..MOST_ROWS {
+        if rows[i] != NO_COLUMN {
+            count = std::num::wrapping_add_usize(count, 1);
         }
     }
     count
@@ -23,16 +38,16 @@ fn serving(rows: [u8; 64]) -> u32 {
 // Whether the assignment shown has as many columns as the rank says.
 fn adds_up(answer: Answer) -> bool {
     let rows = answer.rows;
-    std::num::wrapping_add_u32(u64::count_ones(answer.constants), serving(rows))
-        == answer.rank as u32
+    std::num::wrapping_add_usize(columns::size(answer.constants), serving(rows))
+        == answer.rank as usize
 }
 
 fn tell(answer: Answer) {
     number(answer.refusal as u64);
     number(answer.verdict as u64);
     number(answer.rank as u64);
-    number(answer.placed);
-    number(answer.short);
+    braces(answer.placed);
+    braces(answer.short);
     if adds_up(answer) {
         io::write_all(1, b" yes\n");
     } else {

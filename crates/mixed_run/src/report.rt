@@ -1,4 +1,5 @@
 // One line for a model: its name, and what the mixed rank call answers.
+use limits::MOST_COLUMNS;
 use mixed::MixedAnswer;
 
 pub fn number(n: u64) {
@@ -6,17 +7,27 @@ pub fn number(n: u64) {
     io::print_decimal(1, n);
 }
 
-// Whether a set has nothing at or past the end.
-fn lies_below(set: u64, end: usize) -> bool {
-    end >= 64 || set >> end == 0
+fn each_column(set: u64) {
+    for x in 0..MOST_COLUMNS {
+        if columns::contains(set, x) {
+            number(x as u64);
+        }
+    }
+}
+
+// The columns of a set, in braces.
+fn braces(set: u64) {
+    io::write_all(1, b" {");
+    each_column(set);
+    io::write_all(1, b" }");
 }
 
 fn tell(answer: MixedAnswer, m: usize, n: usize) {
     number(answer.refusal as u64);
     number(answer.verdict as u64);
     number(answer.rank as u64);
-    number(answer.short);
-    if lies_below(answer.rows, m) && lies_below(answer.columns, n) {
+    braces(answer.short);
+    if columns::within(answer.rows, m) && columns::within(answer.columns, n) {
         io::write_all(1, b" yes\n");
     } else {
         io::write_all(1, b" no\n");

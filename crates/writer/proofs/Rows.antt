@@ -2,15 +2,14 @@
 use Prim.Native.Nat.{ℕ, zero, suc, _+_, _*_, _-_, _≤_, _<_}
 use mathlib.Core.Path.{_≡_, refl, sym, ap, _∙_}
 use mathlib.Core.List.{List, [], _∷_, _++_, flatMap}
-use native.Mathlib.Numerals.{add-one}
 use native.Mathlib.Omega.{arith}
 use native.Mathlib.Nat.{suc-mul, zero-mul}
 use lib.ListN.{length, getD, take, drop, length-append, length-drop}
-use lib.Seq.{length-take-le, drop-cons, getD-take}
+use lib.Seq.{length-take-le}
 use Rattle.columns.specs.Bytes.{bytes-of}
 use Rattle.limits.specs.Limits.{set-bytes}
 use Rattle.format.specs.Lists.{rows-of}
-use Rattle.format.specs.ListLaws.{nothing}
+use Rattle.format.specs.ListLaws.{first-left, nothing}
 use Rattle.format.specs.Refusals.{head-bytes, PutRoom}
 use Rattle.format.specs.File.Piece.{field-bytes}
 use Rattle.format.specs.File.Format.{prime-tag, sizes-tag, parameter-tag, end-tag, parameter-size, entry-bytes, prime-field, sizes-field, constant-row, parameter-row, end-field, row-fields, size-fields, fields, encode, handed-over}
@@ -84,13 +83,7 @@ module _ (n : ℕ) where
   pub parameter-rows-next : (b r : ℕ) (ws : List ℕ) → r < b → b ≤ length ws
       → flatMap (parameter-bytes n) (drop r (take b ws)) ≡ parameter-bytes n (getD ws r 0) ++ flatMap (parameter-bytes n) (drop (r + 1) (take b ws))
   unfolding flatMap
-  parameter-rows-next b r ws l h = ap (flatMap (parameter-bytes n)) here
-    where
-      here : drop r (take b ws) ≡ getD ws r 0 ∷ drop (r + 1) (take b ws)
-      here =
-          drop-cons (take b ws) r 0 (rw (length-take-le b ws h) l)
-          ∙ ap (λ (x : ℕ). x ∷ drop (suc r) (take b ws)) (getD-take b ws r 0 l)
-          ∙ ap (λ (k : ℕ). getD ws r 0 ∷ drop k (take b ws)) (sym (add-one r))
+  parameter-rows-next b r ws l h = ap (flatMap (parameter-bytes n)) (first-left b r ws l (omega arith))
 
   pub parameter-rows-done : (s : List ℕ) → length s ≤ 0 → flatMap (parameter-bytes n) s ≡ []
   unfolding flatMap

@@ -1,5 +1,6 @@
 -- `layered_run::report::serving` ends: what is left of the range falls. Assumes nothing.
 use Prim.Native.Nat.{_-_}
+use Rattle.limits.specs.Limits.{most-rows}
 use borrow.Author.Needs.{needs}
 use Rattle.layered_run.proofs.report.serving.Statement.{statement}
 use Rattle.layered_run.proofs.report.serving.Tie as tie
@@ -8,7 +9,7 @@ abbrev Inv-loop : tie.InvT-loop
 Inv-loop rows count₀ i₀ count i = Unit {0}
 
 abbrev μ-loop : tie.MeasureT-loop
-μ-loop rows count₀ i₀ count i = 64 - i
+μ-loop rows count₀ i₀ count i = most-rows - i
 
 loop-holds : tie.Need-loop-holds Inv-loop μ-loop
 loop-holds c = search needs
@@ -16,8 +17,8 @@ loop-holds c = search needs
 array-read-if1 : tie.Need-array-read-if1 Inv-loop μ-loop
 array-read-if1 c = search needs
 
-wrapping-add-u32-requires : tie.Need-wrapping-add-u32-requires Inv-loop μ-loop
-wrapping-add-u32-requires c κs = search needs
+wrapping-add-usize-requires : tie.Need-wrapping-add-usize-requires Inv-loop μ-loop
+wrapping-add-usize-requires c κs = search needs
 
 add-i : tie.Need-add-i Inv-loop μ-loop
 add-i c = search needs
@@ -39,7 +40,7 @@ serving-spec =
     μ-loop
     loop-holds
     array-read-if1
-    wrapping-add-u32-requires
+    wrapping-add-usize-requires
     add-i
     loop-less
     loop-again
