@@ -1,29 +1,32 @@
--- What a word means as a set of columns, and the set operations that the contracts cite. Definitions only.
+-- What a number means as a set of columns, and the set operations that the contracts cite. Definitions only.
 use Prim.Native.Nat.{ℕ, zero, suc, _+_, _-_, _*_, _/_, _%_, _^_}
 use mathlib.Core.Bool.{Bool, false, not, _&&_, _||_, cond}
 use lib.Dec.{eqb, leb, ltb}
 use Rattle.counting.specs.Sets.{Set, indicator, all}
 
--- how many columns a word has room for
+-- how many columns a set has room for, and in how many bytes
 abbrev pub width : ℕ
 width = 64
 
--- bit x of the word w, 0 or 1
+abbrev pub set-bytes : ℕ
+set-bytes = width / 8
+
+-- bit x of the number w, 0 or 1
 abbrev pub bit : ℕ → ℕ → ℕ
 bit w x = w / 2 ^ x % 2
 
--- the columns of the word w
+-- the columns of the number w
 unfoldable pub members : ℕ → Set
 members w x = eqb (bit w x) 1
 
 abbrev pub none : Set
 none x = false
 
--- the columns below n that a word has room for
+-- the columns below n that a set has room for
 unfoldable pub upto : ℕ → Set
 upto n x = ltb x n && ltb x width
 
--- S with column j, where a word has room for j
+-- S with column j, where a set has room for j
 unfoldable pub inserted : Set → ℕ → Set
 inserted S j x = S x || (eqb x j && ltb j width)
 
@@ -31,7 +34,7 @@ inserted S j x = S x || (eqb x j && ltb j width)
 unfoldable pub removed : Set → ℕ → Set
 removed S j x = S x && not (eqb x j)
 
--- S moved m columns up, as far as a word has room
+-- S moved m columns up, as far as a set has room
 unfoldable pub moved-up : Set → ℕ → Set
 moved-up S m x = leb m x && S (x - m) && ltb x width
 
@@ -44,11 +47,11 @@ unfoldable pub least : ℕ → Set → ℕ
 least zero S = 0
 least (suc n) S = cond (S 0) 0 (suc (least n (λ x. S (suc x))))
 
--- the word of the columns of S below k
+-- the number of the columns of S below k
 unfoldable pub word-of : ℕ → Set → ℕ
 word-of zero S = 0
 word-of (suc k) S = indicator (S 0) + 2 * word-of k (λ x. S (suc x))
 
--- no column of the word w is n or more
+-- no column of the number w is n or more
 unfoldable pub within : ℕ → ℕ → Bool
 within n w = all width (λ x. not (members w x) || ltb x n)

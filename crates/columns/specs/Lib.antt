@@ -1,4 +1,5 @@
--- Words that show sets of columns: Columns and Bytes are what the contracts cite, Words holds their laws.
+-- Sets of columns: Columns, ColumnSets and Bytes are what the contracts cite, Words holds their laws.
 pub mod Bytes
 pub mod Columns
+pub mod ColumnSets
 pub mod Words

@@ -1,12 +1,53 @@
-// A set of columns as one word: column x is in the set if bit x of the word is 1. No other library touches bits.
-// Every function is total: a column from 64 on is in no set, and putting it into one changes nothing.
+// Sets of columns, a type of their own: no other code touches their bits or the words of a parameter row. Column x is in a set if bit x of its
+// word is 1. Every function is total: a column that a set has no room for is in none, and putting it into one changes nothing.
 ghost use mathlib.Core.Path.{_≡_};
 ghost use Prim.Native.Nat.{_+_};
 ghost use lib.Dec.{eqb};
-ghost use lib.ListN.{getD, take};
+ghost use lib.ListN.{length, getD, take};
 ghost use Rattle.counting.specs.Sets.{_∪_, _∩_, ∁, #};
 ghost use Rattle.columns.specs.Bytes.{number, bytes-of};
-ghost use Rattle.columns.specs.Columns.{width, members, none, upto, inserted, removed, moved-up, moved-down, least, within};
+ghost use Rattle.columns.specs.Columns.{width, set-bytes, members, upto, inserted, removed, moved-up, moved-down, least, within};
+ghost use Rattle.columns.specs.ColumnSets.{row-words, most-words, empty-set, whole, row-numbers, with-row};
+use limits::MOST_ROWS;
+
+// How many columns a set has room for, and in how many bytes.
+pub const WIDTH: usize = 64;
+
+const BYTES: usize = WIDTH / 8;
+
+// How many words an area has for each parameter row, and for those of every model.
+pub const ROW_WORDS: usize = 1;
+
+pub const MOST_WORDS: usize = MOST_ROWS * ROW_WORDS;
+
+fn width_tied() -> usize
+    ensures { λ r. ⌜ r ≡ width ⌝ }
+{
+    WIDTH
+}
+
+fn bytes_tied() -> usize
+    ensures { λ r. ⌜ r ≡ set-bytes ⌝ }
+{
+    BYTES
+}
+
+fn row_words_tied() -> usize
+    ensures { λ r. ⌜ r ≡ row-words ⌝ }
+{
+    ROW_WORDS
+}
+
+fn most_words_tied() -> usize
+    ensures { λ r. ⌜ r ≡ most-words ⌝ }
+{
+    MOST_WORDS
+}
+
+// A set of columns.
+pub struct ColumnSet {
+    word: u64,
+}
 
 // The word with no column, and that with all.
 const EMPTY: u64 = 0;
@@ -14,128 +55,137 @@ const EMPTY: u64 = 0;
 const FULL: u64 = 18446744073709551615;
 
 // The empty set.
-pub fn empty() -> u64
-    ensures { λ r. ⌜ members r ≡ none ⌝ }
+pub fn empty() -> ColumnSet
+    ensures { λ r. ⌜ r ≡ empty-set ⌝ }
 {
-    EMPTY
+    ColumnSet { word: EMPTY }
 }
 
 // Whether the set has no column.
-pub fn is_empty(set: u64) -> bool
-    ensures { λ r. ⌜ r ≡ eqb (# width (members set)) 0 ⌝ }
+pub fn is_empty(set: ColumnSet) -> bool
+    ensures { λ r. ⌜ r ≡ eqb (# width (members (whole set))) 0 ⌝ }
 {
-    set == EMPTY
+    set.word == EMPTY
 }
 
 // All columns below n.
-pub fn below(n: usize) -> u64
-    ensures { λ r. ⌜ members r ≡ upto n ⌝ }
+pub fn below(n: usize) -> ColumnSet
+    ensures { λ r. ⌜ members (whole r) ≡ upto n ⌝ }
 {
-    if n < 64 {
-        return (1u64 << n) - 1;
+    if n < WIDTH {
+        let word = (1u64 << n) - 1;
+        return ColumnSet { word };
     }
-    FULL
+    ColumnSet { word: FULL }
 }
 
 // Whether column x is in the set.
-pub fn contains(set: u64, x: usize) -> bool
-    ensures { λ r. ⌜ r ≡ members set x ⌝ }
+pub fn contains(set: ColumnSet, x: usize) -> bool
+    ensures { λ r. ⌜ r ≡ members (whole set) x ⌝ }
 {
-    if x < 64 {
-        return (set >> x) % 2 == 1;
+    if x < WIDTH {
+        return (set.word >> x) % 2 == 1;
     }
     false
 }
 
 // The set with column x.
-pub fn with(set: u64, x: usize) -> u64
-    ensures { λ r. ⌜ members r ≡ inserted (members set) x ⌝ }
+pub fn with(set: ColumnSet, x: usize) -> ColumnSet
+    ensures { λ r. ⌜ members (whole r) ≡ inserted (members (whole set)) x ⌝ }
 {
-    if x < 64 {
-        return set | (1u64 << x);
+    if x < WIDTH {
+        let word = set.word | (1u64 << x);
+        return ColumnSet { word };
     }
     set
 }
 
 // The set without column x.
-pub fn without(set: u64, x: usize) -> u64
-    ensures { λ r. ⌜ members r ≡ removed (members set) x ⌝ }
+pub fn without(set: ColumnSet, x: usize) -> ColumnSet
+    ensures { λ r. ⌜ members (whole r) ≡ removed (members (whole set)) x ⌝ }
 {
-    if x < 64 {
-        return set & !(1u64 << x);
+    if x < WIDTH {
+        let word = set.word & !(1u64 << x);
+        return ColumnSet { word };
     }
     set
 }
 
 // The columns of either set.
-pub fn union(set: u64, other: u64) -> u64
-    ensures { λ r. ⌜ members r ≡ members set ∪ members other ⌝ }
+pub fn union(set: ColumnSet, other: ColumnSet) -> ColumnSet
+    ensures { λ r. ⌜ members (whole r) ≡ members (whole set) ∪ members (whole other) ⌝ }
 {
-    set | other
+    ColumnSet {
+        word: set.word | other.word,
+    }
 }
 
 // The columns of the first set that are not in the other.
-pub fn difference(set: u64, other: u64) -> u64
-    ensures { λ r. ⌜ members r ≡ members set ∩ ∁ (members other) ⌝ }
+pub fn difference(set: ColumnSet, other: ColumnSet) -> ColumnSet
+    ensures { λ r. ⌜ members (whole r) ≡ members (whole set) ∩ ∁ (members (whole other)) ⌝ }
 {
-    set & !other
+    ColumnSet {
+        word: set.word & !other.word,
+    }
 }
 
-// The least column of the set, or 64 where it is empty.
-pub fn first(set: u64) -> usize
-    ensures { λ r. ⌜ r ≡ least width (members set) ⌝ }
+// The least column of the set, or `WIDTH` where it is empty.
+pub fn first(set: ColumnSet) -> usize
+    ensures { λ r. ⌜ r ≡ least width (members (whole set)) ⌝ }
 {
-    u64::trailing_zeros(set) as usize
+    u64::trailing_zeros(set.word) as usize
 }
 
 // How many columns the set has.
-pub fn size(set: u64) -> usize
-    ensures { λ r. ⌜ r ≡ # width (members set) ⌝ }
+pub fn size(set: ColumnSet) -> usize
+    ensures { λ r. ⌜ r ≡ # width (members (whole set)) ⌝ }
 {
-    u64::count_ones(set) as usize
+    u64::count_ones(set.word) as usize
 }
 
-// The columns of the set moved m up; those that a word has no room for are gone.
-pub fn raised(set: u64, m: usize) -> u64
-    ensures { λ r. ⌜ members r ≡ moved-up (members set) m ⌝ }
+// The columns of the set moved m up; those that a set has no room for are gone.
+pub fn raised(set: ColumnSet, m: usize) -> ColumnSet
+    ensures { λ r. ⌜ members (whole r) ≡ moved-up (members (whole set)) m ⌝ }
 {
-    if m < 64 {
-        return set << m;
+    if m < WIDTH {
+        let word = set.word << m;
+        return ColumnSet { word };
     }
-    EMPTY
+    empty()
 }
 
 // The columns of the set from m on, moved m down.
-pub fn lowered(set: u64, m: usize) -> u64
-    ensures { λ r. ⌜ members r ≡ moved-down (members set) m ⌝ }
+pub fn lowered(set: ColumnSet, m: usize) -> ColumnSet
+    ensures { λ r. ⌜ members (whole r) ≡ moved-down (members (whole set)) m ⌝ }
 {
-    if m < 64 {
-        return set >> m;
+    if m < WIDTH {
+        let word = set.word >> m;
+        return ColumnSet { word };
     }
-    EMPTY
+    empty()
 }
 
 // Whether every column of the set is below n.
-pub fn within(set: u64, n: usize) -> bool
-    ensures { λ r. ⌜ r ≡ within n set ⌝ }
+pub fn within(set: ColumnSet, n: usize) -> bool
+    ensures { λ r. ⌜ r ≡ within n (whole set) ⌝ }
 {
-    if n < 64 {
-        return set >> n == 0;
+    if n < WIDTH {
+        return set.word >> n == 0;
     }
     true
 }
 
-// The set that eight bytes show, the low byte first: column c is bit c mod 8 of byte c div 8. Bytes that are missing count as 0.
-pub fn of_bytes(bytes: &[u8]) -> u64
-    ensures { λ r. ⌜ r ≡ number (take 8 (now (bytes .entry))) ⌝ }
+// The set that bytes show, the low byte first: column c is bit c mod 8 of byte c div 8. Bytes that are missing count as 0.
+pub fn of_bytes(bytes: &[u8]) -> ColumnSet
+    ensures { λ r. ⌜ whole r ≡ number (take set-bytes (now (bytes .entry))) ⌝ }
 {
-    let mut set: u64 = 0;
-    let mut k: usize = 8;
+    let mut word: u64 = 0;
+    let mut k: usize = BYTES;
     while k > 0 {
         k -= 1;
-        set = set * 256 + byte_or_zero(bytes, k);
+        word = word * 256 + byte_or_zero(bytes, k);
     }
-    set
+    ColumnSet { word }
 }
 
 // The byte at k, or 0 past the end.
@@ -154,12 +204,39 @@ fn widened(x: u8) -> u64
     x as u64
 }
 
-// Byte k of the eight bytes that show the set, and 0 from the eighth on.
-pub fn byte(set: u64, k: usize) -> u8
-    ensures { λ r. ⌜ r ≡ getD (bytes-of 8 set) k 0 ⌝ }
+// Byte k of those that show the set, and 0 past the last.
+pub fn byte(set: ColumnSet, k: usize) -> u8
+    ensures { λ r. ⌜ r ≡ getD (bytes-of set-bytes (whole set)) k 0 ⌝ }
 {
-    if k < 8 {
-        return ((set >> (8 * k)) % 256) as u8;
+    if k < BYTES {
+        return ((set.word >> (8 * k)) % 256) as u8;
     }
     0
+}
+
+// How many parameter rows an area holds.
+pub fn rows(words: &[u64]) -> usize
+    ensures { λ r. ⌜ r ≡ length (row-numbers (now (words .entry))) ⌝ }
+{
+    words.len() / ROW_WORDS
+}
+
+// The columns of parameter row r of an area, and none where the area has no such row.
+pub fn row(words: &[u64], r: usize) -> ColumnSet
+    ensures { λ s. ⌜ whole s ≡ getD (row-numbers (now (words .entry))) r 0 ⌝ }
+{
+    if r < words.len() {
+        let word = words[r];
+        return ColumnSet { word };
+    }
+    empty()
+}
+
+// Parameter row r of an area gets the columns of the set; nothing changes where the area has no such row.
+pub fn put_row(words: &mut [u64], r: usize, set: ColumnSet)
+    ensures { λ _. ⌜ now (words .exit) ≡ with-row (now (words .entry)) r (whole set) ⌝ }
+{
+    if r < words.len() {
+        words[r] = set.word;
+    }
 }

@@ -1,4 +1,6 @@
-// Runs the operations on column sets over a handful of words, 0 and all ones among them, and columns on both sides of 64.
+// Runs the operations on column sets over a handful of sets, the empty and the full one among them, and columns on both sides of the last.
+use columns::ColumnSet;
+use columns::ROW_WORDS;
 
 const WORDS: [u64; 6] = [
     0,
@@ -16,6 +18,13 @@ fn number(n: u64) {
     io::print_decimal(1, n);
 }
 
+// A set as the word that it puts into an area.
+fn word(set: ColumnSet) {
+    let mut area = [0u64; ROW_WORDS];
+    columns::put_row(&mut area, 0, set);
+    number(area[0]);
+}
+
 fn flag(b: bool) {
     if b {
         io::write_all(1, b" yes");
@@ -24,10 +33,14 @@ fn flag(b: bool) {
     }
 }
 
+fn nth(i: usize) -> ColumnSet {
+    columns::row(&WORDS, i)
+}
+
 // One line: the word's own size and first column, and whether it is empty.
-fn describe(set: u64) {
+fn describe(set: ColumnSet) {
     io::write_all(1, b"set");
-    number(set);
+    word(set);
     number(columns::size(set) as u64);
     number(columns::first(set) as u64);
     flag(columns::is_empty(set));
@@ -35,47 +48,52 @@ fn describe(set: u64) {
 }
 
 // One line: the word and a column.
-fn at(set: u64, x: usize) {
+fn at(set: ColumnSet, x: usize) {
     io::write_all(1, b"at");
     number(x as u64);
     flag(columns::contains(set, x));
     flag(columns::within(set, x));
-    number(columns::with(set, x));
-    number(columns::without(set, x));
-    number(columns::below(x));
+    word(columns::with(set, x));
+    word(columns::without(set, x));
+    word(columns::below(x));
     number(columns::byte(set, x) as u64);
     io::write_all(1, b"\n");
 }
 
 // One line: two words.
-fn pair(set: u64, other: u64) {
+fn pair(set: ColumnSet, other: ColumnSet) {
     io::write_all(1, b"pair");
-    number(columns::union(set, other));
-    number(columns::difference(set, other));
+    word(columns::union(set, other));
+    word(columns::difference(set, other));
     io::write_all(1, b"\n");
 }
 
-fn over_places(set: u64) {
+fn over_places(set: ColumnSet) {
     for i in 0..7 {
         at(set, PLACES[i]);
     }
 }
 
-fn over_words(set: u64) {
+fn over_words(set: ColumnSet) {
     for i in 0..6 {
-        pair(set, WORDS[i]);
+        pair(set, nth(i));
     }
 }
 
-fn main() {
-    number(columns::empty());
-    number(columns::of_bytes(b""));
-    number(columns::of_bytes(b"\x02"));
-    number(columns::of_bytes(b"\x01\x02\x03\x04\x05\x06\x07\x80"));
-    number(columns::of_bytes(b"\xff\xff\xff\xff\xff\xff\xff\xff\xff"));
+// One line: the empty set, and those of few and of many bytes.
+fn read() {
+    word(columns::empty());
+    word(columns::of_bytes(b""));
+    word(columns::of_bytes(b"\x02"));
+    word(columns::of_bytes(b"\x01\x02\x03\x04\x05\x06\x07\x80"));
+    word(columns::of_bytes(b"\xff\xff\xff\xff\xff\xff\xff\xff\xff"));
     io::write_all(1, b"\n");
+}
+
+fn main() {
+    read();
     for i in 0..6 {
-        let set = WORDS[i];
+        let set = nth(i);
         describe(set);
         over_places(set);
         over_words(set);

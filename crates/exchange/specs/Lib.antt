@@ -1,4 +1,5 @@
 -- What the solver promises, and what the program's arrays mean.
+pub mod Sizes
 pub mod Solution
 pub mod Solve
 pub mod SolveLaws

@@ -7,6 +7,7 @@ use mathlib.Core.List.{List}
 use native.Mathlib.Decide.{ℕ-discrete}
 use lib.ListN.{getD}
 use lib.Dec.{ltb}
+use Rattle.limits.specs.Limits.{most-rows, no-column}
 use Rattle.counting.specs.Sets.{Set, Some}
 use Rattle.counting.specs.Counts.{some?}
 use Rattle.rank.specs.Layered.Model.{Model, Seat, out, constant, row, Assignment, placing, constants, Legal}
@@ -21,9 +22,9 @@ shown-row b rows x (no nw) = out
 unfoldable pub shown : (n b : ℕ) (side : Set) (rows : List ℕ) → Assignment
 shown n b side rows x = cond (ltb x n) (cond (side x) constant (shown-row b rows x (some? b (λ r. getD rows r 0 ≡ x) (λ r. ℕ-discrete (getD rows r 0) x)))) out
 
--- row r shows the column that has its seat there, or 255 where none has
+-- row r shows the column that has its seat there, or no column where none has
 abbrev pub ShowsRow : (n b : ℕ) (side : Set) (rows : List ℕ) (r : ℕ) → Type 0
-ShowsRow n b side rows r = ((getD rows r 0 < n) × (shown n b side rows (getD rows r 0) ≡ row r)) ⊎ ((getD rows r 0 ≡ 255) × ((x : ℕ) → shown n b side rows x ≢ row r))
+ShowsRow n b side rows r = ((getD rows r 0 < n) × (shown n b side rows (getD rows r 0) ≡ row r)) ⊎ ((getD rows r 0 ≡ no-column) × ((x : ℕ) → shown n b side rows x ≢ row r))
 
 -- the answer to M: rank, placed set and short set are those of the definitions. The assignment is legal and places exactly the placed set; which side
 -- and row a placed column takes is left open, and this is all that holds of it.
@@ -36,4 +37,4 @@ pub record Solved (M : Model) (the-rank : ℕ) (the-placed the-side the-short : 
   -- the side and the rows show nothing else
   pub side-shown : (x : ℕ) → the-side x ≡ constants (shown (M .n) (M .b) the-side rows) x
   pub rows-shown : (r : ℕ) → r < M .b → ShowsRow (M .n) (M .b) the-side rows r
-  pub past-rows : (r : ℕ) → M .b ≤ r → r < 64 → getD rows r 0 ≡ 255
+  pub past-rows : (r : ℕ) → M .b ≤ r → r < most-rows → getD rows r 0 ≡ no-column

@@ -1,15 +1,18 @@
 // Whether a model can be taken: its sizes, its areas, its prime and its constants.
 ghost use mathlib.Core.Path.{_≡_};
-ghost use mathlib.Core.Logic.{_⊎_};
-ghost use Prim.Native.Nat.{ℕ, _*_, _<_, _≤_};
-ghost use lib.ListN.{length, getD};
-ghost use Rattle.counting.specs.Sets.{Some};
+ghost use Prim.Native.Nat.{_*_, _<_, _≤_};
+ghost use lib.ListN.{length};
+ghost use Rattle.columns.specs.ColumnSets.{whole, row-numbers};
 ghost use Rattle.exchange.specs.Solve.{all-below, fitting, admissible};
+ghost use Rattle.exchange.specs.SolveLaws.{Largest};
+use columns::ColumnSet;
+use limits::MOST_COLUMNS;
+use limits::MOST_ROWS;
 
 // The largest of the first k constants, and 0 of none. A loop with no way out but its end, which runs on vectors.
 fn largest(constants: &[u16], k: usize) -> u16
     requires { ⌜ k ≤ length (now constants) ⌝ }
-    ensures { λ r. ⌜ ((i : ℕ) → i < k → getD (now (constants .entry)) i 0 ≤ r) × ((r ≡ 0) ⊎ Some k (λ i. getD (now (constants .entry)) i 0 ≡ r)) ⌝ }
+    ensures { λ r. ⌜ Largest (now (constants .entry)) k r ⌝ }
 {
     let mut top: u16 = 0;
     for i in 0..k {
@@ -31,13 +34,13 @@ fn constants_below(constants: &[u16], k: usize, p: u32) -> bool
 fn fits(n: usize, a: usize, b: usize, constants: usize, parameters: usize) -> bool
     ensures { λ r. ⌜ r ≡ fitting n a b constants parameters ⌝ }
 {
-    if n > 64 {
+    if n > MOST_COLUMNS {
         return false;
     }
-    if a > 64 {
+    if a > MOST_ROWS {
         return false;
     }
-    if b > 64 {
+    if b > MOST_ROWS {
         return false;
     }
     if a * n > constants {
@@ -51,13 +54,13 @@ pub fn is_admissible(
     n: usize,
     a: usize,
     b: usize,
-    offered: u64,
+    offered: ColumnSet,
     constants: &[u16],
     parameters: &[u64],
 ) -> bool
-    ensures { λ r. ⌜ r ≡ admissible p n a b offered (now (constants .entry)) (now (parameters .entry)) ⌝ }
+    ensures { λ r. ⌜ r ≡ admissible p n a b (whole offered) (now (constants .entry)) (row-numbers (now (parameters .entry))) ⌝ }
 {
-    if !fits(n, a, b, constants.len(), parameters.len()) {
+    if !fits(n, a, b, constants.len(), columns::rows(parameters)) {
         return false;
     }
     if !columns::within(offered, n) {

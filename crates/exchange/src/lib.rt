@@ -5,71 +5,79 @@ ghost use mathlib.Core.Path.{_≡_};
 ghost use mathlib.Core.Logic.{_↔_};
 ghost use mathlib.Core.Bool.{true, false};
 ghost use Prim.Native.Nat.{ℕ, _<_, _≤_};
-ghost use lib.ListN.{length, replicate};
+ghost use Rattle.limits.specs.Limits.{most-columns, most-rows};
 ghost use Rattle.residue.specs.Arithmetic.{is-prime};
 ghost use Rattle.counting.specs.Sets.{_∈_};
 ghost use Rattle.columns.specs.Columns.{members, within};
-ghost use Rattle.exchange.specs.Solution.{Solved};
-ghost use Rattle.exchange.specs.Solve.{Solves};
-ghost use Rattle.exchange.specs.Code.Cells.{Below};
+ghost use Rattle.columns.specs.ColumnSets.{whole, row-numbers};
+ghost use Rattle.exchange.specs.Solve.{Nothing, SolvedBy, Solves};
+ghost use Rattle.exchange.specs.Code.Cells.{Tableau};
 ghost use Rattle.exchange.specs.Code.Held.{Given, model-of, ShowsConstants};
 
 mod admission;
 mod offering;
 mod search;
 mod seating;
+mod sizes;
 mod tableau;
 
+use columns::ColumnSet;
+use limits::MOST_ROWS;
+use limits::NO_COLUMN;
+use sizes::CELLS;
+use sizes::LINES;
+
 // The answer to a layered model: its rank, the placed columns, those of them on the constant side, the short set, and the column
-// of each parameter row (255 for none). Where the model is not valid, nothing.
+// of each parameter row (`NO_COLUMN` for none). Where the model is not valid, nothing.
 pub struct Solution {
     pub valid: bool,
     pub rank: usize,
-    pub placed: u64,
-    pub constants: u64,
-    pub short: u64,
-    pub rows: [u8; 64],
+    pub placed: ColumnSet,
+    pub constants: ColumnSet,
+    pub short: ColumnSet,
+    pub rows: [u8; MOST_ROWS],
 }
 
 fn nothing() -> Solution
-    ensures { λ r. ⌜ (r .valid ≡ false) × (r .rank ≡ 0) × (r .placed ≡ 0) × (r .constants ≡ 0) × (r .short ≡ 0) × (r .rows ≡ replicate 64 255) ⌝ }
+    ensures { λ r. ⌜ (r .valid ≡ false) × Nothing r ⌝ }
 {
     Solution {
         valid: false,
         rank: 0,
-        placed: 0,
-        constants: 0,
-        short: 0,
-        rows: [255u8; 64],
+        placed: columns::empty(),
+        constants: columns::empty(),
+        short: columns::empty(),
+        rows: [NO_COLUMN; MOST_ROWS],
     }
 }
 
 // The answer over a filled tableau and words.
 fn answer(
-    t: &mut [u16; 4096],
+    t: &mut [u16; CELLS],
     parameters: &[u64],
     p: u16,
     n: usize,
     a: usize,
     b: usize,
-    offered: u64,
+    offered: ColumnSet,
 ) -> Solution
-    requires { ⌜ (length (now t) ≡ 4096) × (n ≤ 64) × (a ≤ 64) × (b ≤ 64) × (b ≤ length (now parameters)) × (within n offered ≡ true) × (is-prime p ≡ true) × Below p (now t) ⌝ }
-    ensures { λ r. ⌜ (r .valid ≡ true) × ((G : Given p n b (now (parameters .entry))) → ShowsConstants p n a b (now (parameters .entry)) G (now (t .entry)) → ((x : ℕ) → (x ∈ members offered) ↔ ((x < n) × (x ∈ G .E))) → Solved (model-of p n a b (now (parameters .entry)) G) (r .rank) (members (r .placed)) (members (r .constants)) (members (r .short)) (r .rows)) ⌝ }
+    requires { ⌜ Tableau p (now t) × (n ≤ most-columns) × (a ≤ most-rows) × (b ≤ most-rows) × (within n (whole offered) ≡ true) × (is-prime p ≡ true) ⌝ }
+    ensures { λ r. ⌜ (r .valid ≡ true) × ((G : Given p n b (row-numbers (now (parameters .entry)))) → ShowsConstants p n a b (row-numbers (now (parameters .entry))) G (now (t .entry)) → ((x : ℕ) → (x ∈ members (whole offered)) ↔ ((x < n) × (x ∈ G .E))) → SolvedBy (model-of p n a b (row-numbers (now (parameters .entry))) G) r) ⌝ }
 {
-    let mut owner = [n as u8; 128];
+    let mut owner = [n as u8; LINES];
     let placed = offering::offer_all(t, &mut owner, parameters, p, n, a, b, offered);
     let missing = columns::difference(offered, placed);
     let f = search::search(t, &owner, parameters, n, a, a + b, missing);
     let rank = columns::size(placed);
     let side = offering::constant_side(&owner, n, a);
     let rows = offering::row_columns(&owner, n, a, b);
+    let short = f.reached;
     Solution {
         valid: true,
         rank,
         placed,
         constants: side,
-        short: f.reached,
+        short,
         rows,
     }
 }
@@ -80,16 +88,16 @@ pub fn solve(
     n: usize,
     a: usize,
     b: usize,
-    offered: u64,
+    offered: ColumnSet,
     constants: &[u16],
     parameters: &[u64],
 ) -> Solution
-    ensures { λ r. ⌜ Solves p n a b offered (now (constants .entry)) (now (parameters .entry)) (r .valid) (r .rank) (r .placed) (r .constants) (r .short) (r .rows) ⌝ }
+    ensures { λ r. ⌜ Solves p n a b offered (now (constants .entry)) (row-numbers (now (parameters .entry))) r ⌝ }
 {
     if !admission::is_admissible(p, n, a, b, offered, constants, parameters) {
         return nothing();
     }
-    let mut t = [0u16; 4096];
+    let mut t = [0u16; CELLS];
     tableau::fill(&mut t, constants, n, a);
     answer(&mut t, parameters, p as u16, n, a, b, offered)
 }

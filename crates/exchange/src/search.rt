@@ -4,22 +4,29 @@ ghost use mathlib.Core.Path.{_≡_};
 ghost use Prim.Native.Nat.{ℕ, _+_, _<_, _≤_};
 ghost use lib.ListN.{length};
 ghost use Rattle.counting.specs.Sets.{Set, _∈_};
-ghost use Rattle.columns.specs.Columns.{members};
+ghost use Rattle.limits.specs.Limits.{most-rows};
+ghost use Rattle.columns.specs.Columns.{width, members};
+ghost use Rattle.columns.specs.ColumnSets.{whole, row-numbers};
 ghost use Rattle.rank.specs.Graph.States.{State};
-ghost use Rattle.exchange.specs.Code.Scanning.{touched, owned, Scanned};
+ghost use Rattle.exchange.specs.Sizes.{cells};
+ghost use Rattle.exchange.specs.Code.Scanning.{Lengths, touched, owned, Scanned};
 ghost use Rattle.exchange.specs.Code.Searching.{Shows, Searched};
+use crate::sizes::CELLS;
+use crate::sizes::LINES;
+use crate::sizes::STRIDE;
+use columns::ColumnSet;
 
 // Whether row q touches the column x.
-fn touches(t: &[u16; 4096], parameters: &[u64], a: usize, q: usize, x: usize) -> bool
-    requires { ⌜ (length (now t) ≡ 4096) × (a ≤ 64) × (x < 64) × (q < a + length (now parameters)) ⌝ }
-    ensures { λ r. ⌜ r ≡ touched a (now (t .entry)) (now (parameters .entry)) q x ⌝ }
+fn touches(t: &[u16; CELLS], parameters: &[u64], a: usize, q: usize, x: usize) -> bool
+    requires { ⌜ (length (now t) ≡ cells) × (a ≤ most-rows) × (x < width) ⌝ }
+    ensures { λ r. ⌜ r ≡ touched a (now (t .entry)) (row-numbers (now (parameters .entry))) q x ⌝ }
 {
     if q < a {
-        let i = q * 64 + x;
+        let i = q * STRIDE + x;
         t[i] != 0
     } else {
         let k = q - a;
-        columns::contains(parameters[k], x)
+        columns::contains(columns::row(parameters, k), x)
     }
 }
 
@@ -33,25 +40,25 @@ pub fn widened(x: u8) -> usize
 struct Met {
     pub column: usize,
     pub row: usize,
-    pub next: u64,
+    pub next: ColumnSet,
 }
 
 // Reads the columns of a set. Parameter rows come first: a seat there needs no pivot.
 fn scan(
-    t: &[u16; 4096],
-    owner: &[u8; 128],
+    t: &[u16; CELLS],
+    owner: &[u8; LINES],
     parameters: &[u64],
     n: usize,
     a: usize,
     rows: usize,
-    front: u64,
+    front: ColumnSet,
 ) -> Met
-    requires { ⌜ (length (now t) ≡ 4096) × (length (now owner) ≡ 128) × (n ≤ 64) × (a ≤ 64) × (a ≤ rows) × (rows ≤ 128) × (rows ≤ a + length (now parameters)) ⌝ }
-    ensures { λ r. ⌜ Scanned n rows (touched a (now (t .entry)) (now (parameters .entry))) (owned (now (owner .entry))) (members front) (r .column) (r .row) (members (r .next)) ⌝ }
+    requires { ⌜ Lengths n a rows (now t) (now owner) ⌝ }
+    ensures { λ r. ⌜ Scanned n rows (touched a (now (t .entry)) (row-numbers (now (parameters .entry)))) (owned (now (owner .entry))) (members (whole front)) (r .column) (r .row) (members (whole (r .next))) ⌝ }
 {
     let mut rest = front;
     let mut next = columns::empty();
-    let mut column: usize = 64;
+    let mut column: usize = n;
     let mut row: usize = rows;
     'search: while !columns::is_empty(rest) {
         let x = columns::first(rest);
@@ -78,20 +85,20 @@ pub struct Found {
     pub column: usize,
     pub row: usize,
     pub depth: usize,
-    pub reached: u64,
+    pub reached: ColumnSet,
 }
 
 pub fn search(
-    t: &[u16; 4096],
-    owner: &[u8; 128],
+    t: &[u16; CELLS],
+    owner: &[u8; LINES],
     parameters: &[u64],
     n: usize,
     a: usize,
     rows: usize,
-    start: u64,
+    start: ColumnSet,
 ) -> Found
-    requires { ⌜ (length (now t) ≡ 4096) × (length (now owner) ≡ 128) × (n ≤ 64) × (a ≤ 64) × (a ≤ rows) × (rows ≤ 128) × (rows ≤ a + length (now parameters)) ⌝ }
-    ensures { λ r. ⌜ ((E : Set) (s : State n rows) → Shows E s (touched a (now (t .entry)) (now (parameters .entry))) (owned (now (owner .entry))) → ((x : ℕ) → x ∈ members start → (x < n) × (x ∈ E)) → Searched s (members start) (r .column) (r .row) (r .depth) (members (r .reached))) ⌝ }
+    requires { ⌜ Lengths n a rows (now t) (now owner) ⌝ }
+    ensures { λ r. ⌜ ((E : Set) (s : State n rows) → Shows E s (touched a (now (t .entry)) (row-numbers (now (parameters .entry)))) (owned (now (owner .entry))) → ((x : ℕ) → x ∈ members (whole start) → (x < n) × (x ∈ E)) → Searched s (members (whole start)) (r .column) (r .row) (r .depth) (members (whole (r .reached)))) ⌝ }
 {
     let mut reached = start;
     let mut front = start;

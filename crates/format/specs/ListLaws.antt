@@ -1,12 +1,13 @@
 -- The laws of tests and statements about every element of a list. Assumes nothing.
-use Prim.Native.Nat.{ℕ, zero, suc, _-_, _≤_, _<_}
-use mathlib.Core.Path.{_≡_, refl}
+use Prim.Native.Nat.{ℕ, zero, suc, _+_, _-_, _≤_, _<_, min}
+use mathlib.Core.Path.{_≡_, refl, sym, ap, _∙_}
 use mathlib.Core.Logic.{_↔_}
 use mathlib.Core.Bool.{Bool, true, false}
 use mathlib.Core.List.{List, [], _∷_}
+use native.Mathlib.Numerals.{add-one}
 use native.Mathlib.Omega.{arith}
-use lib.ListN.{length, getD, take, drop, length-drop}
-use lib.Seq.{take-all, drop-cons}
+use lib.ListN.{length, getD, take, drop, length-take, length-drop, drop-of-length-le}
+use lib.Seq.{take-all, drop-cons, getD-take}
 use Rattle.counting.specs.Bools.{and-in, and-left, and-right}
 use Rattle.format.specs.Lists.{all-pass, All}
 
@@ -48,6 +49,16 @@ first-rest xs l = drop-cons xs 0 0 l
 pub nothing : (xs : List ℕ) → length xs ≤ 0 → xs ≡ []
 nothing [] l = refl
 nothing (x ∷ xs) l = absurd (omega arith)
+
+-- of the first b elements, those from r on
+pub first-left : (b r : ℕ) (xs : List ℕ) → r < b → r < length xs → drop r (take b xs) ≡ getD xs r 0 ∷ drop (r + 1) (take b xs)
+first-left b r xs l h =
+    drop-cons (take b xs) r 0 (rw (length-take b xs) (omega arith)) ∙ ap (λ (x : ℕ). x ∷ drop (suc r) (take b xs)) (getD-take b xs r 0 l)
+    ∙ ap (λ (k : ℕ). getD xs r 0 ∷ drop k (take b xs)) (sym (add-one r))
+
+-- there are none from their end on
+pub none-left : (b r : ℕ) (xs : List ℕ) → min b (length xs) ≤ r → drop r (take b xs) ≡ []
+none-left b r xs h = drop-of-length-le (take b xs) {i = r} (rw (length-take b xs) h)
 
 -- a part that goes to the end
 pub tail-part : (k : ℕ) (xs : List ℕ) → take (length xs - k) (drop k xs) ≡ drop k xs

@@ -1,6 +1,8 @@
 // The contents of a model, from a file or handed over: a test of each kind.
 ghost use mathlib.Core.Path.{_≡_};
 ghost use Prim.Native.Nat.{_+_, _*_, _<_};
+ghost use lib.ListN.{take};
+ghost use Rattle.columns.specs.ColumnSets.{row-numbers};
 ghost use Rattle.format.specs.Refusals.{prime-test, size-test, constant-test, parameter-test};
 ghost use Rattle.format.specs.File.Format.{entries};
 use limits::LARGEST_PRIME;
@@ -74,16 +76,18 @@ fn widened(x: u16) -> u32
     x as u32
 }
 
-// Whether no parameter row has a parameter at column n or later.
-pub fn parameters_within(parameters: &[u64], n: usize) -> bool
-    ensures { λ r. ⌜ r ≡ parameter-test n (now (parameters .entry)) ⌝ }
+// Whether none of the first b parameter rows, or of all that the area holds, has a parameter at column n or later.
+pub fn parameters_within(parameters: &[u64], b: usize, n: usize) -> bool
+    ensures { λ r. ⌜ r ≡ parameter-test n (take b (row-numbers (now (parameters .entry)))) ⌝ }
 {
-    let mut rest = parameters;
-    while rest.len() > 0 {
-        if !columns::within(rest[0], n) {
+    let held = columns::rows(parameters);
+    for r in 0..b {
+        if r >= held {
+            return true;
+        }
+        if !columns::within(columns::row(parameters, r), n) {
             return false;
         }
-        rest = &rest[1..];
     }
     true
 }

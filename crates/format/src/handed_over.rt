@@ -1,5 +1,6 @@
 // A model handed over without a file, judged.
 ghost use mathlib.Core.Path.{_≡_};
+ghost use Rattle.columns.specs.ColumnSets.{row-numbers};
 ghost use Rattle.format.specs.Refusals.{refusal};
 use crate::content::constants_below;
 use crate::content::parameters_within;
@@ -16,7 +17,7 @@ pub fn judge_model(
     constants: &[u16],
     parameters: &[u64],
 ) -> u32
-    ensures { λ r. ⌜ r ≡ refusal p n a b (now (constants .entry)) (now (parameters .entry)) ⌝ }
+    ensures { λ r. ⌜ r ≡ refusal p n a b (now (constants .entry)) (row-numbers (now (parameters .entry))) ⌝ }
 {
     if !prime_within(p) {
         return refusals::NOT_PRIME;
@@ -28,13 +29,13 @@ pub fn judge_model(
     if constants.len() < k {
         return refusals::AREA_SHORT;
     }
-    if parameters.len() < b {
+    if columns::rows(parameters) < b {
         return refusals::AREA_SHORT;
     }
     if !constants_below(&constants[..k], p) {
         return refusals::CONSTANT_BEYOND;
     }
-    if !parameters_within(&parameters[..b], n) {
+    if !parameters_within(parameters, b, n) {
         return refusals::PARAMETER_BEYOND;
     }
     0

@@ -3,21 +3,23 @@ ghost use mathlib.Core.Path.{_≡_};
 ghost use Prim.Native.Nat.{_-_};
 ghost use lib.ListN.{take};
 ghost use Rattle.columns.specs.Bytes.{bytes-of};
+ghost use Rattle.columns.specs.ColumnSets.{whole};
 ghost use Rattle.limits.specs.Limits.{set-bytes};
 ghost use Rattle.format.specs.Refusals.{PutRoom};
 use crate::refusals;
+use columns::ColumnSet;
 use limits::SET_BYTES;
 
 // The bytes of a set over the front of the area; a shorter area is refused and left alone.
-pub fn put_set(out: &mut [u8], set: u64) -> u32
-    ensures { λ r. ⌜ PutRoom (bytes-of set-bytes set) (now (out .entry)) (now (out .exit)) r ⌝ }
+pub fn put_set(out: &mut [u8], set: ColumnSet) -> u32
+    ensures { λ r. ⌜ PutRoom (bytes-of set-bytes (whole set)) (now (out .entry)) (now (out .exit)) r ⌝ }
 {
     put_set_front(out, set, SET_BYTES)
 }
 
 // The same of the set's first bytes, as many as named.
-pub fn put_set_front(out: &mut [u8], set: u64, many: usize) -> u32
-    ensures { λ r. ⌜ PutRoom (take many (bytes-of set-bytes set)) (now (out .entry)) (now (out .exit)) r ⌝ }
+pub fn put_set_front(out: &mut [u8], set: ColumnSet, many: usize) -> u32
+    ensures { λ r. ⌜ PutRoom (take many (bytes-of set-bytes (whole set))) (now (out .entry)) (now (out .exit)) r ⌝ }
 {
     let end = at_most_all(many);
     if out.len() < end {

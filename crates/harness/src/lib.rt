@@ -1,6 +1,7 @@
 // The calls for models handed over without a file, exported to C for the tests that hold the compiled library against a
 // reference, and for measuring. The product's archive has none of them.
 ghost use Prim.Native.Nat.{ℕ};
+ghost use Rattle.columns.specs.ColumnSets.{row-numbers};
 ghost use Rattle.format.specs.File.Format.{WriteCall};
 ghost use Rattle.harness.specs.Calls.{LayeredBytes, MixedBytes};
 use host::put_answer;
@@ -20,7 +21,7 @@ pub extern "C" fn harness_layered(
     parameters: &[u64],
     answer: &mut [u8],
 ) -> u32
-    ensures { λ r. ⌜ LayeredBytes p n a b (now (constants .entry)) (now (parameters .entry)) (now (answer .entry)) r (now (answer .exit)) ⌝ }
+    ensures { λ r. ⌜ LayeredBytes p n a b (now (constants .entry)) (row-numbers (now (parameters .entry))) (now (answer .entry)) r (now (answer .exit)) ⌝ }
 {
     let r = layered_rank(p, n, a, b, constants, parameters);
     if r.refusal != 0 {
@@ -40,7 +41,7 @@ pub extern "C" fn harness_mixed(
     parameters: &[u64],
     answer: &mut [u8],
 ) -> u32
-    ensures { λ r. ⌜ MixedBytes p n a b (now (constants .entry)) (now (parameters .entry)) (now (answer .entry)) r (now (answer .exit)) ⌝ }
+    ensures { λ r. ⌜ MixedBytes p n a b (now (constants .entry)) (row-numbers (now (parameters .entry))) (now (answer .entry)) r (now (answer .exit)) ⌝ }
 {
     let r = mixed_rank(p, n, a, b, constants, parameters);
     if r.refusal != 0 {
@@ -60,7 +61,7 @@ pub extern "C" fn harness_write(
     parameters: &[u64],
     out: &mut [u8],
 ) -> u32
-    ensures { λ r. ⌜ ((written : ℕ) × WriteCall p n a b (now (constants .entry)) (now (parameters .entry)) (now (out .entry)) r written (now (out .exit))) ⌝ }
+    ensures { λ r. ⌜ ((written : ℕ) × WriteCall p n a b (now (constants .entry)) (row-numbers (now (parameters .entry))) (now (out .entry)) r written (now (out .exit))) ⌝ }
 {
     let w = write_file(p, n, a, b, constants, parameters, out);
     w.refusal

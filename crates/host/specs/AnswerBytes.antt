@@ -3,6 +3,7 @@ use Prim.Native.Nat.{ℕ, _+_, _*_}
 use mathlib.Core.List.{List, _∷_, _++_}
 use Rattle.limits.specs.Limits.{most-rows, set-bytes}
 use Rattle.columns.specs.Bytes.{bytes-of}
+use Rattle.columns.specs.ColumnSets.{whole}
 use Rattle.rank.specs.Layered.Model.{Model}
 use Rattle.mixed_models.specs.Mixed.{Mixed}
 use Rattle.layered.specs.declared.Answer.{Answer}
@@ -25,7 +26,7 @@ answer-length = front-length + most-rows
 
 -- verdict, rank, placed set, constant side, short set, and the column of each row
 abbrev pub answer-bytes : Answer → List ℕ
-answer-bytes r = front-bytes (r .verdict) (r .rank) (r .placed) (r .constants) (r .short) ++ r .rows
+answer-bytes r = front-bytes (r .verdict) (r .rank) (whole (r .placed)) (whole (r .constants)) (whole (r .short)) ++ r .rows
 
 -- the answer written over the front of the area: its numbers, sets and rows are those of the layered rank call, with demand 3 of the rank and the
 -- short set among them (`Answered`)
@@ -39,7 +40,7 @@ mixed-length = front-length
 
 -- verdict, rank, rows I, columns J, and the short set of the layered form
 abbrev pub mixed-bytes : MixedAnswer → List ℕ
-mixed-bytes r = front-bytes (r .verdict) (r .rank) (r .rows) (r .columns) (r .short)
+mixed-bytes r = front-bytes (r .verdict) (r .rank) (whole (r .rows)) (whole (r .columns)) (whole (r .short))
 
 -- the answer written over the front of the area; which I and J it shows is as open as in `MixedAnswered`
 abbrev pub MixedWritten : (X : Mixed) (area area′ : List ℕ) → Type 0

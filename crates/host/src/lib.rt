@@ -4,9 +4,11 @@ ghost use mathlib.Core.Path.{_≡_};
 ghost use Prim.Native.Nat.{_≤_};
 ghost use lib.ListN.{length};
 ghost use Rattle.limits.specs.Limits.{most-rows};
+ghost use Rattle.columns.specs.ColumnSets.{whole};
 ghost use Rattle.format.specs.Lists.{over};
 ghost use Rattle.host.specs.AreaCall.{Put};
 ghost use Rattle.host.specs.AnswerBytes.{front-length, front-bytes, answer-length, answer-bytes, mixed-length, mixed-bytes};
+use columns::ColumnSet;
 use format::put_set;
 use format::refusals;
 use layered::Answer;
@@ -39,9 +41,16 @@ fn put_numbers(out: &mut [u8], verdict: u8, rank: u8)
 }
 
 // What every answer's bytes begin with: verdict, rank and three sets.
-fn put_front(out: &mut [u8], verdict: u8, rank: u8, first: u64, second: u64, third: u64)
+fn put_front(
+    out: &mut [u8],
+    verdict: u8,
+    rank: u8,
+    first: ColumnSet,
+    second: ColumnSet,
+    third: ColumnSet,
+)
     requires { ⌜ front-length ≤ length (now out) ⌝ }
-    ensures { λ _. ⌜ now (out .exit) ≡ over (front-bytes verdict rank first second third) (now (out .entry)) ⌝ }
+    ensures { λ _. ⌜ now (out .exit) ≡ over (front-bytes verdict rank (whole first) (whole second) (whole third)) (now (out .entry)) ⌝ }
 {
     put_numbers(out, verdict, rank);
     put_set(&mut out[FIRST_SET..], first);

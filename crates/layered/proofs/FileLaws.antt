@@ -12,6 +12,8 @@ use lib.ListN.{length, getD, take, drop, replicate, length-append, length-replic
 use lib.Seq.{getD-append-add, getD-drop, take-append-seam}
 use Rattle.residue.specs.Residues.{res}
 use Rattle.columns.specs.Columns.{members, within}
+use Rattle.columns.specs.ColumnSets.{most-words, row-numbers}
+use Rattle.columns.specs.Words.Rows.{rows-zeros}
 use Rattle.columns.specs.Words.Bytes.{AreBytes}
 use Rattle.rank.specs.Modulus.{modulus}
 use Rattle.rank.specs.ModelModulo.{model-modulo}
@@ -149,13 +151,13 @@ abbrev pub own-constants : List ℕ
 own-constants = replicate most-constants 0
 
 abbrev pub own-parameters : List ℕ
-own-parameters = replicate most-rows 0
+own-parameters = row-numbers (replicate most-words 0)
 
 own-length : most-constants ≤ length own-constants
 own-length = le-of-eq (sym (length-replicate {A = ℕ} most-constants 0))
 
 own-count : most-rows ≤ length own-parameters
-own-count = le-of-eq (sym (length-replicate {A = ℕ} most-rows 0))
+own-count = rw rows-zeros (le-of-eq (sym (length-replicate {A = ℕ} most-rows 0)))
 
 module _ {s : List ℕ} (bytes : AreBytes s) {k p n a b : ℕ} {cs′ ws′ : List ℕ} (r : ReadCall s own-constants own-parameters k p n a b cs′ ws′) where
   -- the areas are never too short
@@ -184,7 +186,7 @@ module _ {s : List ℕ} (bytes : AreBytes s) {k p n a b : ℕ} {cs′ ws′ : Li
         ≡ make (decode s .p) (decode s .n) (decode s .a) (decode s .b) (λ i. getD (flatten (decode s .constants)) i 0) (λ i. getD (decode s .parameters) i 0)
     own-made make =
         rw (r .p-is, r .n-is, r .a-is, r .b-is, r .constants-are, r .parameters-are, all)
-        (ap₂ (make (decode s .p) (decode s .n) (decode s .a) (decode s .b)) (fun-ext (over-zeros (flatten (decode s .constants)) most-constants)) (fun-ext (over-zeros (decode s .parameters) most-rows)))
+        (ap₂ (make (decode s .p) (decode s .n) (decode s .a) (decode s .b)) (fun-ext (over-zeros (flatten (decode s .constants)) most-constants)) (fun-ext (λ k. ap (λ (z : List ℕ). getD (over (decode s .parameters) z) k 0) rows-zeros ∙ over-zeros (decode s .parameters) most-rows k)))
 
 -- ---- the answer to it
 

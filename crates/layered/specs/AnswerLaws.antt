@@ -1,6 +1,6 @@
 -- A model is accepted exactly where the solver takes it and the tests that the solver does not make pass; and what then holds of the answer.
 -- Assumes nothing.
-use Prim.Native.Nat.{ℕ, zero, suc, _+_, _*_, _≤_, _<_, _^_}
+use Prim.Native.Nat.{ℕ, zero, suc, _+_, _*_, _≤_, _<_}
 use mathlib.Core.Path.{_≡_, refl, sym, ap, _∙_, fun-ext}
 use mathlib.Core.Logic.{_≢_, _↔_}
 use mathlib.Core.Bool.{Bool, true, false, _&&_, cond, decide, decide-iff}
@@ -16,6 +16,8 @@ use Rattle.counting.specs.Bools.{and-in, and-left, and-right}
 use Rattle.counting.specs.Sets.{Set, _∈_, indicator, #}
 use Rattle.counting.specs.Counts.{#-le, #-all}
 use Rattle.columns.specs.Columns.{width, members, upto, word-of, within}
+use Rattle.columns.specs.ColumnSets.{whole, Fits}
+use Rattle.columns.specs.Words.Sets.{whole-below}
 use Rattle.columns.specs.Words.Operations.{within-iff, word-members}
 use Rattle.columns.specs.Words.SetLaws.{upto-iff}
 use Rattle.rank.specs.Layered.Model.{Model}
@@ -23,7 +25,7 @@ use Rattle.rank.specs.Layered.Rank.{rank, placed, short, verdict}
 use Rattle.rank.specs.Layered.ColumnOrder.{placed-size}
 use Rattle.exchange.specs.Solution.{Solved}
 use Rattle.exchange.specs.Solve.{all-below, fitting, admissible, Shown}
-use Rattle.exchange.specs.SolveLaws.{all-below-iff, fitting-reads, admissible-reads}
+use Rattle.exchange.specs.SolveLaws.{all-below-iff, admissible-reads}
 use Rattle.rank.specs.ListedModel.{listed-model}
 use Rattle.rank.specs.Demand.{demand3-reported}
 use Rattle.format.specs.Lists.{All}
@@ -70,8 +72,8 @@ module _ (p n a b : ℕ) (cs ws : List ℕ) (offered : ℕ) (m : members offered
       (and-in
       (and-in
       (and-in
-      (and-in (and-in (and-in (and-in (le-leb n width (h .n-most)) (le-leb a 64 (h .a-most))) (le-leb b 64 (h .b-most))) (le-leb (a * n) (length cs) (h .constants-lent))) (le-leb b (length ws) (h .parameters-lent)))
-      (offered-inside (h .n-most)))
+      (and-in (and-in (and-in (and-in (le-leb n most-columns (h .n-most)) (le-leb a most-rows (h .a-most))) (le-leb b most-rows (h .b-most))) (le-leb (a * n) (length cs) (h .constants-lent))) (le-leb b (length ws) (h .parameters-lent)))
+      (offered-inside (omega (arith, h .n-most))))
       (lt-ltb p 65536 (omega (arith, h .p-most))))
       (prime→test p (h .prime)))
       (all-below-iff p (a * n) cs .1 (constant-below h))
@@ -80,7 +82,7 @@ module _ (p n a b : ℕ) (cs ws : List ℕ) (offered : ℕ) (m : members offered
   unfolding beforehand prime-test refusal model-tests
   taken-accepted e f =
       let g = admissible-reads p n a b offered cs ws f in
-      let z = fitting-reads n a b (length cs) (length ws) (g .fits) in
+      let z = g .fits in
       let low : (leb p largest-prime && leb 1 n) ≡ true = and-left (leb p largest-prime && leb 1 n) (parameter-test n (take b ws)) e in
       acceptance-reads (model-tests p n a b cs ws) .1 (
         and-in (and-left (leb p largest-prime) (leb 1 n) low) (g .prime),
@@ -105,8 +107,8 @@ module _ (p n a b : ℕ) (cs ws : List ℕ) (offered : ℕ) (m : members offered
 pub rank-small : (M : Model) → rank M ≤ M .n
 rank-small M = omega (arith, placed-size M, #-le (M .n) (placed M))
 
-pub answered : (p n a b : ℕ) (cs ws : List ℕ) (r : Answer) → r .placed < 2 ^ width → r .short < 2 ^ width → length (r .rows) ≡ most-rows
-    → r .verdict ≡ verdict-number (r .rank) n → Solved (listed-model p n a b cs ws) (r .rank) (members (r .placed)) (members (r .constants)) (members (r .short)) (r .rows)
+pub answered : (p n a b : ℕ) (cs ws : List ℕ) (r : Answer) → Fits (r .placed) → Fits (r .short) → length (r .rows) ≡ most-rows
+    → r .verdict ≡ verdict-number (r .rank) n → Solved (listed-model p n a b cs ws) (r .rank) (members (whole (r .placed))) (members (whole (r .constants))) (members (whole (r .short))) (r .rows)
     → Answered (listed-model p n a b cs ws) r
 unfolding verdict indicator decide
 answered p n a b cs ws r hp hs k hv s =
@@ -117,9 +119,9 @@ answered p n a b cs ws r hp hs k hv s =
         | yes e ↦ ap (λ t. cond t 1 0) (eq-eqb (r .rank) n (s .is-rank ∙ e ∙ all-pass))
         | no ne ↦ ap (λ t. cond t 1 0) (ne-eqb (r .rank) n (λ z. ne (sym (s .is-rank) ∙ z ∙ sym all-pass)))
       ];
-      placed-word = word-members width (r .placed) hp ∙ ap (word-of width) (fun-ext (s .is-placed));
-      short-word = word-members width (r .short) hs ∙ ap (word-of width) (fun-ext (s .is-short));
+      placed-number = word-members width (whole (r .placed)) (whole-below (r .placed) hp) ∙ ap (word-of width) (fun-ext (s .is-placed));
+      short-number = word-members width (whole (r .short)) (whole-below (r .short) hs) ∙ ap (word-of width) (fun-ext (s .is-short));
       row-count = k;
       solved = s;
-      demand = demand3-reported M (r .rank) (members (r .short)) (s .is-rank) (s .is-short);
+      demand = demand3-reported M (r .rank) (members (whole (r .short))) (s .is-rank) (s .is-short);
     }

@@ -8,6 +8,7 @@ use lib.Dec.{eqb}
 use lib.ListN.{length, replicate}
 use Rattle.limits.specs.Limits.{most-rows, no-column}
 use Rattle.columns.specs.Columns.{width, members, word-of}
+use Rattle.columns.specs.ColumnSets.{whole, empty-set}
 use Rattle.rank.specs.Layered.Model.{Model}
 use Rattle.rank.specs.Layered.Rank.{placed, short, verdict}
 use Rattle.exchange.specs.Solution.{Solved}
@@ -26,20 +27,20 @@ verdict-number the-rank n = cond (eqb the-rank n) 1 0
 pub record Refused (r : Answer) : Type 0 where
   pub no-verdict : r .verdict ≡ 0
   pub no-rank : r .rank ≡ 0
-  pub none-placed : r .placed ≡ 0
-  pub none-on-the-side : r .constants ≡ 0
-  pub none-short : r .short ≡ 0
+  pub none-placed : r .placed ≡ empty-set
+  pub none-on-the-side : r .constants ≡ empty-set
+  pub none-short : r .short ≡ empty-set
   pub no-columns : r .rows ≡ replicate most-rows no-column
 
--- the answer to an accepted model: verdict, rank, the words of the placed set and of the short set are those of the definitions, the assignment shown
+-- the answer to an accepted model: verdict, rank, the numbers of the placed set and of the short set are those of the definitions, the assignment shown
 -- is legal and places the placed set (`Solved`), and demand 3 holds of the rank and the short set that are reported
 pub record Answered (M : Model) (r : Answer) : Type 0 where
   pub is-verdict : r .verdict ≡ verdict M
-  pub placed-word : r .placed ≡ word-of width (placed M)
-  pub short-word : r .short ≡ word-of width (short M)
+  pub placed-number : whole (r .placed) ≡ word-of width (placed M)
+  pub short-number : whole (r .short) ≡ word-of width (short M)
   pub row-count : length (r .rows) ≡ most-rows
-  pub solved : Solved M (r .rank) (members (r .placed)) (members (r .constants)) (members (r .short)) (r .rows)
-  pub demand : Demand3 M (r .rank) (members (r .short))
+  pub solved : Solved M (r .rank) (members (whole (r .placed))) (members (whole (r .constants))) (members (whole (r .short))) (r .rows)
+  pub demand : Demand3 M (r .rank) (members (whole (r .short)))
 
 -- some answer of which this holds is shown so, in bytes or as text
 pub record AnswerShown {A : Type 0} (Holds Shows : A → Type 0) : Type 0 where

@@ -1,9 +1,10 @@
 // The layered rank call: the answer to a model handed over, or in a file.
 ghost use mathlib.Core.Path.{_≡_};
-ghost use lib.ListN.{take};
-ghost use Rattle.format.specs.Refusals.{parameter-test};
+ghost use Rattle.columns.specs.ColumnSets.{row-numbers};
 ghost use Rattle.layered.specs.Answers.{verdict-number, Refused, LayeredCall, LayeredFileCall};
 ghost use Rattle.layered.specs.AnswerLaws.{beforehand};
+use columns::ColumnSet;
+use columns::MOST_WORDS;
 use format::judge_model;
 use format::parameters_within;
 use limits::LARGEST_PRIME;
@@ -13,14 +14,14 @@ use limits::NO_COLUMN;
 use loader::read_file;
 
 // The refusal or 0; the verdict, 1 "determined" or 0 "open"; the rank; the placed columns, those of them on the constant side, and
-// the short set, as words; and the column of each parameter row, or that it has none.
+// the short set; and the column of each parameter row, or that it has none.
 pub struct Answer {
     pub refusal: u32,
     pub verdict: u8,
     pub rank: u8,
-    pub placed: u64,
-    pub constants: u64,
-    pub short: u64,
+    pub placed: ColumnSet,
+    pub constants: ColumnSet,
+    pub short: ColumnSet,
     pub rows: [u8; MOST_ROWS],
 }
 
@@ -31,9 +32,9 @@ fn refuse(number: u32) -> Answer
         refusal: number,
         verdict: 0,
         rank: 0,
-        placed: 0,
-        constants: 0,
-        short: 0,
+        placed: columns::empty(),
+        constants: columns::empty(),
+        short: columns::empty(),
         rows: [NO_COLUMN; MOST_ROWS],
     }
 }
@@ -48,19 +49,9 @@ pub fn verdict_of(rank: usize, n: usize) -> u8
     0
 }
 
-// Whether the first b parameter rows, or all there are, lie below column n.
-fn rows_within(parameters: &[u64], b: usize, n: usize) -> bool
-    ensures { λ r. ⌜ r ≡ parameter-test n (take b (now (parameters .entry))) ⌝ }
-{
-    if b < parameters.len() {
-        return parameters_within(&parameters[..b], n);
-    }
-    parameters_within(parameters, n)
-}
-
 // The tests that the solver does not make.
 fn passes_beforehand(p: u32, n: usize, b: usize, parameters: &[u64]) -> bool
-    ensures { λ r. ⌜ r ≡ beforehand p n b (now (parameters .entry)) ⌝ }
+    ensures { λ r. ⌜ r ≡ beforehand p n b (row-numbers (now (parameters .entry))) ⌝ }
 {
     if p > LARGEST_PRIME {
         return false;
@@ -68,7 +59,7 @@ fn passes_beforehand(p: u32, n: usize, b: usize, parameters: &[u64]) -> bool
     if n < 1 {
         return false;
     }
-    rows_within(parameters, b, n)
+    parameters_within(parameters, b, n)
 }
 
 // The answer to the layered model of p, n, a, b, the constants row by row and the parameter rows. The solver judges most of it, so
@@ -81,7 +72,7 @@ pub fn layered_rank(
     constants: &[u16],
     parameters: &[u64],
 ) -> Answer
-    ensures { λ r. ⌜ LayeredCall p n a b (now (constants .entry)) (now (parameters .entry)) r ⌝ }
+    ensures { λ r. ⌜ LayeredCall p n a b (now (constants .entry)) (row-numbers (now (parameters .entry))) r ⌝ }
 {
     if !passes_beforehand(p, n, b, parameters) {
         return refuse(judge_model(p, n, a, b, constants, parameters));
@@ -93,14 +84,17 @@ pub fn layered_rank(
     }
     let verdict = verdict_of(s.rank, n);
     let rank = s.rank as u8;
+    let placed = s.placed;
+    let side = s.constants;
+    let short = s.short;
     let rows = s.rows;
     Answer {
         refusal: 0,
         verdict,
         rank,
-        placed: s.placed,
-        constants: s.constants,
-        short: s.short,
+        placed,
+        constants: side,
+        short,
         rows,
     }
 }
@@ -110,7 +104,7 @@ pub fn layered_file(file: &[u8]) -> Answer
     ensures { λ r. ⌜ LayeredFileCall (now (file .entry)) r ⌝ }
 {
     let mut constants = [0u16; MOST_CONSTANTS];
-    let mut parameters = [0u64; MOST_ROWS];
+    let mut parameters = [0u64; MOST_WORDS];
     let sizes = read_file(file, &mut constants, &mut parameters);
     if sizes.refusal != 0 {
         return refuse(sizes.refusal);

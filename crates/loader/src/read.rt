@@ -2,6 +2,7 @@
 ghost use mathlib.Core.Path.{_≡_};
 ghost use Prim.Native.Nat.{_≤_};
 ghost use lib.ListN.{length};
+ghost use Rattle.columns.specs.ColumnSets.{row-numbers};
 ghost use Rattle.format.specs.Lists.{over};
 ghost use Rattle.format.specs.File.Format.{entries, ReadCall};
 ghost use Rattle.format.specs.File.Steps.{constants-said, parameters-said, Put};
@@ -17,7 +18,7 @@ use format::two;
 
 // The model of a file: its constants row after row over the front of their area, its parameter rows over the front of theirs.
 pub fn read_file(file: &[u8], constants: &mut [u16], parameters: &mut [u64]) -> Sizes
-    ensures { λ r. ⌜ ReadCall (now (file .entry)) (now (constants .entry)) (now (parameters .entry)) (r .refusal) (r .p) (r .n) (r .a) (r .b) (now (constants .exit)) (now (parameters .exit)) ⌝ }
+    ensures { λ r. ⌜ ReadCall (now (file .entry)) (now (constants .entry)) (row-numbers (now (parameters .entry))) (r .refusal) (r .p) (r .n) (r .a) (r .b) (now (constants .exit)) (row-numbers (now (parameters .exit))) ⌝ }
 {
     let header = read_header(file);
     let sizes = sizes_of(header);
@@ -29,7 +30,7 @@ pub fn read_file(file: &[u8], constants: &mut [u16], parameters: &mut [u64]) -> 
     if constants.len() < a * sizes.n {
         return no_sizes(refusals::AREA_SHORT);
     }
-    if parameters.len() < b {
+    if columns::rows(parameters) < b {
         return no_sizes(refusals::AREA_SHORT);
     }
     // behind the fields of p and of the sizes
@@ -74,13 +75,13 @@ fn read_constants(out: &mut [u16], file: &[u8], a: usize)
 
 // The b parameter rows in front.
 fn read_parameters(out: &mut [u64], file: &[u8], b: usize)
-    requires { ⌜ b ≤ length (now out) ⌝ }
-    ensures { λ _. ⌜ now (out .exit) ≡ over (parameters-said b (now (file .entry))) (now (out .entry)) ⌝ }
+    requires { ⌜ b ≤ length (row-numbers (now out)) ⌝ }
+    ensures { λ _. ⌜ row-numbers (now (out .exit)) ≡ over (parameters-said b (now (file .entry))) (row-numbers (now (out .entry))) ⌝ }
 {
     let mut rest = file;
     let mut at = 0;
     while at < b {
-        out[at] = columns::of_bytes(said_body(rest));
+        columns::put_row(out, at, columns::of_bytes(said_body(rest)));
         let next = said_rest(rest);
         rest = next;
         at = at + 1;

@@ -20,6 +20,8 @@ use Rattle.counting.specs.Counts.{#-ext}
 use Rattle.counting.specs.Beside.{beside}
 use Rattle.counting.specs.Blocks.{beside-low, beside-high, low-or-high}
 use Rattle.columns.specs.Columns.{width, members, upto, inserted, moved-up, word-of, within}
+use Rattle.columns.specs.ColumnSets.{whole, Fits}
+use Rattle.columns.specs.Words.Sets.{whole-below}
 use Rattle.columns.specs.Words.Operations.{within-iff, word-members}
 use Rattle.columns.specs.Words.SetLaws.{upto-iff, inserted-same, inserted-old, inserted-split}
 use Rattle.rank.specs.Modulus.{modulus, field-of, residue-of}
@@ -34,7 +36,7 @@ use Rattle.mixed_models.specs.Mixed.{Mixed, unit, mixed-sum, mixed-rank, mixed-
 use Rattle.mixed_models.specs.MixedTheorem.{form-rank, shown-reach}
 use Rattle.mixed_models.specs.MixedTheorem.Form.{served-iff, shown-I-iff}
 use Rattle.mixed.specs.MixedForm.{form-entry, form-row, serves}
-use Rattle.limits.specs.Limits.{most-columns, no-column}
+use Rattle.limits.specs.Limits.{most-columns, most-rows, most-constants, no-column}
 use Rattle.format.specs.Refusals.{unless, not-mixed, mixed-test, mixed-tests, mixed-refusal, model-tests, refusal, first-refusal}
 use Rattle.format.specs.RefusalLaws.{first-fails, then-refused, then-passed, then-zero, zero-then, unless-zero, zero-unless}
 use Rattle.format.specs.TestLaws.{Accepted, model-accepted, constant-below}
@@ -104,8 +106,11 @@ module _ (p m n : ℕ) (cs ws : List ℕ) where
       back y = omega arith
 
   -- what the call hands to the solver
-  module _ (h : Accepted p n m m cs ws) (room : m + n ≤ width) (form words : List ℕ) (offered : ℕ) (lf : length form ≡ 4096) (lw : length words ≡ 64)
+  module _ (h : Accepted p n m m cs ws) (room : m + n ≤ most-columns) (form words : List ℕ) (offered : ℕ) (lf : length form ≡ most-constants) (lw : length words ≡ most-rows)
       (entries-are : (k : ℕ) → k < m * (m + n) → getD form k 0 ≡ form-entry m n cs k) (all-offered : members offered ≡ upto (m + n)) where
+    wide-enough : m + n ≤ width
+    wide-enough = omega arith
+
     in-form : (i x : ℕ) → i < m → x < m + n → i * (m + n) + x < m * (m + n)
     in-form i x li lx = let g : (i + 1) * (m + n) ≤ m * (m + n) = mul-le-mul {n₂ = m} {m₂ = m + n} (omega arith) (omega arith) in omega arith
 
@@ -135,13 +140,13 @@ module _ (p m n : ℕ) (cs ws : List ℕ) where
     pub form-admissible : admissible p (m + n) m m offered form words ≡ true
     unfolding admissible fitting
     form-admissible =
-        let area : m * (m + n) ≤ 64 * 64 = mul-le-mul {n₂ = 64} {m₂ = 64} (h .a-most) room in
+        let area : m * (m + n) ≤ most-constants = mul-le-mul {n₂ = most-rows} {m₂ = most-columns} (h .a-most) room in
         and-in
         (and-in
         (and-in
         (and-in
-        (and-in (and-in (and-in (and-in (le-leb (m + n) width room) (le-leb m 64 (h .a-most))) (le-leb m 64 (h .a-most))) (le-leb (m * (m + n)) (length form) (omega arith))) (le-leb m (length words) (omega (arith, h .a-most))))
-        (within-iff (m + n) offered .1 (λ x l e. upto-iff (m + n) x room .0 (sym (ap (λ (S : Set). S x) all-offered) ∙ e))))
+        (and-in (and-in (and-in (and-in (le-leb (m + n) most-columns room) (le-leb m most-rows (h .a-most))) (le-leb m most-rows (h .a-most))) (le-leb (m * (m + n)) (length form) (omega arith))) (le-leb m (length words) (omega (arith, h .a-most))))
+        (within-iff (m + n) offered .1 (λ x l e. upto-iff (m + n) x wide-enough .0 (sym (ap (λ (S : Set). S x) all-offered) ∙ e))))
         (lt-ltb p 65536 (omega (arith, h .p-most))))
         (prime→test p (h .prime)))
         (all-below-iff p (m * (m + n)) form .1 all-entries-below)
@@ -150,8 +155,8 @@ module _ (p m n : ℕ) (cs ws : List ℕ) where
         → Shown p (m + n) m m offered form words (form-constants X) (form-parameters X) (λ x. true)
     shows-form rows-are = record {
       constants = λ i x li lx. constants-at i x lx ∙ ap (residue-of p) (sym (entries-are (i * (m + n) + x) (in-form i x li lx)));
-      parameters = λ i x li lx. parameters-at room i x li lx ∙ sym (ap (λ (S : Set). S x) (rows-are i li));
-      columns = λ x l. sym (ap (λ (S : Set). S x) all-offered ∙ upto-iff (m + n) x room .1 l);
+      parameters = λ i x li lx. parameters-at wide-enough i x li lx ∙ sym (ap (λ (S : Set). S x) (rows-are i li));
+      columns = λ x l. sym (ap (λ (S : Set). S x) all-offered ∙ upto-iff (m + n) x wide-enough .1 l);
     }
 
 -- ---- the answer
@@ -188,16 +193,16 @@ module _ (X : Mixed) (the-rank : ℕ) (placed-set side short-set : Set) (rows : 
     ],
   )
 
-  pub mixed-answered : (t : MixedAnswer) → m + n < no-column → t .short < 2 ^ width → t .rank ≡ the-rank - m → t .verdict ≡ verdict-number (t .rank) n
-      → ((i : ℕ) → (i ∈ members (t .rows)) ↔ ((i < m) × (serves m (getD rows i 0) → ⊥))) → ((x : ℕ) → members (t .columns) x ≡ side (m + x)) → ((x : ℕ) → members (t .short) x ≡ short-set x)
+  pub mixed-answered : (t : MixedAnswer) → m + n < no-column → Fits (t .short) → t .rank ≡ the-rank - m → t .verdict ≡ verdict-number (t .rank) n
+      → ((i : ℕ) → (i ∈ members (whole (t .rows))) ↔ ((i < m) × (serves m (getD rows i 0) → ⊥))) → ((x : ℕ) → members (whole (t .columns)) x ≡ side (m + x)) → ((x : ℕ) → members (whole (t .short)) x ≡ short-set x)
       → MixedAnswered X t
   unfolding A mixed-verdict indicator decide
   mixed-answered t small hs hr hv rows-are columns-are short-are =
       let r : t .rank ≡ mixed-rank X = omega (arith, rank-of-form) in
-      let I : members (t .rows) ≡ shown-I X (shown (m + n) m side rows) = fun-ext (λ i. iff-eq (members (t .rows) i) (shown-I X (shown (m + n) m side rows) i)
+      let I : members (whole (t .rows)) ≡ shown-I X (shown (m + n) m side rows) = fun-ext (λ i. iff-eq (members (whole (t .rows)) i) (shown-I X (shown (m + n) m side rows) i)
       (λ e. let w = rows-are i .0 e in shown-I-iff X (shown (m + n) m side rows) i .1 (w .0, not-true _ (λ k. w .1 (served-shown i (w .0) small .0 k))))
       (λ e. let w = shown-I-iff X (shown (m + n) m side rows) i .0 e in rows-are i .1 (w .0, λ k. true≢false (sym (served-shown i (w .0) small .1 k) ∙ w .1)))) in
-      let J : members (t .columns) ≡ shown-J X (shown (m + n) m side rows) = fun-ext (λ x. columns-are x ∙ s .side-shown (m + x)) in
+      let J : members (whole (t .columns)) ≡ shown-J X (shown (m + n) m side rows) = fun-ext (λ x. columns-are x ∙ s .side-shown (m + x)) in
       record {
         is-verdict = hv ∙ elim (ℕ-discrete (mixed-rank X) n) as (λ z. verdict-number (t .rank) n ≡ indicator (decide z)) [
           | yes e ↦ ap (λ b. cond b 1 0) (eq-eqb (t .rank) n (r ∙ e))
@@ -207,7 +212,7 @@ module _ (X : Mixed) (the-rank : ℕ) (placed-set side short-set : Set) (rows : 
         rows-below = λ i e. rows-are i .0 e .0;
         columns-below = λ x e. omega (arith, s .is-legal .offered (m + x) (constant-placed (shown (m + n) m side rows (m + x)) (sym (s .side-shown (m + x)) ∙ sym (columns-are x) ∙ e)) .0);
         they-reach = rw (I, J) (shown-reach X (shown (m + n) m side rows) (s .is-legal) full-size);
-        short-word = word-members width (t .short) hs ∙ ap (word-of width) (fun-ext (λ x. short-are x ∙ s .is-short x));
+        short-number = word-members width (whole (t .short)) (whole-below (t .short) hs) ∙ ap (word-of width) (fun-ext (λ x. short-are x ∙ s .is-short x));
       }
 
 -- ---- the judgement

@@ -4,6 +4,7 @@ use mathlib.Core.Path.{_≡_}
 use mathlib.Core.List.{List, flatten}
 use Rattle.counting.specs.Sets.{_∈_}
 use Rattle.columns.specs.Columns.{width, members, word-of}
+use Rattle.columns.specs.ColumnSets.{whole, empty-set}
 use Rattle.rank.specs.Layered.Rank.{short}
 use Rattle.mixed_models.specs.Mixed.{Mixed, mixed-sum, mixed-rank, mixed-verdict, layered-form, mixed}
 use Rattle.format.specs.Refusals.{Tests, unless, _then_, first-refusal, not-mixed, mixed-test, mixed-refusal}
@@ -16,19 +17,19 @@ use Rattle.mixed.specs.declared.MixedAnswer.{MixedAnswer}
 pub record MixedRefused (r : MixedAnswer) : Type 0 where
   pub no-verdict : r .verdict ≡ 0
   pub no-rank : r .rank ≡ 0
-  pub no-rows : r .rows ≡ 0
-  pub no-columns : r .columns ≡ 0
-  pub none-short : r .short ≡ 0
+  pub no-rows : r .rows ≡ empty-set
+  pub no-columns : r .columns ≡ empty-set
+  pub none-short : r .short ≡ empty-set
 
 -- the answer to an accepted mixed model. Which rows I and columns J it shows is left open: they are rows and columns of the model and reach the rank,
 -- and this is all that holds of them.
 pub record MixedAnswered (X : Mixed) (r : MixedAnswer) : Type 0 where
   pub is-verdict : r .verdict ≡ mixed-verdict X
   pub is-rank : r .rank ≡ mixed-rank X
-  pub rows-below : (i : ℕ) → i ∈ members (r .rows) → i < X .m
-  pub columns-below : (x : ℕ) → x ∈ members (r .columns) → x < X .n
-  pub they-reach : mixed-sum X (members (r .rows)) (members (r .columns)) ≡ mixed-rank X
-  pub short-word : r .short ≡ word-of width (short (layered-form X))
+  pub rows-below : (i : ℕ) → i ∈ members (whole (r .rows)) → i < X .m
+  pub columns-below : (x : ℕ) → x ∈ members (whole (r .columns)) → x < X .n
+  pub they-reach : mixed-sum X (members (whole (r .rows))) (members (whole (r .columns))) ≡ mixed-rank X
+  pub short-number : whole (r .short) ≡ word-of width (short (layered-form X))
 
 -- the mixed rank call for a model handed over
 abbrev pub MixedCall : (p n a b : ℕ) (cs ws : List ℕ) → MixedAnswer → Type 0

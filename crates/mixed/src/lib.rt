@@ -4,17 +4,22 @@ ghost use mathlib.Core.Logic.{_↔_};
 ghost use mathlib.Core.Bool.{true, false};
 ghost use Prim.Native.Nat.{ℕ, _+_, _*_, _<_, _≤_};
 ghost use lib.ListN.{length, getD};
+ghost use Rattle.limits.specs.Limits.{most-columns, most-rows, most-constants};
 ghost use Rattle.counting.specs.Sets.{_∈_};
 ghost use Rattle.columns.specs.Columns.{members};
+ghost use Rattle.columns.specs.ColumnSets.{whole, row-numbers};
 ghost use Rattle.format.specs.Refusals.{mixed-refusal};
 ghost use Rattle.mixed.specs.MixedForm.{form-entry, form-row, serves};
 ghost use Rattle.mixed.specs.MixedAnswers.{MixedRefused, MixedCall, MixedFileCall};
+use columns::ColumnSet;
+use columns::MOST_WORDS;
 use format::judge_model;
 use format::refusals::NOT_MIXED;
 use layered::verdict_of;
 use limits::MOST_COLUMNS;
 use limits::MOST_CONSTANTS;
 use limits::MOST_ROWS;
+use limits::NO_COLUMN;
 use loader::read_file;
 
 // The refusal or 0; the verdict, 1 where the rank equals n; the rank; rows I and columns J that reach it; and the short set of the
@@ -23,9 +28,9 @@ pub struct MixedAnswer {
     pub refusal: u32,
     pub verdict: u8,
     pub rank: u8,
-    pub rows: u64,
-    pub columns: u64,
-    pub short: u64,
+    pub rows: ColumnSet,
+    pub columns: ColumnSet,
+    pub short: ColumnSet,
 }
 
 fn refuse(number: u32) -> MixedAnswer
@@ -35,15 +40,15 @@ fn refuse(number: u32) -> MixedAnswer
         refusal: number,
         verdict: 0,
         rank: 0,
-        rows: 0,
-        columns: 0,
-        short: 0,
+        rows: columns::empty(),
+        columns: columns::empty(),
+        short: columns::empty(),
     }
 }
 
 // The refusal of a mixed question, or 0.
 fn judge_mixed(p: u32, n: usize, a: usize, b: usize, constants: &[u16], parameters: &[u64]) -> u32
-    ensures { λ r. ⌜ r ≡ mixed-refusal p n a b (now (constants .entry)) (now (parameters .entry)) ⌝ }
+    ensures { λ r. ⌜ r ≡ mixed-refusal p n a b (now (constants .entry)) (row-numbers (now (parameters .entry))) ⌝ }
 {
     let number = judge_model(p, n, a, b, constants, parameters);
     if number != 0 {
@@ -60,7 +65,7 @@ fn judge_mixed(p: u32, n: usize, a: usize, b: usize, constants: &[u16], paramete
 
 // Entry k of the form's constants, row by row: the unit matrix, and behind it the constants.
 fn entry_of_form(constants: &[u16], m: usize, n: usize, k: usize) -> u16
-    requires { ⌜ (m * n ≤ length (now constants)) × (m + n ≤ 64) × (k < m * (m + n)) ⌝ }
+    requires { ⌜ (m * n ≤ length (now constants)) × (m + n ≤ most-columns) × (k < m * (m + n)) ⌝ }
     ensures { λ r. ⌜ r ≡ form-entry m n (now (constants .entry)) k ⌝ }
 {
     let width = m + n;
@@ -76,9 +81,9 @@ fn entry_of_form(constants: &[u16], m: usize, n: usize, k: usize) -> u16
     constants[at]
 }
 
-fn fill_constants(form: &mut [u16; 4096], constants: &[u16], m: usize, n: usize)
-    requires { ⌜ (length (now form) ≡ 4096) × (m * n ≤ length (now constants)) × (m + n ≤ 64) ⌝ }
-    ensures { λ _. ⌜ (length (now (form .exit)) ≡ 4096) × ((k : ℕ) → k < m * (m + n) → getD (now (form .exit)) k 0 ≡ form-entry m n (now (constants .entry)) k) ⌝ }
+fn fill_constants(form: &mut [u16; MOST_CONSTANTS], constants: &[u16], m: usize, n: usize)
+    requires { ⌜ (length (now form) ≡ most-constants) × (m * n ≤ length (now constants)) × (m ≤ most-rows) × (m + n ≤ most-columns) ⌝ }
+    ensures { λ _. ⌜ (length (now (form .exit)) ≡ most-constants) × ((k : ℕ) → k < m * (m + n) → getD (now (form .exit)) k 0 ≡ form-entry m n (now (constants .entry)) k) ⌝ }
 {
     let all = m * (m + n);
     for k in 0..all {
@@ -87,13 +92,13 @@ fn fill_constants(form: &mut [u16; 4096], constants: &[u16], m: usize, n: usize)
 }
 
 // Parameter row i of the form: a parameter at column i, and its own parameters m columns up.
-fn fill_parameters(words: &mut [u64; 64], parameters: &[u64], m: usize)
-    requires { ⌜ (length (now words) ≡ 64) × (m ≤ 64) × (m ≤ length (now parameters)) ⌝ }
-    ensures { λ _. ⌜ (length (now (words .exit)) ≡ 64) × ((i : ℕ) → i < m → members (getD (now (words .exit)) i 0) ≡ form-row m (members (getD (now (parameters .entry)) i 0)) i) ⌝ }
+fn fill_parameters(words: &mut [u64], parameters: &[u64], m: usize)
+    requires { ⌜ m ≤ length (row-numbers (now words)) ⌝ }
+    ensures { λ _. ⌜ (length (row-numbers (now (words .exit))) ≡ length (row-numbers (now (words .entry)))) × ((i : ℕ) → i < m → members (getD (row-numbers (now (words .exit))) i 0) ≡ form-row m (members (getD (row-numbers (now (parameters .entry))) i 0)) i) ⌝ }
 {
     for i in 0..m {
-        let own = columns::raised(parameters[i], m);
-        words[i] = columns::with(own, i);
+        let own = columns::raised(columns::row(parameters, i), m);
+        columns::put_row(words, i, columns::with(own, i));
     }
 }
 
@@ -107,17 +112,16 @@ fn widened(x: u8) -> usize
 fn serves_original(y: u8, m: usize) -> bool
     ensures { λ r. ⌜ (r ≡ true → serves m y) × (r ≡ false → serves m y → ⊥) ⌝ }
 {
-    let column = widened(y);
-    if column < m {
+    if widened(y) < m {
         return false;
     }
-    column < 255
+    y < NO_COLUMN
 }
 
 // The rows below m that serve no original column.
-fn idle_rows(rows: [u8; 64], m: usize) -> u64
-    requires { ⌜ m ≤ 64 ⌝ }
-    ensures { λ r. ⌜ ((i : ℕ) → (i ∈ members r) ↔ ((i < m) × (serves m (getD rows i 0) → ⊥))) ⌝ }
+fn idle_rows(rows: [u8; MOST_ROWS], m: usize) -> ColumnSet
+    requires { ⌜ m ≤ most-rows ⌝ }
+    ensures { λ r. ⌜ ((i : ℕ) → (i ∈ members (whole r)) ↔ ((i < m) × (serves m (getD rows i 0) → ⊥))) ⌝ }
 {
     let mut idle = columns::empty();
     for i in 0..m {
@@ -137,30 +141,32 @@ pub fn mixed_rank(
     constants: &[u16],
     parameters: &[u64],
 ) -> MixedAnswer
-    ensures { λ r. ⌜ MixedCall p n a b (now (constants .entry)) (now (parameters .entry)) r ⌝ }
+    ensures { λ r. ⌜ MixedCall p n a b (now (constants .entry)) (row-numbers (now (parameters .entry))) r ⌝ }
 {
     let number = judge_mixed(p, n, a, b, constants, parameters);
     if number != 0 {
         return refuse(number);
     }
-    let mut form = [0u16; 4096];
+    let mut form = [0u16; MOST_CONSTANTS];
     fill_constants(&mut form, constants, a, n);
-    let mut words = [0u64; 64];
+    let mut words = [0u64; MOST_WORDS];
     fill_parameters(&mut words, parameters, a);
     let all = columns::below(a + n);
     let s = exchange::solve(p, a + n, a, a, all, &form, &words);
     let rank = s.rank - a;
     let verdict = verdict_of(rank, n);
+    let reached = rank as u8;
+    let short = s.short;
     let shown = s.rows;
     let rows = idle_rows(shown, a);
     let columns = columns::lowered(s.constants, a);
     MixedAnswer {
         refusal: 0,
         verdict,
-        rank: rank as u8,
+        rank: reached,
         rows,
         columns,
-        short: s.short,
+        short,
     }
 }
 
@@ -169,7 +175,7 @@ pub fn mixed_file(file: &[u8]) -> MixedAnswer
     ensures { λ r. ⌜ MixedFileCall (now (file .entry)) r ⌝ }
 {
     let mut constants = [0u16; MOST_CONSTANTS];
-    let mut parameters = [0u64; MOST_ROWS];
+    let mut parameters = [0u64; MOST_WORDS];
     let sizes = read_file(file, &mut constants, &mut parameters);
     if sizes.refusal != 0 {
         return refuse(sizes.refusal);

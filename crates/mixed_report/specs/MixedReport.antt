@@ -3,6 +3,7 @@
 use Prim.Native.Nat.{ℕ, _+_, _*_}
 use mathlib.Core.List.{List, _++_}
 use Rattle.columns.specs.Columns.{width, members}
+use Rattle.columns.specs.ColumnSets.{whole}
 use Rattle.text.specs.Text.{ascii, line, item, column-items, verdict-line}
 use Rattle.text.specs.declared.Printed.{Printed}
 use Rattle.format.specs.Refusals.{first-refusal, _then_}
@@ -16,9 +17,9 @@ unfoldable pub mixed-answer-text : MixedAnswer → List ℕ
 mixed-answer-text t =
     verdict-line (t .verdict)
     ++ (line (ascii "rank") (item (t .rank))
-    ++ (line (ascii "rows") (column-items (members (t .rows)))
-    ++ (line (ascii "columns") (column-items (members (t .columns)))
-    ++ line (ascii "short") (column-items (members (t .short))))))
+    ++ (line (ascii "rows") (column-items (members (whole (t .rows))))
+    ++ (line (ascii "columns") (column-items (members (whole (t .columns))))
+    ++ line (ascii "short") (column-items (members (whole (t .short)))))))
 
 -- how many bytes the longest report has at most: 47 for the five lines without their rows and columns, and 4 for each member of the three sets
 abbrev pub longest-mixed-report : ℕ

@@ -16,6 +16,7 @@ use Rattle.counting.specs.Bools.{iff-eq, and-left}
 use Rattle.counting.specs.Sets.{Set, indicator}
 use Rattle.counting.specs.Blocks.{beside-low, beside-high, low-or-high}
 use Rattle.columns.specs.Columns.{width, members, word-of}
+use Rattle.columns.specs.ColumnSets.{whole}
 use Rattle.rank.specs.Modulus.{modulus}
 use Rattle.rank.specs.Layered.Rank.{rank, short}
 use Rattle.rank.specs.ListedModel.{listed-model}
@@ -119,8 +120,8 @@ module _ (p n a b : ℕ) (cs ds ws vs : List ℕ) (ec : take (a * n) cs ≡ take
         same-refusal = first;
         same-verdict = x .is-verdict ∙ verdict-same (modulus p .0) (modulus p .1) n a b E Q Q′ T T′ agree ∙ sym (y .is-verdict);
         same-rank = x .solved .is-rank ∙ rank-same (modulus p .0) (modulus p .1) n a b E Q Q′ T T′ agree ∙ sym (y .solved .is-rank);
-        same-placed = x .placed-word ∙ ap (word-of width) (fun-ext (placed-same (modulus p .0) (modulus p .1) n a b E Q Q′ T T′ agree)) ∙ sym (y .placed-word);
-        same-short = x .short-word ∙ ap (word-of width) (fun-ext (short-same (modulus p .0) (modulus p .1) n a b E Q Q′ T T′ agree)) ∙ sym (y .short-word);
+        same-placed = x .placed-number ∙ ap (word-of width) (fun-ext (placed-same (modulus p .0) (modulus p .1) n a b E Q Q′ T T′ agree)) ∙ sym (y .placed-number);
+        same-short = x .short-number ∙ ap (word-of width) (fun-ext (short-same (modulus p .0) (modulus p .1) n a b E Q Q′ T T′ agree)) ∙ sym (y .short-number);
       })
       (λ nz.
       let x = h .if-refused nz in
@@ -128,8 +129,8 @@ module _ (p n a b : ℕ) (cs ds ws vs : List ℕ) (ec : take (a * n) cs ≡ take
         same-refusal = first;
         same-verdict = x .no-verdict ∙ sym (y .no-verdict);
         same-rank = x .no-rank ∙ sym (y .no-rank);
-        same-placed = x .none-placed ∙ sym (y .none-placed);
-        same-short = x .none-short ∙ sym (y .none-short);
+        same-placed = ap whole (x .none-placed ∙ sym (y .none-placed));
+        same-short = ap whole (x .none-short ∙ sym (y .none-short));
       })
 
   -- ---- the mixed answer
@@ -188,7 +189,7 @@ module _ (p n a b : ℕ) (cs ds ws vs : List ℕ) (ec : take (a * n) cs ≡ take
         same-refusal = first;
         same-verdict = x .is-verdict ∙ mixed-verdict-same ab ∙ sym (y .is-verdict);
         same-rank = x .is-rank ∙ mixed-rank-same ab ∙ sym (y .is-rank);
-        same-short = x .short-word ∙ ap (word-of width) (fun-ext (form-short-same ab)) ∙ sym (y .short-word);
+        same-short = x .short-number ∙ ap (word-of width) (fun-ext (form-short-same ab)) ∙ sym (y .short-number);
       })
       (λ nz.
       let x = h .if-refused nz in
@@ -197,5 +198,5 @@ module _ (p n a b : ℕ) (cs ds ws vs : List ℕ) (ec : take (a * n) cs ≡ take
         same-refusal = first;
         same-verdict = x .no-verdict ∙ sym (y .no-verdict);
         same-rank = x .no-rank ∙ sym (y .no-rank);
-        same-short = x .none-short ∙ sym (y .none-short);
+        same-short = ap whole (x .none-short ∙ sym (y .none-short));
       })

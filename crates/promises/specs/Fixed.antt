@@ -1,6 +1,7 @@
 -- Two answers that agree in all that the promises fix: in everything but the two results that document 01 leaves open. Definitions only.
 use Prim.Native.Nat.{ℕ}
 use mathlib.Core.Path.{_≡_}
+use Rattle.columns.specs.ColumnSets.{whole}
 use Rattle.layered.specs.declared.Answer.{Answer}
 use Rattle.mixed.specs.declared.MixedAnswer.{MixedAnswer}
 
@@ -9,12 +10,12 @@ pub record SameAnswer (r s : Answer) : Type 0 where
   pub same-refusal : r .refusal ≡ s .refusal
   pub same-verdict : r .verdict ≡ s .verdict
   pub same-rank : r .rank ≡ s .rank
-  pub same-placed : r .placed ≡ s .placed
-  pub same-short : r .short ≡ s .short
+  pub same-placed : whole (r .placed) ≡ whole (s .placed)
+  pub same-short : whole (r .short) ≡ whole (s .short)
 
 -- mixed answers; open is which rows I and columns J are shown
 pub record SameMixed (r s : MixedAnswer) : Type 0 where
   pub same-refusal : r .refusal ≡ s .refusal
   pub same-verdict : r .verdict ≡ s .verdict
   pub same-rank : r .rank ≡ s .rank
-  pub same-short : r .short ≡ s .short
+  pub same-short : whole (r .short) ≡ whole (s .short)

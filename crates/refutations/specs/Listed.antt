@@ -10,6 +10,7 @@ use lib.ListN.{getD}
 use Rattle.residue.specs.Arithmetic.{is-prime, undivided}
 use Rattle.counting.specs.Sets.{all}
 use Rattle.columns.specs.Columns.{members, within}
+use Rattle.columns.specs.ColumnSets.{whole}
 use Rattle.rank.specs.Layered.Rank.{rank, placed}
 use Rattle.rank.specs.ListedModel.{listed-model}
 use Rattle.layered.specs.Answers.{LayeredCall}
@@ -57,7 +58,7 @@ unfolding run
 equal-rank = refl
 
 -- 2: it lists column 1 as placed untested
-pub takes-untested : (r : Answer) → LayeredCall 2 2 1 0 (1 ∷ 1 ∷ []) [] r → members (r .placed) 1 ≡ true → ⊥
+pub takes-untested : (r : Answer) → LayeredCall 2 2 1 0 (1 ∷ 1 ∷ []) [] r → members (whole (r .placed)) 1 ≡ true → ⊥
 takes-untested r x h = true≢false (sym h ∙ x .if-accepted equal-accepted .solved .is-placed 1 ∙ equal-placed)
 
 -- 3: it makes up the rank 2

@@ -12,6 +12,7 @@ use Rattle.counting.specs.Sets.{Set, all, indicator}
 use Rattle.counting.specs.Beside.{beside}
 use borrow.Author.Tests.{eq-eqb}
 use Rattle.columns.specs.Columns.{members, word-of, within}
+use Rattle.columns.specs.ColumnSets.{whole}
 use Rattle.columns.specs.Words.Bits.{bit-zero}
 use Rattle.rank.specs.Layered.Rank.{rank, short}
 use Rattle.rank.specs.ListedModel.{listed-model}
@@ -44,7 +45,7 @@ unfolding among decide ℕ-discrete
 two-is-short = refl
 
 -- all unplaced columns are named as short: of S4 {3}, without column 2
-pub unplaced-as-short : (r : Answer) → LayeredCall 1021 5 2 2 (1 ∷ 1 ∷ 1 ∷ 1 ∷ 0 ∷ 0 ∷ 2 ∷ 1 ∷ 1 ∷ 0 ∷ []) (17 ∷ 18 ∷ []) r → members (r .short) 2 ≡ false → ⊥
+pub unplaced-as-short : (r : Answer) → LayeredCall 1021 5 2 2 (1 ∷ 1 ∷ 1 ∷ 1 ∷ 0 ∷ 0 ∷ 2 ∷ 1 ∷ 1 ∷ 0 ∷ []) (17 ∷ 18 ∷ []) r → members (whole (r .short)) 2 ≡ false → ⊥
 unplaced-as-short r x h = true≢false (sym two-is-short ∙ sym (table .s4 .is-short 2) ∙ sym (x .if-accepted S4-accepted .solved .is-short 2) ∙ h)
 
 S3-accepted : refusal 1021 2 2 0 (1 ∷ 1 ∷ 1 ∷ 1 ∷ []) [] ≡ 0
@@ -105,6 +106,6 @@ unfolding word-of members indicator
 lowest k S e = eq-eqb _ 1 (bit-zero (word-of (suc k) S) ∙ (let i : indicator (S 0) ≡ 1 = ap indicator e in omega arith))
 
 -- in a mixed place with both the constant is dropped: the short set of the form is {1, 2}, without column 0
-pub constant-dropped : (r : MixedAnswer) → MixedCall 2 2 1 1 (1 ∷ 0 ∷ []) (3 ∷ []) r → members (r .short) 0 ≡ false → ⊥
+pub constant-dropped : (r : MixedAnswer) → MixedCall 2 2 1 1 (1 ∷ 0 ∷ []) (3 ∷ []) r → members (whole (r .short)) 0 ≡ false → ⊥
 constant-dropped r x h =
-    true≢false (sym (lowest _ (short (layered-form (mixed 2 1 2 (1 ∷ 0 ∷ []) (3 ∷ [])))) both-short) ∙ ap (λ (w : ℕ). members w 0) (sym (x .if-accepted both-accepted .short-word)) ∙ h)
+    true≢false (sym (lowest _ (short (layered-form (mixed 2 1 2 (1 ∷ 0 ∷ []) (3 ∷ [])))) both-short) ∙ ap (λ (w : ℕ). members w 0) (sym (x .if-accepted both-accepted .short-number)) ∙ h)

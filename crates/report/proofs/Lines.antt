@@ -11,6 +11,7 @@ use lib.Seq.{drop-cons}
 use borrow.Author.Tests.{eq-eqb, ne-eqb}
 use Rattle.limits.specs.Limits.{most-rows, no-column}
 use Rattle.columns.specs.Columns.{members}
+use Rattle.columns.specs.ColumnSets.{whole}
 use Rattle.layered.specs.declared.Answer.{Answer}
 use Rattle.text.specs.Text.{ascii, decimal, item}
 use Rattle.text.specs.TextLaws.{decimal-length, item-length, column-items-length, line-length, verdict-line-length}
@@ -52,7 +53,7 @@ unfolding answer-text ascii
 answer-length t h n g =
     let v = verdict-line-length (t .verdict) in
     let r = item-length 2 (t .rank) (omega arith) in
-    let k = column-items-length (members (t .constants)) in
+    let k = column-items-length (members (whole (t .constants))) in
     let p = row-items-length 0 (t .rows) (omega arith) g in
-    let s = column-items-length (members (t .short)) in
+    let s = column-items-length (members (whole (t .short))) in
     simp (length-append, line-length) (omega arith)

@@ -5,6 +5,7 @@ use mathlib.Core.List.{List, [], _∷_, _++_}
 use lib.Dec.{eqb}
 use Rattle.limits.specs.Limits.{most-rows, no-column}
 use Rattle.columns.specs.Columns.{width, members}
+use Rattle.columns.specs.ColumnSets.{whole}
 use Rattle.text.specs.Text.{ascii, decimal, line, item, column-items, verdict-line, refused-line}
 use Rattle.layered.specs.declared.Answer.{Answer}
 
@@ -21,9 +22,9 @@ unfoldable pub answer-text : Answer → List ℕ
 answer-text t =
     verdict-line (t .verdict)
     ++ (line (ascii "rank") (item (t .rank))
-    ++ (line (ascii "constants") (column-items (members (t .constants)))
+    ++ (line (ascii "constants") (column-items (members (whole (t .constants))))
     ++ (line (ascii "parameters") (row-items 0 (t .rows))
-    ++ line (ascii "short") (column-items (members (t .short))))))
+    ++ line (ascii "short") (column-items (members (whole (t .short)))))))
 
 -- the report: the lines of the answer, or of a refusal the one line
 unfoldable pub report-text : (refusal : ℕ) (answer : List ℕ) → List ℕ

@@ -4,7 +4,9 @@ ghost use mathlib.Core.Path.{_≡_};
 ghost use mathlib.Core.List.{[], _∷_};
 ghost use Prim.Native.Nat.{_+_, _<_};
 ghost use Rattle.columns.specs.Columns.{members};
+ghost use Rattle.columns.specs.ColumnSets.{whole};
 ghost use Rattle.text.specs.Text.{decimal, line, item, column-items, verdict-line, refused-line, Puts, Prints};
+use columns::ColumnSet;
 use format::refusals;
 
 const LINE_FEED: u8 = 10;
@@ -60,8 +62,8 @@ pub fn put_number_line(out: &mut [u8], at: usize, word: &[u8], x: usize) -> usiz
 }
 
 // A word and the columns of a set.
-pub fn put_column_line(out: &mut [u8], at: usize, word: &[u8], set: u64) -> usize
-    ensures { λ r. ⌜ Puts (line (now (word .entry)) (column-items (members set))) (now (out .entry)) at (now (out .exit)) r ⌝ }
+pub fn put_column_line(out: &mut [u8], at: usize, word: &[u8], set: ColumnSet) -> usize
+    ensures { λ r. ⌜ Puts (line (now (word .entry)) (column-items (members (whole set)))) (now (out .entry)) at (now (out .exit)) r ⌝ }
 {
     let after_word = put_bytes(out, at, word);
     let after_items = put_columns(out, after_word, set);
@@ -69,8 +71,8 @@ pub fn put_column_line(out: &mut [u8], at: usize, word: &[u8], set: u64) -> usiz
 }
 
 // The columns of the set, ascending.
-fn put_columns(out: &mut [u8], at: usize, set: u64) -> usize
-    ensures { λ r. ⌜ Puts (column-items (members set)) (now (out .entry)) at (now (out .exit)) r ⌝ }
+fn put_columns(out: &mut [u8], at: usize, set: ColumnSet) -> usize
+    ensures { λ r. ⌜ Puts (column-items (members (whole set))) (now (out .entry)) at (now (out .exit)) r ⌝ }
 {
     let mut place = at;
     let mut rest = set;

@@ -9,7 +9,7 @@ use lib.Seq.{length-take-le}
 use Rattle.columns.specs.Bytes.{bytes-of}
 use Rattle.limits.specs.Limits.{set-bytes}
 use Rattle.format.specs.Lists.{rows-of}
-use Rattle.format.specs.ListLaws.{first-rest, nothing}
+use Rattle.format.specs.ListLaws.{first-left, nothing}
 use Rattle.format.specs.Refusals.{head-bytes, PutRoom}
 use Rattle.format.specs.File.Piece.{field-bytes}
 use Rattle.format.specs.File.Format.{prime-tag, sizes-tag, parameter-tag, end-tag, parameter-size, entry-bytes, prime-field, sizes-field, constant-row, parameter-row, end-field, row-fields, size-fields, fields, encode, handed-over}
@@ -79,9 +79,11 @@ module _ (n : ℕ) where
       let room = left-length k d in
       rw q (put-next (rw q at p) (put-room (rw q at s) (omega arith)))
 
-  pub parameter-rows-next : (s : List ℕ) → 0 < length s → flatMap (parameter-bytes n) s ≡ parameter-bytes n (getD s 0 0) ++ flatMap (parameter-bytes n) (drop 1 s)
+  -- row r is the first of those that are left when r are written
+  pub parameter-rows-next : (b r : ℕ) (ws : List ℕ) → r < b → b ≤ length ws
+      → flatMap (parameter-bytes n) (drop r (take b ws)) ≡ parameter-bytes n (getD ws r 0) ++ flatMap (parameter-bytes n) (drop (r + 1) (take b ws))
   unfolding flatMap
-  parameter-rows-next s h = ap (flatMap (parameter-bytes n)) (first-rest s h)
+  parameter-rows-next b r ws l h = ap (flatMap (parameter-bytes n)) (first-left b r ws l (omega arith))
 
   pub parameter-rows-done : (s : List ℕ) → length s ≤ 0 → flatMap (parameter-bytes n) s ≡ []
   unfolding flatMap

@@ -5,12 +5,14 @@ ghost use mathlib.Core.List.{[], _∷_, flatMap};
 ghost use Prim.Native.Nat.{_+_, _*_, _/_, _%_, _≤_};
 ghost use lib.ListN.{length, take};
 ghost use Rattle.columns.specs.Bytes.{bytes-of};
+ghost use Rattle.columns.specs.ColumnSets.{whole, row-numbers};
 ghost use Rattle.format.specs.Lists.{over, rows-of};
 ghost use Rattle.limits.specs.Limits.{most-columns, most-rows};
 ghost use Rattle.format.specs.Refusals.{head-bytes};
 ghost use Rattle.format.specs.File.Piece.{field-bytes};
 ghost use Rattle.format.specs.File.Format.{prime-tag, sizes-tag, end-tag, entry-bytes, encode, handed-over, WriteCall};
 ghost use Rattle.format.specs.File.Steps.{constant-bytes, parameter-bytes, Put};
+use columns::ColumnSet;
 use format::fields::CONSTANT_TAG;
 use format::fields::END_TAG;
 use format::fields::HEAD_BYTES;
@@ -40,7 +42,7 @@ pub fn write_file(
     parameters: &[u64],
     out: &mut [u8],
 ) -> Written
-    ensures { λ r. ⌜ WriteCall p n a b (now (constants .entry)) (now (parameters .entry)) (now (out .entry)) (r .refusal) (r .length) (now (out .exit)) ⌝ }
+    ensures { λ r. ⌜ WriteCall p n a b (now (constants .entry)) (row-numbers (now (parameters .entry))) (now (out .entry)) (r .refusal) (r .length) (now (out .exit)) ⌝ }
 {
     let r = judge_model(p, n, a, b, constants, parameters);
     if r != 0 {
@@ -61,8 +63,8 @@ pub fn write_file(
 
 // How long the file of an accepted model is.
 fn file_length(p: u32, n: usize, a: usize, b: usize, constants: &[u16], parameters: &[u64]) -> usize
-    requires { ⌜ (n ≤ most-columns) × (a ≤ most-rows) × (b ≤ most-rows) × (a * n ≤ length (now constants)) × (b ≤ length (now parameters)) ⌝ }
-    ensures { λ r. ⌜ r ≡ length (encode (handed-over p n a b (now (constants .entry)) (now (parameters .entry)))) ⌝ }
+    requires { ⌜ (n ≤ most-columns) × (a ≤ most-rows) × (b ≤ most-rows) × (a * n ≤ length (now constants)) × (b ≤ length (row-numbers (now parameters))) ⌝ }
+    ensures { λ r. ⌜ r ≡ length (encode (handed-over p n a b (now (constants .entry)) (row-numbers (now (parameters .entry))))) ⌝ }
 {
     let prime = HEAD_BYTES + PRIME_BYTES;
     let sizes = HEAD_BYTES + SIZES_BYTES;
@@ -81,13 +83,13 @@ fn put_file(
     constants: &[u16],
     parameters: &[u64],
 ) -> usize
-    requires { ⌜ (n ≤ most-columns) × (a ≤ most-rows) × (b ≤ most-rows) × (a * n ≤ length (now constants)) × (b ≤ length (now parameters)) × (length (encode (handed-over p n a b (now constants) (now parameters))) ≤ length (now out)) ⌝ }
-    ensures { λ r. ⌜ Put (encode (handed-over p n a b (now (constants .entry)) (now (parameters .entry)))) (now (out .entry)) (now (out .exit)) r ⌝ }
+    requires { ⌜ (n ≤ most-columns) × (a ≤ most-rows) × (b ≤ most-rows) × (a * n ≤ length (now constants)) × (b ≤ length (row-numbers (now parameters))) × (length (encode (handed-over p n a b (now constants) (row-numbers (now parameters)))) ≤ length (now out)) ⌝ }
+    ensures { λ r. ⌜ Put (encode (handed-over p n a b (now (constants .entry)) (row-numbers (now (parameters .entry))))) (now (out .entry)) (now (out .exit)) r ⌝ }
 {
     let mut at = put_prime(out, p);
     at = at + put_sizes(&mut out[at..], n as u8, a as u8, b as u8);
     at = at + put_constant_rows(&mut out[at..], constants, n, a);
-    at = at + put_parameter_rows(&mut out[at..], &parameters[..b], n);
+    at = at + put_parameter_rows(&mut out[at..], parameters, b, n);
     at + put_head(&mut out[at..], END_TAG, 0)
 }
 
@@ -169,9 +171,9 @@ fn put_constant_rows(out: &mut [u8], constants: &[u16], n: usize, a: usize) -> u
     at
 }
 
-fn put_parameter_row(out: &mut [u8], set: u64, n: usize) -> usize
-    requires { ⌜ length (parameter-bytes n set) ≤ length (now out) ⌝ }
-    ensures { λ r. ⌜ Put (parameter-bytes n set) (now (out .entry)) (now (out .exit)) r ⌝ }
+fn put_parameter_row(out: &mut [u8], set: ColumnSet, n: usize) -> usize
+    requires { ⌜ length (parameter-bytes n (whole set)) ≤ length (now out) ⌝ }
+    ensures { λ r. ⌜ Put (parameter-bytes n (whole set)) (now (out .entry)) (now (out .exit)) r ⌝ }
 {
     let size = parameter_size(n);
     let at = put_head(out, PARAMETER_TAG, size as u16);
@@ -179,15 +181,14 @@ fn put_parameter_row(out: &mut [u8], set: u64, n: usize) -> usize
     at + size
 }
 
-fn put_parameter_rows(out: &mut [u8], parameters: &[u64], n: usize) -> usize
-    requires { ⌜ length (flatMap (parameter-bytes n) (now parameters)) ≤ length (now out) ⌝ }
-    ensures { λ r. ⌜ Put (flatMap (parameter-bytes n) (now (parameters .entry))) (now (out .entry)) (now (out .exit)) r ⌝ }
+// The first b parameter rows one after the other.
+fn put_parameter_rows(out: &mut [u8], parameters: &[u64], b: usize, n: usize) -> usize
+    requires { ⌜ (b ≤ length (row-numbers (now parameters))) × (length (flatMap (parameter-bytes n) (take b (row-numbers (now parameters)))) ≤ length (now out)) ⌝ }
+    ensures { λ r. ⌜ Put (flatMap (parameter-bytes n) (take b (row-numbers (now (parameters .entry))))) (now (out .entry)) (now (out .exit)) r ⌝ }
 {
-    let mut rest = parameters;
     let mut at = 0;
-    while rest.len() > 0 {
-        at = at + put_parameter_row(&mut out[at..], rest[0], n);
-        rest = &rest[1..];
+    for r in 0..b {
+        at = at + put_parameter_row(&mut out[at..], columns::row(parameters, r), n);
     }
     at
 }

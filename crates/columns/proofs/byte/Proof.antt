@@ -2,6 +2,8 @@
 use mathlib.Core.Path.{sym}
 use borrow.Author.Needs.{needs}
 use Rattle.columns.specs.Words.Bytes.{byte-at, byte-past}
+use Rattle.columns.specs.Columns.{set-bytes}
+use Rattle.columns.specs.ColumnSets.{whole}
 use Rattle.columns.proofs.byte.Statement.{statement}
 use Rattle.columns.proofs.byte.Tie as tie
 
@@ -15,10 +17,12 @@ cast-result : tie.Need-cast-result
 cast-result c = search needs
 
 returns : tie.Need-returns
-returns c = sym (byte-at 8 (c .before .args .k) (c .before .args .set) (c .if1 .taken))
+unfolding whole
+returns c = let a = c .before .before .args in sym (byte-at set-bytes (a .k) (a .set .word) (c .before .if1 .taken))
 
 returns-2 : tie.Need-returns-2
-returns-2 c = sym (byte-past 8 (c .before .args .k) (c .before .args .set) (c .if1 .left))
+unfolding whole
+returns-2 c = sym (byte-past set-bytes (c .before .args .k) (c .before .args .set .word) (c .if1 .left))
 
 pub byte-spec : {M : Type 1} → statement M
 byte-spec = tie.close (tie.spec mul-result shr-result cast-result returns returns-2)

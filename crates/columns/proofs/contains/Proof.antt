@@ -3,6 +3,7 @@ use mathlib.Core.Path.{refl, sym}
 use borrow.Author.Needs.{needs}
 use Rattle.columns.specs.Columns.{width, members}
 use Rattle.columns.specs.Words.Operations.{members-beyond}
+use Rattle.columns.specs.ColumnSets.{whole}
 use Rattle.columns.proofs.contains.Statement.{statement}
 use Rattle.columns.proofs.contains.Tie as tie
 
@@ -10,11 +11,12 @@ shr-result : tie.Need-shr-result
 shr-result c = search needs
 
 returns : tie.Need-returns
-unfolding members
+unfolding members whole
 returns c = refl
 
 returns-2 : tie.Need-returns-2
-returns-2 c = sym (members-beyond width (c .before .args .set) (c .before .args .x) (search needs) (c .if1 .left))
+unfolding whole
+returns-2 c = sym (members-beyond width (c .before .args .set .word) (c .before .args .x) (search needs) (c .if1 .left))
 
 pub contains-spec : {M : Type 1} → statement M
 contains-spec = tie.close (tie.spec shr-result returns returns-2)

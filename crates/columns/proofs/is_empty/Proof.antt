@@ -11,6 +11,7 @@ use Rattle.counting.specs.Sets.{#}
 use Rattle.counting.specs.Counts.{#-none}
 use Rattle.columns.specs.Columns.{width, members}
 use Rattle.columns.specs.Words.Operations.{members-zero, no-members}
+use Rattle.columns.specs.ColumnSets.{whole}
 use Rattle.columns.proofs.is_empty.Statement.{statement}
 use Rattle.columns.proofs.is_empty.Tie as tie
 
@@ -20,7 +21,8 @@ same-test w h = iff-eq (eqb w 0) (eqb (# width (members w)) 0)
     (λ e. eq-eqb w 0 (no-members w h (eqb-true _ 0 e)))
 
 returns : tie.Need-returns
-returns c = same-test (c .args .set) (search needs)
+unfolding whole
+returns c = same-test (c .before .args .set .word) (search needs)
 
 pub is-empty-spec : {M : Type 1} → statement M
 is-empty-spec = tie.close (tie.spec returns)

@@ -10,31 +10,33 @@ use denote.Ref.{now}
 use borrow.Author.Needs.{needs}
 use Rattle.columns.specs.Bytes.{number}
 use Rattle.columns.specs.Words.Bytes.{AreBytes, number-below, number-front}
+use Rattle.columns.specs.Columns.{width, set-bytes}
+use Rattle.columns.specs.ColumnSets.{whole}
 use Rattle.columns.proofs.of_bytes.Statement.{statement}
 use Rattle.columns.proofs.of_bytes.Tie as tie
 
 abbrev Inv-loop : tie.InvT-loop
-Inv-loop bytes set₀ k₀ set k = (k ≤ 8) × (set ≡ number (take (8 - k) (drop k bytes)))
+Inv-loop bytes word₀ k₀ word k = (k ≤ set-bytes) × (word ≡ number (take (set-bytes - k) (drop k bytes)))
 
 abbrev μ-loop : tie.MeasureT-loop
-μ-loop bytes set₀ k₀ set k = k
+μ-loop bytes word₀ k₀ word k = k
 
-small : (bs : List ℕ) (k set : ℕ) → AreBytes bs → 0 < k → set ≡ number (take (8 - k) (drop k bs)) → set < 2 ^ 56
-small bs k set b l e =
-    let wide : 2 ^ (8 * (8 - k)) ≤ 2 ^ 56 = pow-mono {i = 8 * (8 - k)} {j = 56} (omega arith) in
-    omega (arith, number-below (8 - k) (drop k bs) (λ i. rw (getD-drop k bs i 0) (b (k + i))))
+small : (bs : List ℕ) (k word : ℕ) → AreBytes bs → 0 < k → word ≡ number (take (set-bytes - k) (drop k bs)) → word < 2 ^ (width - 8)
+small bs k word b l e =
+    let wide : 2 ^ (8 * (set-bytes - k)) ≤ 2 ^ (width - 8) = pow-mono {i = 8 * (set-bytes - k)} {j = width - 8} (omega arith) in
+    omega (arith, number-below (set-bytes - k) (drop k bs) (λ i. rw (getD-drop k bs i 0) (b (k + i))))
 
 -- one byte more
-turn : (bs : List ℕ) (k set byte : ℕ) → 0 < k → k ≤ 8 → set ≡ number (take (8 - k) (drop k bs)) → byte ≡ getD bs (k - 1) 0
-    → set * 256 + byte ≡ number (take (8 - (k - 1)) (drop (k - 1) bs))
-turn bs zero set byte l h e d = absurd (omega arith)
-turn bs (suc j) set byte l h e d =
+turn : (bs : List ℕ) (k word byte : ℕ) → 0 < k → k ≤ set-bytes → word ≡ number (take (set-bytes - k) (drop k bs)) → byte ≡ getD bs (k - 1) 0
+    → word * 256 + byte ≡ number (take (set-bytes - (k - 1)) (drop (k - 1) bs))
+turn bs zero word byte l h e d = absurd (omega arith)
+turn bs (suc j) word byte l h e d =
     let at : suc j - 1 ≡ j = omega arith in
-    let more : 8 - (suc j - 1) ≡ suc (8 - suc j) = omega arith in
+    let more : set-bytes - (suc j - 1) ≡ suc (set-bytes - suc j) = omega arith in
     ap (λ (m : ℕ). m * 256 + byte) e
-    ∙ ap (λ (m : ℕ). number (take (8 - suc j) (drop (suc j) bs)) * 256 + m) (d ∙ ap (λ (i : ℕ). getD bs i 0) at)
-    ∙ number-front j (8 - suc j) bs
-    ∙ sym (ap (λ (m : ℕ). number (take m (drop (suc j - 1) bs))) more ∙ ap (λ (i : ℕ). number (take (suc (8 - suc j)) (drop i bs))) at)
+    ∙ ap (λ (m : ℕ). number (take (set-bytes - suc j) (drop (suc j) bs)) * 256 + m) (d ∙ ap (λ (i : ℕ). getD bs i 0) at)
+    ∙ number-front j (set-bytes - suc j) bs
+    ∙ sym (ap (λ (m : ℕ). number (take m (drop (suc j - 1) bs))) more ∙ ap (λ (i : ℕ). number (take (suc (set-bytes - suc j)) (drop i bs))) at)
 
 loop-holds : tie.Need-loop-holds Inv-loop μ-loop
 loop-holds c = (omega arith, refl)
@@ -42,21 +44,21 @@ loop-holds c = (omega arith, refl)
 sub-k : tie.Need-sub-k Inv-loop μ-loop
 sub-k c = omega arith
 
-mul-set : tie.Need-mul-set Inv-loop μ-loop
-mul-set c =
+mul-word : tie.Need-mul-word Inv-loop μ-loop
+mul-word c =
     let v = c .before .loop in
-    omega (arith, small _ (v .k) (v .set) (λ i. search (needs, c .before .before .shared-slice-known .given i)) (c .loop-test .taken) (v .inv .1))
+    omega (arith, small _ (v .k) (v .word) (λ i. search (needs, c .before .before .shared-slice-known .given i)) (c .loop-test .taken) (v .inv .1))
 
 byte-or-zero-requires : tie.Need-byte-or-zero-requires Inv-loop μ-loop
 byte-or-zero-requires c κs = search needs
 
-add-set : tie.Need-add-set Inv-loop μ-loop
-add-set c =
+add-word : tie.Need-add-word Inv-loop μ-loop
+add-word c =
     let v = c .before .before .loop in
     let known = c .before .before .before .shared-slice-known .given in
     omega (
       arith,
-      small _ (v .k) (v .set) (λ i. search (needs, known i)) (c .before .loop-test .taken) (v .inv .1),
+      small _ (v .k) (v .word) (λ i. search (needs, known i)) (c .before .loop-test .taken) (v .inv .1),
       c .byte-or-zero .ensures,
       known (v .k - 1),
     )
@@ -67,15 +69,16 @@ loop-less c = omega arith
 loop-again : tie.Need-loop-again Inv-loop μ-loop
 loop-again c =
     let v = c .before .before .loop in
-    (omega arith, turn _ (v .k) (v .set) (c .byte-or-zero .result) (c .before .loop-test .taken) (v .inv .0) (v .inv .1) (c .byte-or-zero .ensures))
+    (omega arith, turn _ (v .k) (v .word) (c .byte-or-zero .result) (c .before .loop-test .taken) (v .inv .0) (v .inv .1) (c .byte-or-zero .ensures))
 
 returns : tie.Need-returns Inv-loop μ-loop
+unfolding whole
 returns c =
     let v = c .before .loop in
     let done : v .k ≡ 0 = omega (arith, c .loop-test .left) in
-    v .inv .1 ∙ ap (λ (k : ℕ). number (take (8 - k) (drop k (now (c .before .before .before .args .bytes))))) done
+    v .inv .1 ∙ ap (λ (k : ℕ). number (take (set-bytes - k) (drop k (now (c .before .before .before .args .bytes))))) done
 
 pub of-bytes-spec : {M : Type 1} → statement M
 of-bytes-spec =
     tie.close
-    (tie.spec Inv-loop μ-loop loop-holds sub-k mul-set byte-or-zero-requires add-set loop-less loop-again returns)
+    (tie.spec Inv-loop μ-loop loop-holds sub-k mul-word byte-or-zero-requires add-word loop-less loop-again returns)

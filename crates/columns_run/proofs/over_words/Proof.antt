@@ -13,11 +13,8 @@ abbrev μ-loop : tie.MeasureT-loop
 loop-holds : tie.Need-loop-holds Inv-loop μ-loop
 loop-holds c = search needs
 
-mul-pair : tie.Need-mul-pair Inv-loop μ-loop
-mul-pair c = search needs
-
-array-read-pair : tie.Need-array-read-pair Inv-loop μ-loop
-array-read-pair c = search needs
+nth-requires : tie.Need-nth-requires Inv-loop μ-loop
+nth-requires c κs = search needs
 
 pair-requires : tie.Need-pair-requires Inv-loop μ-loop
 pair-requires c κs = search needs
@@ -41,8 +38,7 @@ over-words-spec =
     Inv-loop
     μ-loop
     loop-holds
-    mul-pair
-    array-read-pair
+    nth-requires
     pair-requires
     add-i
     loop-less

@@ -7,7 +7,10 @@ use mathlib.Core.List.{List}
 use lib.ListN.{getD-replicate, replicate}
 use Rattle.counting.specs.Sets.{_∈_}
 use Rattle.columns.specs.Columns.{width, members, within}
-use Rattle.columns.specs.Words.Operations.{members-below, within-iff}
+use Rattle.columns.specs.ColumnSets.{whole, row-numbers}
+use Rattle.columns.specs.Words.Operations.{within-iff}
+use Rattle.columns.specs.Words.Sets.{columns-below}
+use Rattle.exchange.specs.Sizes.{lines}
 use Rattle.exchange.specs.Code.Scanning.{owned}
 use Rattle.exchange.specs.Code.Held.{held-shows}
 use Rattle.exchange.specs.Code.Offering.{offers-start, offers-some}
@@ -18,8 +21,8 @@ use Rattle.exchange.proofs.answer.Statement.{statement}
 use Rattle.exchange.proofs.answer.Tie as tie
 
 -- every row is free at first
-none-owned : (n N : ℕ) → N ≤ 128 → (q : ℕ) → q < N → owned (replicate 128 n) q ≡ n
-none-owned n N h q l = getD-replicate 128 q n 0 (omega arith)
+none-owned : (n N : ℕ) → N ≤ lines → (q : ℕ) → q < N → owned (replicate lines n) q ≡ n
+none-owned n N h q l = getD-replicate lines q n 0 (omega arith)
 
 cast-owner : tie.Need-cast-owner
 cast-owner c = search needs
@@ -28,7 +31,14 @@ offer-all-requires : tie.Need-offer-all-requires
 offer-all-requires c κs =
     let k = c .before .before .before in
     let a = k .args in
-    (k .pre .0, refl, k .pre .1, k .pre .2, k .pre .3, k .pre .4, k .pre .6, k .pre .7, offers-some (a .p) (a .n) (a .a) (a .b) (a .parameters .now) (a .t .now) (replicate 128 (a .n)) (none-owned (a .n) (a .a + a .b) (omega arith)) (members (a .offered)) (λ x e. within-iff (a .n) (a .offered) .0 (k .pre .5) x (members-below (a .offered) x (search needs) e) e))
+    let below : (x : ℕ) → x ∈ members (whole (a .offered)) → x < a .n = λ x e. within-iff (a .n) (whole (a .offered)) .0 (k .pre .4) x (columns-below (a .offered) x (search needs) e) e in (
+      record {
+        lengths = record { tableau = k .pre .0 .full; owners = refl; columns = k .pre .1; constant-rows = k .pre .2; all-rows = omega arith };
+        below = k .pre .0 .below;
+        prime = k .pre .5;
+      },
+      offers-some (a .p) (a .n) (a .a) (a .b) (row-numbers (a .parameters .now)) (a .t .now) (replicate lines (a .n)) (none-owned (a .n) (a .a + a .b) (omega arith)) (members (whole (a .offered))) below,
+    )
 
 difference-requires : tie.Need-difference-requires
 difference-requires c κs = search needs
@@ -50,23 +60,27 @@ row-columns-requires c κs = search needs
 
 returns : tie.Need-returns
 returns c =
-    let k = c .before .before .before .before .before .before .before .before .before .before .before .before .before in
+    let rows = c .before .row-columns in
+    let side = c .before .before .before .constant-side in
+    let count = c .before .before .before .before .before .size in
+    let found = c .before .before .before .before .before .before .search in
+    let missing = c .before .before .before .before .before .before .before .before .before .difference in
+    let offers = c .before .before .before .before .before .before .before .before .before .before .offer-all in
+    let k = c .before .before .before .before .before .before .before .before .before .before .before .before .before .before in
     let a = k .args in
-    let ws = a .parameters .now in
-    let oa = c .before .before .before .before .before .before .before .before .before .offer-all in
-    let t = oa .last .0 in
-    let o = oa .last .1 .0 in
-    let sr = c .before .before .before .before .before .search in
+    let ws = row-numbers (a .parameters .now) in
+    let t = offers .last .0 in
+    let o = offers .last .1 .0 in
+    let in-set = members (whole (offers .result)) in
     let free = none-owned (a .n) (a .a + a .b) (omega arith) in (
       refl,
       λ G sh m.
-          let d = oa .ensures .3 G (offers-start (a .p) (a .n) (a .a) (a .b) ws (a .t .now) (replicate 128 (a .n)) free (members (a .offered)) G sh m) in
-          let gone = c .before .before .before .before .before .before .before .before .difference .ensures in
-          let found = sr .ensures (G .E) (d .held .s) (held-shows (a .p) (a .n) (a .a) (a .b) ws G (k .pre .6) t o (oa .ensures .2) (d .held))
-          (rw gone (missing-below (a .p) (a .n) (a .a) (a .b) ws G t o (members (oa .result)) d (members (a .offered)) m)) in
-          rw (c .before .before .before .before .size .ensures)
-          (solved (a .p) (a .n) (a .a) (a .b) ws G t o (members (oa .result)) d (members (a .offered)) m (members (c .before .before .constant-side .result)) (c .row-columns .result) (k .pre .1)
-          (c .before .before .constant-side .ensures) (c .row-columns .ensures .1) _ _ _ _ (rw gone at found) (c .row-columns .ensures .2)),
+          let d = offers .ensures .1 G (offers-start (a .p) (a .n) (a .a) (a .b) ws (a .t .now) (replicate lines (a .n)) free (members (whole (a .offered))) G sh m) in
+          let searched = found .ensures (G .E) (d .held .s) (held-shows (a .p) (a .n) (a .a) (a .b) ws G t o (offers .ensures .0) (d .held))
+          (rw (missing .ensures) (missing-below (a .p) (a .n) (a .a) (a .b) ws G t o in-set d (members (whole (a .offered))) m)) in
+          rw (count .ensures)
+          (solved (a .p) (a .n) (a .a) (a .b) ws G t o in-set d (members (whole (a .offered))) m (members (whole (side .result))) (rows .result) (omega arith)
+          (side .ensures) (rows .ensures .1) _ _ _ _ (rw (missing .ensures) at searched)),
     )
 
 pub answer-spec : {M : Type 1} → statement M

@@ -8,16 +8,26 @@ use borrow.Author.Tests.{not-true, not-false}
 use Rattle.residue.specs.Primes.{is-prime-reads}
 use Rattle.counting.specs.Sets.{Set, _∈_}
 use Rattle.columns.specs.Columns.{members}
-use Rattle.columns.specs.Words.Operations.{members-below, within-iff}
+use Rattle.columns.specs.ColumnSets.{whole, row-numbers}
+use Rattle.columns.specs.Words.Operations.{within-iff}
+use Rattle.columns.specs.Words.Sets.{columns-below}
 use Rattle.rank.specs.Modulus.{residue-of}
+use Rattle.exchange.specs.Sizes.{cells}
 use Rattle.exchange.specs.Solve.{admissible}
-use Rattle.exchange.specs.SolveLaws.{all-below-iff, fitting-reads, admissible-reads}
+use Rattle.exchange.specs.SolveLaws.{all-below-iff, Admissible, admissible-reads}
 use Rattle.exchange.specs.Code.Cells.{zeros-below, filled-below}
 use Rattle.exchange.specs.Code.Held.{Given}
 use borrow.Author.Needs.{needs}
 use native.Mathlib.Omega.{arith}
 use Rattle.exchange.proofs.solve.Statement.{statement}
 use Rattle.exchange.proofs.solve.Tie as tie
+
+-- what holds where the model is taken
+taken : (c : tie.Else1) → let a = c .before .before .before .before .args in admissible (a .p) (a .n) (a .a) (a .b) (whole (a .offered)) (a .constants .now) (row-numbers (a .parameters .now)) ≡ true
+taken c = sym (c .before .is-admissible .ensures) ∙ not-false _ (c .if1 .left)
+
+good : (c : tie.Else1) → let a = c .before .before .before .before .args in Admissible (a .p) (a .n) (a .a) (a .b) (whole (a .offered)) (a .constants .now) (row-numbers (a .parameters .now))
+good c = let a = c .before .before .before .before .args in admissible-reads (a .p) (a .n) (a .a) (a .b) (whole (a .offered)) (a .constants .now) (row-numbers (a .parameters .now)) (taken c)
 
 is-admissible-requires : tie.Need-is-admissible-requires
 is-admissible-requires c κs = search needs
@@ -28,51 +38,55 @@ nothing-requires c κs = search needs
 returns : tie.Need-returns
 returns c =
     let a = c .before .before .before .before .before .args in
-    let no : admissible (a .p) (a .n) (a .a) (a .b) (a .offered) (a .constants .now) (a .parameters .now) ≡ false = sym (c .before .before .is-admissible .ensures) ∙ not-true _ (c .before .if1 .taken) in
-    let e = c .nothing .ensures in
+    let refused : admissible (a .p) (a .n) (a .a) (a .b) (whole (a .offered)) (a .constants .now) (row-numbers (a .parameters .now)) ≡ false = sym (c .before .before .is-admissible .ensures) ∙ not-true _ (c .before .if1 .taken) in
     record {
-      is-valid = e .0 ∙ sym no;
-      if-not = λ z. (e .1, e .2, e .3, e .4, e .5);
-      if-valid = λ z. absurd (true≢false (sym z ∙ no));
+      is-valid = c .nothing .ensures .0 ∙ sym refused;
+      if-not = λ z. c .nothing .ensures .1;
+      if-valid = λ z. absurd (true≢false (sym z ∙ refused));
     }
 
 fill-requires : tie.Need-fill-requires
 fill-requires c κs =
-    let a = c .before .before .before .before .before .args in
-    let f = fitting-reads (a .n) (a .a) (a .b) _ _ (admissible-reads (a .p) (a .n) (a .a) (a .b) (a .offered) (a .constants .now) (a .parameters .now) (sym (c .before .before .is-admissible .ensures) ∙ not-false _ (c .before .if1 .left)) .fits) in
+    let f = good (c .before) .fits in
     (refl, f .columns, f .constant-rows, f .constants-lent)
 
 cast-answer : tie.Need-cast-answer
-cast-answer c =
-    let a = c .before .before .before .before .before .before .before .args in
-    omega (arith, admissible-reads (a .p) (a .n) (a .a) (a .b) (a .offered) (a .constants .now) (a .parameters .now) (sym (c .before .before .before .before .is-admissible .ensures) ∙ not-false _ (c .before .before .before .if1 .left)) .short-prime)
+cast-answer c = omega (arith, good (c .before .before .before) .short-prime)
 
 answer-requires : tie.Need-answer-requires
 answer-requires c κs =
-    let a = c .before .before .before .before .before .before .before .args in
-    let g = admissible-reads (a .p) (a .n) (a .a) (a .b) (a .offered) (a .constants .now) (a .parameters .now) (sym (c .before .before .before .before .is-admissible .ensures) ∙ not-false _ (c .before .before .before .if1 .left)) in
-    let f = fitting-reads (a .n) (a .a) (a .b) _ _ (g .fits) in
-    let fl = c .before .fill .ensures in
-    let pos = is-prime-reads (a .p) .0 (g .prime) .least in
-    (fl .0, f .columns, f .constant-rows, f .parameter-rows, f .parameters-lent, g .inside, g .prime, filled-below (a .p) (a .n) (a .a) (a .constants .now) (replicate 4096 0) _ (f .columns) (f .constants-lent) (all-below-iff (a .p) (a .a * a .n) (a .constants .now) .0 (g .low)) (zeros-below (a .p) 4096 (omega arith)) (fl .1))
+    let k = c .before .before .before in
+    let a = k .before .before .before .before .args in
+    let g = good k in
+    let f = g .fits in
+    let filled = c .before .fill .ensures in
+    let pos = is-prime-reads (a .p) .0 (g .prime) .least in (
+      record {
+        full = filled .0;
+        below = filled-below (a .p) (a .n) (a .a) (a .constants .now) (replicate cells 0) _ (omega (arith, f .columns)) (f .constants-lent) (all-below-iff (a .p) (a .a * a .n) (a .constants .now) .0 (g .low)) (zeros-below (a .p) cells (omega arith)) (filled .1);
+      },
+      f .columns,
+      f .constant-rows,
+      f .parameter-rows,
+      g .inside,
+      g .prime,
+    )
 
 returns-2 : tie.Need-returns-2
 returns-2 c =
-    let k = c .before .before .before .before .before .before .before .before in
-    let a = k .args in
-    let ok = (sym (c .before .before .before .before .before .is-admissible .ensures) ∙ not-false _ (c .before .before .before .before .if1 .left)) in
-    let g = admissible-reads (a .p) (a .n) (a .a) (a .b) (a .offered) (a .constants .now) (a .parameters .now) ok in
-    let fl = c .before .before .fill .ensures in
+    let k = c .before .before .before .before in
+    let start = k .before .before .before .before in
+    let a = start .args in
+    let g = good k in
+    let filled = c .before .before .fill .ensures in
+    let below : (x : ℕ) → x ∈ members (whole (a .offered)) → x < a .n = λ x e. within-iff (a .n) (whole (a .offered)) .0 (g .inside) x (columns-below (a .offered) x (search (needs, start .good .1 .1 .1 .1 .0)) e) e in
     record {
-      is-valid = c .answer .ensures .0 ∙ sym ok;
-      if-not = λ z. absurd (true≢false (sym ok ∙ z));
+      is-valid = c .answer .ensures .0 ∙ sym (taken k);
+      if-not = λ z. absurd (true≢false (sym (taken k) ∙ z));
       if-valid = λ z Q T E m.
-          let G : Given (a .p) (a .n) (a .b) (a .parameters .now) = record { Q = Q; T = T; E = E; parameters = m .parameters } in
-          c .answer .ensures .1 G (λ i x li lx. ap (residue-of (a .p)) (fl .1 .done i x li lx) ∙ sym (m .constants i x li lx))
-          (λ x. (
-            (λ e. let l : x < a .n = within-iff (a .n) (a .offered) .0 (g .inside) x (members-below (a .offered) x (search needs) e) e in (l, m .columns x l ∙ e)),
-            λ w. sym (m .columns x (w .0)) ∙ w .1,
-          ));
+          let G : Given (a .p) (a .n) (a .b) (row-numbers (a .parameters .now)) = record { Q = Q; T = T; E = E; parameters = m .parameters } in
+          c .answer .ensures .1 G (λ i x li lx. ap (residue-of (a .p)) (filled .1 .done i x li lx) ∙ sym (m .constants i x li lx))
+          (λ x. ((λ e. (below x e, m .columns x (below x e) ∙ e)), λ w. sym (m .columns x (w .0)) ∙ w .1));
     }
 
 pub solve-spec : {M : Type 1} → statement M

@@ -9,6 +9,7 @@ use native.Mathlib.Decide.{ℕ-discrete, decLt}
 use lib.ListN.{getD}
 use lib.Dec.{ltb}
 use borrow.Author.Tests.{lt-ltb, le-ltb}
+use Rattle.limits.specs.Limits.{most-columns, most-rows, no-column}
 use Rattle.counting.specs.Bools.{true?, not-true, iff-eq, and-in, and-left, and-right, not-of, not-both}
 use Rattle.counting.specs.Sets.{Set, _∈_, _∩_, ∁, Some, #}
 use Rattle.counting.specs.Counts.{some?, #-ext, #-none}
@@ -61,17 +62,22 @@ module _ (n m : ℕ) (o : List ℕ) (side : Set) (h : Side n m o side) where
 
 -- ---- the rows
 
--- the column y, or 255 where it is n or more
+-- the column y, or no column where it is n or more
 unfoldable pub shown-column : (n y : ℕ) → ℕ
-shown-column n y = cond (ltb y n) y 255
+shown-column n y = cond (ltb y n) y no-column
+
+-- the first b rows show the columns that own them, the others none
+pub record RowsShown (n a b : ℕ) (o rows : List ℕ) : Type 0 where
+  pub owners : (r : ℕ) → r < b → getD rows r 0 ≡ shown-column n (owned o (a + r))
+  pub past : (r : ℕ) → b ≤ r → r < most-rows → getD rows r 0 ≡ no-column
 
 pub shown-low : (n y : ℕ) → y < n → shown-column n y ≡ y
 unfolding shown-column
-shown-low n y l = ap (λ t. cond t y 255) (lt-ltb y n l)
+shown-low n y l = ap (λ t. cond t y no-column) (lt-ltb y n l)
 
-pub shown-high : (n y : ℕ) → n ≤ y → shown-column n y ≡ 255
+pub shown-high : (n y : ℕ) → n ≤ y → shown-column n y ≡ no-column
 unfolding shown-column
-shown-high n y l = ap (λ t. cond t y 255) (le-ltb y n l)
+shown-high n y l = ap (λ t. cond t y no-column) (le-ltb y n l)
 
 -- ---- sources that agree below n give layers that agree there
 
@@ -159,12 +165,12 @@ module _ (p n a b : ℕ) (ws : List ℕ) (G : Given p n b ws) (t o : List ℕ) (
         plus-zero k = omega arith
 
     -- the assignment shown is that of the state
-    module _ (side : Set) (rows : List ℕ) (hn : n ≤ width) (constant-side : Side n a o side) (row-columns : (r : ℕ) → r < b → getD rows r 0 ≡ shown-column n (owned o (a + r))) where
+    module _ (side : Set) (rows : List ℕ) (hn : n ≤ width) (constant-side : Side n a o side) (row-columns : RowsShown n a b o rows) where
       owner-row : (x r : ℕ) → x < n → r < b → (getD rows r 0 ≡ x) ↔ (s .owner (a + r) ≡ x)
       owner-row x r lx lr = elim (decLt (owned o (a + r)) n) [
-        | yes l ↦ let e : getD rows r 0 ≡ s .owner (a + r) = row-columns r lr ∙ shown-low n (owned o (a + r)) l ∙ d .held .owners (a + r) (omega arith) in
+        | yes l ↦ let e : getD rows r 0 ≡ s .owner (a + r) = row-columns .owners r lr ∙ shown-low n (owned o (a + r)) l ∙ d .held .owners (a + r) (omega arith) in
             ((λ z. sym e ∙ z), λ z. e ∙ z)
-        | no nl ↦ let e : getD rows r 0 ≡ 255 = row-columns r lr ∙ shown-high n (owned o (a + r)) (omega arith) in
+        | no nl ↦ let e : getD rows r 0 ≡ no-column = row-columns .owners r lr ∙ shown-high n (owned o (a + r)) (omega arith) in
             ((λ z. absurd (omega arith)), λ z. absurd (omega (arith, d .held .owners (a + r) (omega arith))))
       ]
 
@@ -214,18 +220,18 @@ module _ (p n a b : ℕ) (ws : List ℕ) (G : Given p n b ws) (t o : List ℕ) (
       rows-at : (r : ℕ) → r < b → ShowsRow n b side rows r
       rows-at r lr = elim (decLt (owned o (a + r)) n) [
         | yes l ↦
-            let e : getD rows r 0 ≡ owned o (a + r) = row-columns r lr ∙ shown-low n (owned o (a + r)) l in
+            let e : getD rows r 0 ≡ owned o (a + r) = row-columns .owners r lr ∙ shown-low n (owned o (a + r)) l in
             inl (rw e l, ap (λ f. f (getD rows r 0)) shown-is ∙ assignment-owned M s (getD rows r 0) (a + r) (rw e l) (omega arith) (sym (d .held .owners (a + r) (omega arith)) ∙ sym e) ∙ row-seat-high M r)
         | no nl ↦ inr (
-          row-columns r lr ∙ shown-high n (owned o (a + r)) (omega arith),
+          row-columns .owners r lr ∙ shown-high n (owned o (a + r)) (omega arith),
           λ x z. let k : (x < n) × (r < b) × (s .owner (a + r) ≡ x) = row-owner M s x r (sym (ap (λ f. f x) shown-is) ∙ z) in
               absurd (omega (arith, d .held .owners (a + r) (omega arith), k .0, k .2)),
         )
       ]
 
-      pub solved : (column q depth : ℕ) (reached : Set) → Searched s missing column q depth reached → ((r : ℕ) → b ≤ r → r < 64 → getD rows r 0 ≡ 255)
+      pub solved : (column q depth : ℕ) (reached : Set) → Searched s missing column q depth reached
           → Solved M (# width in-set) in-set side reached rows
-      solved column q depth reached f past = record {
+      solved column q depth reached f = record {
         is-rank = rank-is hn;
         is-placed = placed-is;
         is-short = short-is column q depth reached f;
@@ -236,5 +242,5 @@ module _ (p n a b : ℕ) (ws : List ℕ) (G : Given p n b ws) (t o : List ℕ) (
         ]);
         side-shown = λ x. rw shown-is (side-at x);
         rows-shown = rows-at;
-        past-rows = past;
+        past-rows = row-columns .past;
       }

@@ -27,8 +27,9 @@ use Rattle.rank.specs.Layered.Model.{Model}
 use Rattle.rank.specs.Layered.Valid.{touch, touch-constant, touch-row, Valid, state, seated, seated-constant, seated-row, seat-valid}
 use Rattle.rank.specs.Layered.Seating.{Good, good-valid, freed, moved-valid, moved}
 use Rattle.rank.specs.Layered.Assignments.{offered-owner}
+use Rattle.exchange.specs.Sizes.{stride, lines}
 use Rattle.exchange.specs.Code.Cells.{cell, Below, cleared, cleared-is, Pivoted}
-use Rattle.exchange.specs.Code.Scanning.{touched, touched-constant, touched-parameter, owned}
+use Rattle.exchange.specs.Code.Scanning.{Arrays, touched, touched-constant, touched-parameter, owned}
 use Rattle.exchange.specs.Code.Searching.{Shows}
 
 -- the row of x is free: o′ has n there
@@ -43,7 +44,7 @@ pub record Sat (p n a N x q : ℕ) (t o t′ o′ : List ℕ) : Type 0 where
   pub pivoted : q < a → Pivoted p n a q x t t′
   pub kept : a ≤ q → t′ ≡ t
 
--- a model modulo p whose parameter rows are the words ws: its constants, its parameters, and the columns that are offered
+-- a model modulo p whose parameter rows have the numbers ws: its constants, its parameters, and the columns that are offered
 pub record Given (p n b : ℕ) (ws : List ℕ) : Type 0 where
   pub Q : ℕ → ℕ → field-of p .F
   pub T : ℕ → ℕ → Bool
@@ -77,8 +78,8 @@ module _ (p n a b : ℕ) (ws : List ℕ) (G : Given p n b ws) where
       λ nz. ap not (ne-eqb v 0 (λ z. nz (residue-zero p prime v l .1 z))),
     )
 
-    pub held-shows : (t o : List ℕ) → Below p t → (h : Held t o) → Shows (G .E) (h .s) (touched a t ws) (owned o)
-    held-shows t o bt h = record {
+    shows : (t o : List ℕ) → Below p t → (h : Held t o) → Shows (G .E) (h .s) (touched a t ws) (owned o)
+    shows t o bt h = record {
       touch = λ q x l m e. at q x l m e ∙ sym (h .good .reads q x);
       owner = h .owners;
       offered = offered-owner M (h .s) (h .good);
@@ -96,19 +97,19 @@ module _ (p n a b : ℕ) (ws : List ℕ) (G : Given p n b ws) where
               let e : residue-of p (cell t q x) ≡ h .good .P q x = h .cells q x lq m in
               touched-constant a t ws q x lq
               ∙ iff-eq (not (eqb (cell t q x) 0)) (hits (field-of p) (h .good .P) q x)
-              (λ d. hits-iff (field-of p) (h .good .P) q x .1 (rw (sym e) (nonzero (cell t q x) (bt (q * 64 + x)) .0 d)))
-              (λ d. nonzero (cell t q x) (bt (q * 64 + x)) .1 (rw e (hits-iff (field-of p) (h .good .P) q x .0 d)))
+              (λ d. hits-iff (field-of p) (h .good .P) q x .1 (rw (sym e) (nonzero (cell t q x) (bt (q * stride + x)) .0 d)))
+              (λ d. nonzero (cell t q x) (bt (q * stride + x)) .1 (rw e (hits-iff (field-of p) (h .good .P) q x .0 d)))
               ∙ sym (touch-constant M (h .good .P) q x lq ∙ all-offered _ o)
         ]
 
     -- a pivot, read in the field
-    pub pivoted-cells : (t u : List ℕ) (P : ℕ → ℕ → field-of p .F) (k x : ℕ) → Below p t → ((r c : ℕ) → r < a → c < n → residue-of p (cell t r c) ≡ P r c)
+    pivoted-cells : (t u : List ℕ) (P : ℕ → ℕ → field-of p .F) (k x : ℕ) → Below p t → ((r c : ℕ) → r < a → c < n → residue-of p (cell t r c) ≡ P r c)
         → k < a → x < n → Pivoted p n a k x t u → (r c : ℕ) → r < a → c < n → residue-of p (cell u r c) ≡ pivot (field-of p) P k x r c
     pivoted-cells t u P k x bt e lk lx d r c lr lc = elim (ℕ-discrete r k) [
       | yes w ↦ rw w (ap (residue-of p) (d .row c lc) ∙ first ∙ sym (ap (λ f. f c) (pivot-row (field-of p) P k x)))
       | no nw ↦ ap (residue-of p) (d .others r c lr nw lc ∙ cleared-is p _ _ _)
           ∙ residue-add p prime _ _
-          ∙ ap (λ y. residue-of p (cell t r c) ⊕ y) (residue-mul p prime _ _ ∙ ap (λ y. y ⊙ residue-of p (mul-of p (inv-of p (cell t k x)) (cell t k c))) (residue-neg p prime _ (omega (arith, bt (r * 64 + x)))))
+          ∙ ap (λ y. residue-of p (cell t r c) ⊕ y) (residue-mul p prime _ _ ∙ ap (λ y. y ⊙ residue-of p (mul-of p (inv-of p (cell t k x)) (cell t k c))) (residue-neg p prime _ (omega (arith, bt (r * stride + x)))))
           ∙ rw (first, e r c lr lc, e r x lr lx) (sym (ap (λ f. f c) (pivot-other (field-of p) P k x r nw)))
     ]
       where
@@ -122,51 +123,54 @@ module _ (p n a b : ℕ) (ws : List ℕ) (G : Given p n b ws) where
       | no nl ↦ ap (λ v. residue-of p (cell v r c)) (k (omega arith)) ∙ e r c lr lc ∙ sym (ap (λ f. f r c) (seated-row M P q x (omega arith)))
     ]
 
-    -- a store to the owners
-    stored : (o : List ℕ) (f : ℕ → ℕ) (q v : ℕ) → length o ≡ 128 → q < a + b → a + b ≤ 128 → ((r : ℕ) → r < a + b → owned o r ≡ f r) → (r : ℕ) → r < a + b → owned (ListN.set o q v) r ≡ set f q v r
-    stored o f q v lo lq lab e r lr = elim (ℕ-discrete r q) [
-      | yes d ↦ rw (d, set-same) (getD-set-same o q v 0 (omega arith))
-      | no nd ↦ getD-set-other o q r v 0 nd ∙ e r lr ∙ sym (set-other f q v r nd)
-    ]
+  pub held-shows : (t o : List ℕ) → Arrays p n a b t o → (h : Held t o) → Shows (G .E) (h .s) (touched a t ws) (owned o)
+  held-shows t o w h = shows (w .prime) t o (w .below) h
 
-    -- what seating gives: a state held by the new lists, to which x moved from its row, or which it entered
-    abbrev pub Seated : (t o t′ o′ : List ℕ) (x q : ℕ) → Held t o → Type 0
-    Seated t o t′ o′ x q h = (h′ : Held t′ o′) × (((q′ : ℕ) × Moved (h .s) (h′ .s) x q q′) ⊎ ((Placed (h .s) x → ⊥) × Entered (h .s) (h′ .s) x q))
+  -- a store to the owners
+  stored : (o : List ℕ) (f : ℕ → ℕ) (q v : ℕ) → length o ≡ lines → a + b ≤ lines → q < a + b → ((r : ℕ) → r < a + b → owned o r ≡ f r) → (r : ℕ) → r < a + b → owned (ListN.set o q v) r ≡ set f q v r
+  stored o f q v lo lab lq e r lr = elim (ℕ-discrete r q) [
+    | yes d ↦ rw (d, set-same) (getD-set-same o q v 0 (omega arith))
+    | no nd ↦ getD-set-other o q r v 0 nd ∙ e r lr ∙ sym (set-other f q v r nd)
+  ]
 
-    module _ (t o t′ o′ : List ℕ) (x q : ℕ) (bt : Below p t) (lo : length o ≡ 128) (lab : a + b ≤ 128) (h : Held t o)
-        (lx : x < n) (lq : q < a + b) (fq : n ≤ h .s .owner q) (tq : h .s .touch q x ≡ true) (d : Sat p n a (a + b) x q t o t′ o′) where
-      moving : (q′ : ℕ) → q′ < a + b → owned o q′ ≡ x → d .middle ≡ ListN.set o q′ n → Seated t o t′ o′ x q h
-      unfolding state freed
-      moving q′ lq′ e m =
-          let so : h .s .owner q′ ≡ x = sym (h .owners q′ lq′) ∙ e in
-          let w0 : Valid M (seated M (h .good .P) q x) (set (set (h .s .owner) q′ n) q x) = moved-valid M (h .s) (h .good) x q q′ lx lq fq tq lq′ so in (
-            record {
-              s = state M (seated M (h .good .P) q x) (set (set (h .s .owner) q′ n) q x) w0;
-              good = record { P = seated M (h .good .P) q x; reads = λ r z. refl; kernel = w0 .kernel; tableau = w0 .tableau };
-              cells = seated-cells t t′ (h .good .P) q x bt (h .cells) lx (d .pivoted) (d .kept);
-              owners = λ r lr. ap (λ l. owned l r) (d .owners ∙ ap (λ l. ListN.set l q x) m)
-                  ∙ stored (ListN.set o q′ n) (set (h .s .owner) q′ n) q x (length-set o q′ n ∙ lo) lq lab (stored o (h .s .owner) q′ n lo lq′ lab (h .owners)) r lr;
-            },
-            inl (q′, moved M (h .s) (h .good) x q q′ lx lq fq tq lq′ so),
-          )
+  -- what seating gives: a state held by the new lists, to which x moved from its row, or which it entered
+  abbrev pub Seated : (t o t′ o′ : List ℕ) (x q : ℕ) → Held t o → Type 0
+  Seated t o t′ o′ x q h = (h′ : Held t′ o′) × (((q′ : ℕ) × Moved (h .s) (h′ .s) x q q′) ⊎ ((Placed (h .s) x → ⊥) × Entered (h .s) (h′ .s) x q))
 
-      entering : ((r : ℕ) → r < a + b → owned o r ≢ x) → d .middle ≡ o → Seated t o t′ o′ x q h
-      unfolding state
-      entering new m =
-          let none : (r : ℕ) → r < a + b → h .s .owner r ≢ x = λ r lr e. new r lr (h .owners r lr ∙ e) in
-          let w0 : Valid M (seated M (h .good .P) q x) (set (h .s .owner) q x)
-          = seat-valid M (h .good .P) (h .s .owner) (good-valid M (h .s) (h .good)) q x lx none lq (sym (h .good .reads q x) ∙ tq) in (
-            record {
-              s = state M (seated M (h .good .P) q x) (set (h .s .owner) q x) w0;
-              good = record { P = seated M (h .good .P) q x; reads = λ r z. refl; kernel = w0 .kernel; tableau = w0 .tableau };
-              cells = seated-cells t t′ (h .good .P) q x bt (h .cells) lx (d .pivoted) (d .kept);
-              owners = λ r lr. ap (λ l. owned l r) (d .owners ∙ ap (λ l. ListN.set l q x) m) ∙ stored o (h .s .owner) q x lo lq lab (h .owners) r lr;
-            },
-            inr (
-              λ w. none (w .0) (w .1) (w .2),
-              record { column = lx; row = lq; was-free = fq; now-owned = set-same (h .s .owner) q x; others = λ r l ne. set-other (h .s .owner) q x r ne },
-            ),
-          )
+  module _ (t o t′ o′ : List ℕ) (x q : ℕ) (w : Arrays p n a b t o) (h : Held t o)
+      (lx : x < n) (lq : q < a + b) (fq : n ≤ h .s .owner q) (tq : h .s .touch q x ≡ true) (d : Sat p n a (a + b) x q t o t′ o′) where
+    moving : (q′ : ℕ) → q′ < a + b → owned o q′ ≡ x → d .middle ≡ ListN.set o q′ n → Seated t o t′ o′ x q h
+    unfolding state freed
+    moving q′ lq′ e m =
+        let so : h .s .owner q′ ≡ x = sym (h .owners q′ lq′) ∙ e in
+        let w0 : Valid M (seated M (h .good .P) q x) (set (set (h .s .owner) q′ n) q x) = moved-valid M (h .s) (h .good) x q q′ lx lq fq tq lq′ so in (
+          record {
+            s = state M (seated M (h .good .P) q x) (set (set (h .s .owner) q′ n) q x) w0;
+            good = record { P = seated M (h .good .P) q x; reads = λ r z. refl; kernel = w0 .kernel; tableau = w0 .tableau };
+            cells = seated-cells (w .prime) t t′ (h .good .P) q x (w .below) (h .cells) lx (d .pivoted) (d .kept);
+            owners = λ r lr. ap (λ l. owned l r) (d .owners ∙ ap (λ l. ListN.set l q x) m)
+                ∙ stored (ListN.set o q′ n) (set (h .s .owner) q′ n) q x (length-set o q′ n ∙ w .lengths .owners) (w .lengths .all-rows) lq (stored o (h .s .owner) q′ n (w .lengths .owners) (w .lengths .all-rows) lq′ (h .owners)) r lr;
+          },
+          inl (q′, moved M (h .s) (h .good) x q q′ lx lq fq tq lq′ so),
+        )
 
-      pub seat-held : Seated t o t′ o′ x q h
-      seat-held = elim (d .vacated) [ inl v ↦ moving (v .0) (v .1) (v .2) (v .3) | inr v ↦ entering (v .0) (v .1) ]
+    entering : ((r : ℕ) → r < a + b → owned o r ≢ x) → d .middle ≡ o → Seated t o t′ o′ x q h
+    unfolding state
+    entering new m =
+        let none : (r : ℕ) → r < a + b → h .s .owner r ≢ x = λ r lr e. new r lr (h .owners r lr ∙ e) in
+        let w0 : Valid M (seated M (h .good .P) q x) (set (h .s .owner) q x)
+        = seat-valid M (h .good .P) (h .s .owner) (good-valid M (h .s) (h .good)) q x lx none lq (sym (h .good .reads q x) ∙ tq) in (
+          record {
+            s = state M (seated M (h .good .P) q x) (set (h .s .owner) q x) w0;
+            good = record { P = seated M (h .good .P) q x; reads = λ r z. refl; kernel = w0 .kernel; tableau = w0 .tableau };
+            cells = seated-cells (w .prime) t t′ (h .good .P) q x (w .below) (h .cells) lx (d .pivoted) (d .kept);
+            owners = λ r lr. ap (λ l. owned l r) (d .owners ∙ ap (λ l. ListN.set l q x) m) ∙ stored o (h .s .owner) q x (w .lengths .owners) (w .lengths .all-rows) lq (h .owners) r lr;
+          },
+          inr (
+            λ v. none (v .0) (v .1) (v .2),
+            record { column = lx; row = lq; was-free = fq; now-owned = set-same (h .s .owner) q x; others = λ r l ne. set-other (h .s .owner) q x r ne },
+          ),
+        )
+
+    pub seat-held : Seated t o t′ o′ x q h
+    seat-held = elim (d .vacated) [ inl v ↦ moving (v .0) (v .1) (v .2) (v .3) | inr v ↦ entering (v .0) (v .1) ]

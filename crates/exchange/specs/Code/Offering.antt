@@ -43,31 +43,44 @@ module _ (M : Model) (s : StateOf M) where
       let d : j ≡ suc (k + i) = omega arith in
       rw d (offered-skip (k + i) (omega arith) (none-there (k + i) (omega arith) (omega arith)) (offered-until i (k + i) k refl (omega arith) (λ x h m. none-there x h (omega arith)) o))
 
+-- ---- what the driver is given, and what it gives
+
+-- the arrays hold a state in which nothing has been offered; the set has the offered columns
+pub record Offers (p n a b : ℕ) (ws : List ℕ) (offered : Set) (t o : List ℕ) (G : Given p n b ws) : Type 0 where
+  pub held : Held p n a b ws G t o
+  pub none-yet : Offered (model-of p n a b ws G) (held .s) 0
+  pub columns : (x : ℕ) → (x ∈ offered) ↔ ((x < n) × (x ∈ G .E))
+
+-- all have been offered, and the set has those that are placed
+pub record Offered-all (p n a b : ℕ) (ws : List ℕ) (G : Given p n b ws) (t o : List ℕ) (placed : Set) : Type 0 where
+  pub held : Held p n a b ws G t o
+  pub all-offered : Offered (model-of p n a b ws G) (held .s) n
+  pub are-placed : (x : ℕ) → (x ∈ placed) ↔ ((x < n) × Placed (held .s) x)
+
 -- ---- the loop
 
-module _ (p n a b : ℕ) (ws : List ℕ) (G : Given p n b ws) where
-  -- the offered columns below `next` have been offered; `rest` has the others, `placed` those that are placed
-  pub record Offering (t o : List ℕ) (rest placed : Set) : Type 0 where
-    pub held : Held p n a b ws G t o
-    pub next : ℕ
-    pub low : next ≤ n
-    pub so-far : Offered (model-of p n a b ws G) (held .s) next
-    pub left : (x : ℕ) → (x ∈ rest) ↔ ((x < n) × (x ∈ G .E) × (next ≤ x))
-    pub are-placed : (x : ℕ) → (x ∈ placed) ↔ ((x < n) × Placed (held .s) x)
+-- the offered columns below `next` have been offered; `rest` has the others, `placed` those that are placed
+pub record Offering (p n a b : ℕ) (ws : List ℕ) (G : Given p n b ws) (t o : List ℕ) (rest placed : Set) : Type 0 where
+  pub held : Held p n a b ws G t o
+  pub next : ℕ
+  pub low : next ≤ n
+  pub so-far : Offered (model-of p n a b ws G) (held .s) next
+  pub left : (x : ℕ) → (x ∈ rest) ↔ ((x < n) × (x ∈ G .E) × (next ≤ x))
+  pub are-placed : (x : ℕ) → (x ∈ placed) ↔ ((x < n) × Placed (held .s) x)
 
-  pub offering-start : (t o : List ℕ) (offered : Set) (h : Held p n a b ws G t o) → Offered (model-of p n a b ws G) (h .s) 0
-      → ((x : ℕ) → (x ∈ offered) ↔ ((x < n) × (x ∈ G .E))) → Offering t o offered none
+module _ {p n a b : ℕ} {ws : List ℕ} {G : Given p n b ws} where
+  pub offering-start : {t o : List ℕ} {offered : Set} → Offers p n a b ws offered t o G → Offering p n a b ws G t o offered none
   unfolding taken
-  offering-start t o offered h f m = record {
-    held = h;
+  offering-start m = record {
+    held = m .held;
     next = 0;
     low = omega arith;
-    so-far = f;
-    left = λ x. ((λ e. let w = m x .0 e in (w .0, w .1, omega arith)), λ w. m x .1 (w .0, w .1));
-    are-placed = λ x. ((λ e. absurd (false≢true e)), λ w. absurd (false≢true (sym (f x (w .0)) ∙ placed-iff (h .s) x .1 (w .1))));
+    so-far = m .none-yet;
+    left = λ x. ((λ e. let w = m .columns x .0 e in (w .0, w .1, omega arith)), λ w. m .columns x .1 (w .0, w .1));
+    are-placed = λ x. ((λ e. absurd (false≢true e)), λ w. absurd (false≢true (sym (m .none-yet x (w .0)) ∙ placed-iff (m .held .s) x .1 (w .1))));
   }
 
-  module _ (t o t′ o′ : List ℕ) (rest placed : Set) (d : Offering t o rest placed) (j : ℕ) (there : j ∈ rest) (first : (x : ℕ) → x ∈ rest → j ≤ x) where
+  module _ {t o : List ℕ} {rest placed : Set} (d : Offering p n a b ws G t o rest placed) (j : ℕ) (there : j ∈ rest) (first : (x : ℕ) → x ∈ rest → j ≤ x) where
     pub next-below : j < n
     next-below = d .left j .0 there .0
 
@@ -89,11 +102,11 @@ module _ (p n a b : ℕ) (ws : List ℕ) (G : Given p n b ws) where
       λ w. removed-other rest j x (d .left x .1 (w .0, w .1, omega (arith, d .left j .0 there .2))) (omega arith),
     )
 
-    pub offering-yes : n ≤ width → Placing p n a b ws G t o t′ o′ j true (d .held) → Offering t′ o′ (removed rest j) (inserted placed j)
-    offering-yes hn v =
+    pub offering-yes : {t′ o′ : List ℕ} {r : Bool} → n ≤ width → r ≡ true → Placing p n a b ws G t o t′ o′ j r (d .held) → Offering p n a b ws G t′ o′ (removed rest j) (inserted placed j)
+    offering-yes hn placed-it v =
         let s = d .held .s in
         let s′ = v .0 .s in
-        let more : OneMore s s′ j = v .1 refl in
+        let more : OneMore s s′ j = v .1 placed-it in
         let here : Placed s′ j = placed-iff s′ j .0 (more j next-below ∙ set-same (placed-of s) j true) in
         record {
           held = v .0;
@@ -119,14 +132,14 @@ module _ (p n a b : ℕ) (ws : List ℕ) (G : Given p n b ws) where
           );
         }
 
-    pub offering-no : Placing p n a b ws G t o t′ o′ j false (d .held) → Offering t′ o′ (removed rest j) placed
-    offering-no v =
-        let same : SamePlaced (d .held .s) (v .0 .s) = v .2 refl .0 in
+    pub offering-no : {t′ o′ : List ℕ} {r : Bool} → r ≡ false → Placing p n a b ws G t o t′ o′ j r (d .held) → Offering p n a b ws G t′ o′ (removed rest j) placed
+    offering-no blocked v =
+        let same : SamePlaced (d .held .s) (v .0 .s) = v .2 blocked .0 in
         record {
           held = v .0;
           next = suc j;
           low = next-below;
-          so-far = passed (model-of p n a b ws G) (v .0 .s) (v .0 .good) j next-below (offered-same (model-of p n a b ws G) (d .held .s) (v .0 .s) j same at-next) (v .2 refl .1);
+          so-far = passed (model-of p n a b ws G) (v .0 .s) (v .0 .good) j next-below (offered-same (model-of p n a b ws G) (d .held .s) (v .0 .s) j same at-next) (v .2 blocked .1);
           left = left-after;
           are-placed = λ x. (
             (λ e. let w = d .are-placed x .0 e in (w .0, same x (w .0) .0 (w .1))),
@@ -135,23 +148,12 @@ module _ (p n a b : ℕ) (ws : List ℕ) (G : Given p n b ws) where
         }
 
   -- the last column has been offered
-  pub offered-last : (t o : List ℕ) (rest placed : Set) (d : Offering t o rest placed) → ((x : ℕ) → x ∈ rest → ⊥) → Offered (model-of p n a b ws G) (d .held .s) n
-  offered-last t o rest placed d none-left = offered-until (model-of p n a b ws G) (d .held .s) (d .next) n (n - d .next) (omega (arith, d .low)) (omega arith)
-      (λ x h l e. none-left x (d .left x .1 (l, e, h))) (d .so-far)
-
--- ---- what the driver is given, and what it gives
-
--- the arrays hold a state in which nothing has been offered; the set has the offered columns
-pub record Offers (p n a b : ℕ) (ws : List ℕ) (offered : Set) (t o : List ℕ) (G : Given p n b ws) : Type 0 where
-  pub held : Held p n a b ws G t o
-  pub none-yet : Offered (model-of p n a b ws G) (held .s) 0
-  pub columns : (x : ℕ) → (x ∈ offered) ↔ ((x < n) × (x ∈ G .E))
-
--- all have been offered, and the set has those that are placed
-pub record Offered-all (p n a b : ℕ) (ws : List ℕ) (G : Given p n b ws) (t o : List ℕ) (placed : Set) : Type 0 where
-  pub held : Held p n a b ws G t o
-  pub all-offered : Offered (model-of p n a b ws G) (held .s) n
-  pub are-placed : (x : ℕ) → (x ∈ placed) ↔ ((x < n) × Placed (held .s) x)
+  pub offering-done : {t o : List ℕ} {rest placed : Set} → Offering p n a b ws G t o rest placed → ((x : ℕ) → x ∈ rest → ⊥) → Offered-all p n a b ws G t o placed
+  offering-done d none-left = record {
+    held = d .held;
+    all-offered = offered-until (model-of p n a b ws G) (d .held .s) (d .next) n (n - d .next) (omega (arith, d .low)) (omega arith) (λ x h l e. none-left x (d .left x .1 (l, e, h))) (d .so-far);
+    are-placed = d .are-placed;
+  }
 
 -- ---- nothing is placed at first
 

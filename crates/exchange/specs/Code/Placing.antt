@@ -6,19 +6,18 @@ use mathlib.Core.Bool.{Bool, true, false, false≢true}
 use mathlib.Core.List.{List}
 use native.Mathlib.Omega.{arith}
 use native.Mathlib.Decide.{decLt, decLe}
-use lib.ListN.{length}
-use Rattle.residue.specs.Arithmetic.{is-prime}
 use Rattle.counting.specs.Bools.{iff-eq}
 use Rattle.counting.specs.Sets.{Set, _∈_}
-use Rattle.columns.specs.Columns.{width, none, inserted}
+use Rattle.columns.specs.Columns.{width, members, none, inserted}
+use Rattle.columns.specs.ColumnSets.{whole}
 use Rattle.columns.specs.Words.SetLaws.{inserted-same, inserted-split}
 use Rattle.rank.specs.Graph.States.{State, Placed, Terminal, Moved, SamePlaced, moved-placed, Entered}
 use Rattle.rank.specs.Graph.Closed.{Closed}
 use Rattle.rank.specs.Graph.Layers.{layer, layer-start, layer-placed}
 use Rattle.rank.specs.Graph.Search.{Hit, fall}
 use Rattle.rank.specs.Layered.Augmenting.{only, only-iff, OneMore, entered-more}
-use Rattle.exchange.specs.Code.Cells.{Below}
-use Rattle.exchange.specs.Code.Scanning.{touched, owned}
+use Rattle.exchange.specs.declared.search.Found.{Found}
+use Rattle.exchange.specs.Code.Scanning.{Arrays, touched, owned}
 use Rattle.exchange.specs.Code.Searching.{Shows, Ended, Final, Searched, in-last}
 use Rattle.exchange.specs.Code.Held.{Given, Held, held-shows, Sat, Seated, seat-held}
 
@@ -41,17 +40,17 @@ nearer {n} {N} s S i column row depth reached t f = elim (decLt row N) [
   | no nl ↦ absurd (f .1 (omega arith) .is-closed .no-terminal (t .0) (t .1) (in-last s S i (t .0) (t .2 .0)) (t .2 .1))
 ]
 
-module _ (p n a b : ℕ) (ws : List ℕ) (G : Given p n b ws) (prime : is-prime p ≡ true) (S : Set) (t o t′ o′ : List ℕ) (bt : Below p t) (lo : length o ≡ 128) (lab : a + b ≤ 128) (h : Held p n a b ws G t o) where
+module _ (p n a b : ℕ) (ws : List ℕ) (G : Given p n b ws) (S : Set) (t o t′ o′ : List ℕ) (w : Arrays p n a b t o) (h : Held p n a b ws G t o) where
   -- a column found in a later layer moves
   pub moves : (x q i : ℕ) → Ended (h .s) S x q (suc i) → Sat p n a (a + b) x q t o t′ o′ → (h′ : Held p n a b ws G t′ o′) × SamePlaced (h .s) (h′ .s) × Hit (h′ .s) S i
   moves x q i e d =
       let term : Terminal (h .s) x = (q, e .is-row, (e .is-free, e .touches)) in
-      let v : Seated p n a b ws G prime t o t′ o′ x q h = seat-held p n a b ws G prime t o t′ o′ x q bt lo lab h (e .below) (e .is-row) (e .is-free) (e .touches) d in
+      let v : Seated p n a b ws G t o t′ o′ x q h = seat-held p n a b ws G t o t′ o′ x q w h (e .below) (e .is-row) (e .is-free) (e .touches) d in
       elim (v .1) [
         | inl m ↦ (v .0, moved-placed (h .s) (v .0 .s) x q (m .0) (m .1), fall (h .s) (v .0 .s) S i x q (m .0) (e .inside) term (λ k l. e .no-earlier k (omega arith)) (m .1))
         | inr u ↦ absurd (elim (layer-placed (h .s) S (suc i) x (e .inside)) [
           | inl k ↦ e .no-earlier 0 (omega arith) (x, e .below, (rw (layer-start (h .s) S) k, term))
-          | inr w ↦ u .0 w
+          | inr k ↦ u .0 k
         ])
       ]
 
@@ -61,7 +60,7 @@ module _ (p n a b : ℕ) (ws : List ℕ) (G : Given p n b ws) (prime : is-prime 
   -- a column found in the first layer is placed besides
   pub enters : (s₀ : State n (a + b)) (x q : ℕ) → SamePlaced s₀ (h .s) → (Placed s₀ x → ⊥) → Ended (h .s) S x q 0 → Sat p n a (a + b) x q t o t′ o′ → (h′ : Held p n a b ws G t′ o′) × OneMore s₀ (h′ .s) x
   enters s₀ x q same new e d =
-      let v : Seated p n a b ws G prime t o t′ o′ x q h = seat-held p n a b ws G prime t o t′ o′ x q bt lo lab h (e .below) (e .is-row) (e .is-free) (e .touches) d in
+      let v : Seated p n a b ws G t o t′ o′ x q h = seat-held p n a b ws G t o t′ o′ x q w h (e .below) (e .is-row) (e .is-free) (e .touches) d in
       elim (v .1) [
         | inl m ↦ absurd (new (same x (e .below) .1 (m .0, m .1 .old-row, m .1 .old-owned)))
         | inr u ↦ (v .0, entered-more s₀ (h .s) (v .0 .s) x q same (u .1))
@@ -77,54 +76,59 @@ first-is s j x q depth l d =
 
 -- ---- the loop
 
-module _ (p n a b : ℕ) (ws : List ℕ) (j : ℕ) where
-  -- what a search from j says of every state that the arrays show
-  abbrev pub Seeks : (t o : List ℕ) (x q depth : ℕ) (reached : Set) → Type 0
-  Seeks t o x q depth reached = (E : Set) (s : State n (a + b)) → Shows E s (touched a t ws) (owned o) → j ∈ E → Searched s (only j) x q depth reached
+-- what a search from j says of every state that the arrays show
+pub record Seeks (n a b : ℕ) (ws : List ℕ) (j : ℕ) (t o : List ℕ) (f : Found) : Type 0 where
+  pub says : (E : Set) (s : State n (a + b)) → Shows E s (touched a t ws) (owned o) → j ∈ E → Searched s (only j) (f .column) (f .row) (f .depth) (members (whole (f .reached)))
 
-  pub seeks : (t o : List ℕ) (x q depth : ℕ) (reached start : Set) → j < n → n ≤ width → start ≡ inserted none j
-      → ((E : Set) (s : State n (a + b)) → Shows E s (touched a t ws) (owned o) → ((y : ℕ) → y ∈ start → (y < n) × (y ∈ E)) → Searched s start x q depth reached)
-      → Seeks t o x q depth reached
-  seeks t o x q depth reached start l w e f E s h i =
+pub seeks : {n a b : ℕ} {ws : List ℕ} {j : ℕ} {t o : List ℕ} (f : Found) (start : Set) → j < n → n ≤ width → start ≡ inserted none j
+    → ((E : Set) (s : State n (a + b)) → Shows E s (touched a t ws) (owned o) → ((y : ℕ) → y ∈ start → (y < n) × (y ∈ E)) → Searched s start (f .column) (f .row) (f .depth) (members (whole (f .reached))))
+    → Seeks n a b ws j t o f
+seeks {j = j} f start l w e found = record {
+  says = λ E s h i.
       let same : start ≡ only j = e ∙ only-inserted j (omega arith) in
-      rw same at (f E s h (λ y m. let d : y ≡ j = only-iff j y .0 (rw same at m) in rw d (l, i)))
+      rw same at (found E s h (λ y m. let d : y ≡ j = only-iff j y .0 (rw same at m) in rw d (l, i)));
+}
 
-  -- it has found this column, row and depth
-  abbrev pub Finds : (t o : List ℕ) (x q depth : ℕ) → Type 0
-  Finds t o x q depth = (E : Set) (s : State n (a + b)) → Shows E s (touched a t ws) (owned o) → j ∈ E → Ended s (only j) x q depth
+-- it has found a column with a free row
+pub record Finds (n a b : ℕ) (ws : List ℕ) (j : ℕ) (t o : List ℕ) (f : Found) : Type 0 where
+  pub at-row : f .row < a + b
+  pub ended : (E : Set) (s : State n (a + b)) → Shows E s (touched a t ws) (owned o) → j ∈ E → Ended s (only j) (f .column) (f .row) (f .depth)
 
-  -- the arrays t and o hold a state that places what the first did
-  abbrev pub Holds : (t₀ o₀ t o : List ℕ) → Type 0
-  Holds t₀ o₀ t o = (G : Given p n b ws) (h : Held p n a b ws G t₀ o₀) → j ∈ G .E → (h′ : Held p n a b ws G t o) × SamePlaced (h .s) (h′ .s)
+pub finds : {n a b : ℕ} {ws : List ℕ} {j : ℕ} {t o : List ℕ} {f : Found} → f .row < a + b → Seeks n a b ws j t o f → Finds n a b ws j t o f
+finds l R = record { at-row = l; ended = λ E s h e. R .says E s h e .0 l }
 
-  pub holds-first : (t o : List ℕ) → Holds t o t o
-  holds-first t o G h e = (h, same-placed-refl (h .s))
+-- the arrays t and o hold a state that places what the first did
+pub record Holds (p n a b : ℕ) (ws : List ℕ) (j : ℕ) (t₀ o₀ t o : List ℕ) : Type 0 where
+  pub now-held : (G : Given p n b ws) (h : Held p n a b ws G t₀ o₀) → j ∈ G .E → (h′ : Held p n a b ws G t o) × SamePlaced (h .s) (h′ .s)
 
-  module _ (prime : is-prime p ≡ true) (t₀ o₀ t o : List ℕ) (bt : Below p t) (lo : length o ≡ 128) (lab : a + b ≤ 128) (x q depth : ℕ) (F : Finds t o x q depth) (H : Holds t₀ o₀ t o) where
-    found-at : (G : Given p n b ws) (h : Held p n a b ws G t₀ o₀) (e : j ∈ G .E) → Ended (H G h e .0 .s) (only j) x q depth
-    found-at G h e = F (G .E) (H G h e .0 .s) (held-shows p n a b ws G prime t o bt (H G h e .0)) e
+pub holds-first : {p n a b : ℕ} {ws : List ℕ} {j : ℕ} {t o : List ℕ} → Holds p n a b ws j t o t o
+holds-first = record { now-held = λ G h e. (h, same-placed-refl (h .s)) }
 
-    pub found-below : (G : Given p n b ws) → Held p n a b ws G t₀ o₀ → j ∈ G .E → x < n
-    found-below G h e = found-at G h e .below
+module _ {p n a b : ℕ} {ws : List ℕ} {j : ℕ} {t₀ o₀ t o : List ℕ} {f : Found} (w : Arrays p n a b t o) (F : Finds n a b ws j t o f) (H : Holds p n a b ws j t₀ o₀ t o) where
+  found-at : (G : Given p n b ws) (h : Held p n a b ws G t₀ o₀) (e : j ∈ G .E) → Ended (H .now-held G h e .0 .s) (only j) (f .column) (f .row) (f .depth)
+  found-at G h e = F .ended (G .E) (H .now-held G h e .0 .s) (held-shows p n a b ws G t o w (H .now-held G h e .0)) e
 
-    -- one turn: the column found is seated, and the next search from j ends nearer
-    module _ (t′ o′ : List ℕ) (bt′ : Below p t′) (pos : 0 < depth) (d : Sat p n a (a + b) x q t o t′ o′) (x′ q′ depth′ : ℕ) (reached′ : Set) (R : Seeks t′ o′ x′ q′ depth′ reached′) where
-      turned : (G : Given p n b ws) (h : Held p n a b ws G t₀ o₀) (e : j ∈ G .E) → (h′ : Held p n a b ws G t′ o′) × SamePlaced (H G h e .0 .s) (h′ .s) × Hit (h′ .s) (only j) (depth - 1)
-      turned G h e = moves-nearer p n a b ws G prime (only j) t o t′ o′ bt lo lab (H G h e .0) x q depth pos (found-at G h e) d
+  pub found-below : (G : Given p n b ws) → Held p n a b ws G t₀ o₀ → j ∈ G .E → f .column < n
+  found-below G h e = found-at G h e .below
 
-      pub turn-holds : Holds t₀ o₀ t′ o′
-      turn-holds G h e = let v = turned G h e in (v .0, same-placed-trans (h .s) (H G h e .0 .s) (v .0 .s) (H G h e .1) (v .1))
+  -- one turn: the column found is seated, and the next search from j ends nearer
+  module _ {t′ o′ : List ℕ} {f′ : Found} (w′ : Arrays p n a b t′ o′) (pos : 0 < f .depth) (d : Sat p n a (a + b) (f .column) (f .row) t o t′ o′) (R : Seeks n a b ws j t′ o′ f′) where
+    turned : (G : Given p n b ws) (h : Held p n a b ws G t₀ o₀) (e : j ∈ G .E) → (h′ : Held p n a b ws G t′ o′) × SamePlaced (H .now-held G h e .0 .s) (h′ .s) × Hit (h′ .s) (only j) (f .depth - 1)
+    turned G h e = moves-nearer p n a b ws G (only j) t o t′ o′ w (H .now-held G h e .0) (f .column) (f .row) (f .depth) pos (found-at G h e) d
 
-      pub turn-nearer : (G : Given p n b ws) → Held p n a b ws G t₀ o₀ → j ∈ G .E → (q′ < a + b) × (depth′ < depth)
-      turn-nearer G h e =
-          let v = turned G h e in
-          let m : (q′ < a + b) × (depth′ ≤ depth - 1) = nearer (v .0 .s) (only j) (depth - 1) x′ q′ depth′ reached′ (v .2) (R (G .E) (v .0 .s) (held-shows p n a b ws G prime t′ o′ bt′ (v .0)) e) in
-          (m .0, omega arith)
+    pub turn-holds : Holds p n a b ws j t₀ o₀ t′ o′
+    turn-holds = record { now-held = λ G h e. let v = turned G h e in (v .0, same-placed-trans (h .s) (H .now-held G h e .0 .s) (v .0 .s) (H .now-held G h e .1) (v .1)) }
 
-    -- at the end j itself takes the row
-    pub last-turn : (t′ o′ : List ℕ) → depth ≤ 0 → Sat p n a (a + b) j q t o t′ o′ → (G : Given p n b ws) (h : Held p n a b ws G t₀ o₀) → j ∈ G .E → (Placed (h .s) j → ⊥)
-        → (h′ : Held p n a b ws G t′ o′) × OneMore (h .s) (h′ .s) j
-    last-turn t′ o′ l d G h e new = enters p n a b ws G prime (only j) t o t′ o′ bt lo lab (H G h e .0) (h .s) j q (H G h e .1) new (first-is (H G h e .0 .s) j x q depth l (found-at G h e)) d
+    pub turn-nearer : (G : Given p n b ws) → Held p n a b ws G t₀ o₀ → j ∈ G .E → (f′ .row < a + b) × (f′ .depth < f .depth)
+    turn-nearer G h e =
+        let v = turned G h e in
+        let m : (f′ .row < a + b) × (f′ .depth ≤ f .depth - 1) = nearer (v .0 .s) (only j) (f .depth - 1) (f′ .column) (f′ .row) (f′ .depth) _ (v .2) (R .says (G .E) (v .0 .s) (held-shows p n a b ws G t′ o′ w′ (v .0)) e) in
+        (m .0, omega arith)
+
+  -- at the end j itself takes the row
+  pub last-turn : (t′ o′ : List ℕ) → f .depth ≤ 0 → Sat p n a (a + b) j (f .row) t o t′ o′ → (G : Given p n b ws) (h : Held p n a b ws G t₀ o₀) → j ∈ G .E → (Placed (h .s) j → ⊥)
+      → (h′ : Held p n a b ws G t′ o′) × OneMore (h .s) (h′ .s) j
+  last-turn t′ o′ l d G h e new = enters p n a b ws G (only j) t o t′ o′ w (H .now-held G h e .0) (h .s) j (f .row) (H .now-held G h e .1) new (first-is (H .now-held G h e .0 .s) j (f .column) (f .row) (f .depth) l (found-at G h e)) d
 
 -- what placing column j gives: it is placed besides, or the search from it ends without a terminal column
 abbrev pub Placing : (p n a b : ℕ) (ws : List ℕ) (G : Given p n b ws) (t o t′ o′ : List ℕ) (j : ℕ) (r : Bool) → Held p n a b ws G t o → Type 0

@@ -7,15 +7,36 @@ use mathlib.Core.Bool.{Bool, true, false, not, cond, false≢true}
 use mathlib.Core.List.{List}
 use native.Mathlib.Omega.{arith}
 use native.Mathlib.Decide.{ℕ-discrete}
-use lib.ListN.{getD}
+use lib.ListN.{length, getD}
 use lib.Dec.{eqb, ltb}
 use borrow.Author.Tests.{lt-ltb, le-ltb}
 use Rattle.counting.specs.Sets.{Set, _∈_, _⊆_}
 use Rattle.columns.specs.Columns.{width, members, none, inserted}
 use Rattle.columns.specs.Words.SetLaws.{inserted-split}
-use Rattle.exchange.specs.Code.Cells.{cell}
+use Rattle.limits.specs.Limits.{most-columns, most-rows}
+use Rattle.residue.specs.Arithmetic.{is-prime}
+use Rattle.exchange.specs.Sizes.{cells, lines}
+use Rattle.exchange.specs.Code.Cells.{cell, Below}
 
--- row q touches column x: a constant row where the tableau t is not zero, a parameter row, from a on, where its word in ws has x
+-- ---- the arrays
+
+-- the tableau t and the owners o have room for n columns, a constant rows and N rows of both kinds
+pub record Lengths (n a N : ℕ) (t o : List ℕ) : Type 0 where
+  pub tableau : length t ≡ cells
+  pub owners : length o ≡ lines
+  pub columns : n ≤ most-columns
+  pub constant-rows : a ≤ most-rows
+  pub all-rows : N ≤ lines
+
+-- they are those of a model modulo p, with b parameter rows
+pub record Arrays (p n a b : ℕ) (t o : List ℕ) : Type 0 where
+  pub lengths : Lengths n a (a + b) t o
+  pub below : Below p t
+  pub prime : is-prime p ≡ true
+
+-- ---- what they say of rows
+
+-- row q touches column x: a constant row where the tableau t is not zero, a parameter row, from a on, where its number in ws has x
 unfoldable pub touched : (a : ℕ) (t ws : List ℕ) → ℕ → ℕ → Bool
 touched a t ws q x = cond (ltb q a) (not (eqb (cell t q x) 0)) (members (getD ws (q - a) 0) x)
 

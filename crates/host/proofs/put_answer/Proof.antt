@@ -5,6 +5,7 @@ use native.Mathlib.Omega.{arith}
 use lib.ListN.{length-append}
 use borrow.Author.Needs.{needs}
 use Rattle.limits.specs.Limits.{most-rows}
+use Rattle.columns.specs.ColumnSets.{whole}
 use Rattle.host.specs.AnswerBytes.{front-length, front-bytes, answer-length, answer-bytes}
 use Rattle.host.proofs.AreaLaws.{put-refused, put-done}
 use Rattle.format.specs.OverLaws.{wrote-first, wrote-run, wrote-all}
@@ -39,7 +40,7 @@ returns-2 c =
     let at-front = at-rows .before .before .before .before .before in
     let at-else = at-front .before .before in
     let r = at-else .before .before .args .answer in
-    let front = front-bytes (r .verdict) (r .rank) (r .placed) (r .constants) (r .short) in
+    let front = front-bytes (r .verdict) (r .rank) (whole (r .placed)) (whole (r .constants)) (whole (r .short)) in
     let room = at-else .if1 .left in
     let long = put-rows-requires (at-rows .before) (at-rows .put-rows .lifetimes) .1 in
     let w₁ = wrote-first (answer-bytes r) front (r .rows) front-length refl (omega (arith, length-append front (r .rows), room)) (at-front .put-front .ensures) refl in

@@ -4,6 +4,7 @@ use mathlib.Core.Path.{refl, sym}
 use borrow.Author.Needs.{needs}
 use Rattle.limits.specs.Limits.{set-bytes}
 use Rattle.columns.specs.Bytes.{bytes-of}
+use Rattle.columns.specs.ColumnSets.{whole}
 use Rattle.host.specs.AnswerBytes.{front-bytes}
 use Rattle.format.specs.OverLaws.{wrote-first, wrote-room, wrote-all}
 use Rattle.host.proofs.put_front.Statement.{statement}
@@ -60,10 +61,10 @@ returns c =
     let at-numbers = at-first .before .before .before .before in
     let start = at-numbers .before .before .before in
     let a = start .args in
-    let first = bytes-of set-bytes (a .first) in
-    let second = bytes-of set-bytes (a .second) in
-    let third = bytes-of set-bytes (a .third) in
-    let w₁ = wrote-first (front-bytes (a .verdict) (a .rank) (a .first) (a .second) (a .third)) (a .verdict ∷ a .rank ∷ []) (first ++ (second ++ third)) 2 refl (start .pre) (at-numbers .put-numbers .ensures) refl in
+    let first = bytes-of set-bytes (whole (a .first)) in
+    let second = bytes-of set-bytes (whole (a .second)) in
+    let third = bytes-of set-bytes (whole (a .third)) in
+    let w₁ = wrote-first (front-bytes (a .verdict) (a .rank) (whole (a .first)) (whole (a .second)) (whole (a .third))) (a .verdict ∷ a .rank ∷ []) (first ++ (second ++ third)) 2 refl (start .pre) (at-numbers .put-numbers .ensures) refl in
     let w₂ = wrote-room first (second ++ third) _ set-bytes w₁ refl (at-first .put-set .ensures .bytes-are) refl in
     let w₃ = wrote-room second third _ set-bytes w₂ refl (at-second .put-set2 .ensures .bytes-are) refl in
     wrote-all (wrote-room third [] _ set-bytes w₃ (sym (append-nil third)) (at-third .put-set3 .ensures .bytes-are) refl) refl

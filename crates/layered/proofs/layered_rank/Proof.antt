@@ -4,23 +4,38 @@ use mathlib.Core.Path.{_≡_, sym, ap, _∙_}
 use mathlib.Core.Bool.{true, true≢false}
 use lib.ListN.{length}
 use borrow.Author.Tests.{not-true, not-false}
-use Rattle.counting.specs.Sets.{Set}
-use Rattle.limits.specs.Limits.{most-rows}
-use Rattle.columns.specs.Columns.{width, members, upto}
-use Rattle.exchange.specs.Solve.{admissible}
-use Rattle.exchange.specs.SolveLaws.{admissible-reads, fitting-reads}
-use Rattle.exchange.specs.Solution.{Solved}
+use Rattle.limits.specs.Limits.{most-columns, most-rows}
+use Rattle.columns.specs.ColumnSets.{whole, Fits, row-numbers}
+use Rattle.exchange.specs.Solve.{admissible, SolvedBy}
+use Rattle.exchange.specs.SolveLaws.{admissible-reads}
 use Rattle.rank.specs.ListedModel.{listed-model}
 use Rattle.format.specs.Refusals.{refusal}
-use Rattle.layered.specs.AnswerLaws.{accepted-beforehand, shows-model, accepted-taken, taken-accepted, rank-small, answered}
+use Rattle.layered.specs.AnswerLaws.{beforehand, accepted-beforehand, shows-model, accepted-taken, taken-accepted, rank-small, answered}
 use borrow.Author.Needs.{needs}
 use native.Mathlib.Omega.{arith}
 use Rattle.layered.proofs.layered_rank.Statement.{statement}
 use Rattle.layered.proofs.layered_rank.Tie as tie
 
--- the solver's answer has a place for each row
+-- the solver's answer has a place for each row, and its sets are sets
 rows-long : (c : tie.After-solve) → length (c .solve .result .rows) ≡ most-rows
 rows-long c = search (needs, c .solve .ok)
+
+sets-fit : (c : tie.After-solve) → Fits (c .solve .result .placed) × Fits (c .solve .result .short)
+sets-fit c = search (needs, c .solve .ok)
+
+-- what holds where the solver takes the model
+
+taken : (c : tie.Else2) → let s = c .before .before in let a = s .before .before .before .before .before .before .args in
+    admissible (a .p) (a .n) (a .a) (a .b) (whole (s .before .below .result)) (a .constants .now) (row-numbers (a .parameters .now)) ≡ true
+taken c = sym (c .before .before .solve .ensures .is-valid) ∙ not-false _ (c .if2 .left)
+
+solved-by : (c : tie.Else2) → let s = c .before .before in let a = s .before .before .before .before .before .before .args in
+    SolvedBy (listed-model (a .p) (a .n) (a .a) (a .b) (a .constants .now) (row-numbers (a .parameters .now))) (s .solve .result)
+solved-by c =
+    let s = c .before .before in
+    let a = s .before .before .before .before .before .before .args in
+    let columns : a .n ≤ most-columns = admissible-reads _ _ _ _ _ _ _ (taken c) .fits .columns in
+    s .solve .ensures .if-valid (taken c) _ _ _ (shows-model (a .p) (a .n) (a .a) (a .b) (a .constants .now) (row-numbers (a .parameters .now)) _ (s .before .below .ensures) (omega arith))
 
 passes-beforehand-requires : tie.Need-passes-beforehand-requires
 passes-beforehand-requires c κs = search needs
@@ -33,11 +48,12 @@ refuse-requires c κs = search needs
 
 returns : tie.Need-returns
 returns c =
-    let a = c .before .before .before .before .before .before .args in
+    let tested = c .before .before .before in
+    let a = tested .before .before .before .args in
     record {
       is-refusal = c .refuse .ensures .0 ∙ c .before .judge-model .ensures;
       if-refused = λ z. c .refuse .ensures .1;
-      if-accepted = λ z. absurd (true≢false (sym (accepted-beforehand (a .p) (a .n) (a .a) (a .b) (a .constants .now) (a .parameters .now) z) ∙ sym (c .before .before .before .passes-beforehand .ensures) ∙ not-true _ (c .before .before .if1 .taken)));
+      if-accepted = λ z. absurd (true≢false (sym (accepted-beforehand (a .p) (a .n) (a .a) (a .b) (a .constants .now) (row-numbers (a .parameters .now)) z) ∙ sym (tested .passes-beforehand .ensures) ∙ not-true _ (c .before .before .if1 .taken)));
     }
 
 below-requires : tie.Need-below-requires
@@ -54,11 +70,12 @@ refuse-requires-2 c κs = search needs
 
 returns-2 : tie.Need-returns-2
 returns-2 c =
-    let a = c .before .before .before .before .before .before .before .before .before .before .args in
+    let s = c .before .before .before .before in
+    let a = s .before .before .before .before .before .before .args in
     record {
       is-refusal = c .refuse2 .ensures .0 ∙ c .before .judge-model2 .ensures;
       if-refused = λ z. c .refuse2 .ensures .1;
-      if-accepted = λ z. absurd (true≢false (sym (accepted-taken (a .p) (a .n) (a .a) (a .b) (a .constants .now) (a .parameters .now) _ (c .before .before .before .before .before .below .ensures) z) ∙ sym (c .before .before .before .before .solve .ensures .is-valid) ∙ not-true _ (c .before .before .if2 .taken)));
+      if-accepted = λ z. absurd (true≢false (sym (accepted-taken (a .p) (a .n) (a .a) (a .b) (a .constants .now) (row-numbers (a .parameters .now)) _ (s .before .below .ensures) z) ∙ sym (s .solve .ensures .is-valid) ∙ not-true _ (c .before .before .if2 .taken)));
     }
 
 verdict-of-requires : tie.Need-verdict-of-requires
@@ -66,24 +83,23 @@ verdict-of-requires c κs = search needs
 
 cast-rank : tie.Need-cast-rank
 cast-rank c =
-    let a = c .before .before .before .before .before .before .before .before .before .before .args in
-    let g : admissible (a .p) (a .n) (a .a) (a .b) _ (a .constants .now) (a .parameters .now) ≡ true = sym (c .before .before .before .before .solve .ensures .is-valid) ∙ not-false _ (c .before .before .if2 .left) in
-    let small = fitting-reads _ _ _ _ _ (admissible-reads _ _ _ _ _ _ _ g .fits) .columns in
-    let s = c .before .before .before .before .solve .ensures .if-valid g _ _ _ (shows-model (a .p) (a .n) (a .a) (a .b) (a .constants .now) (a .parameters .now) _ (c .before .before .before .before .before .below .ensures) small) in
-    omega (arith, s .is-rank, rank-small (listed-model (a .p) (a .n) (a .a) (a .b) (a .constants .now) (a .parameters .now)))
+    let accepted = c .before .before in
+    let a = accepted .before .before .before .before .before .before .before .before .args in
+    let columns : a .n ≤ most-columns = admissible-reads _ _ _ _ _ _ _ (taken accepted) .fits .columns in
+    omega (arith, solved-by accepted .is-rank, rank-small (listed-model (a .p) (a .n) (a .a) (a .b) (a .constants .now) (row-numbers (a .parameters .now))))
 
 returns-3 : tie.Need-returns-3
 returns-3 c =
-    let a = c .before .before .before .before .before .before .before .before .before .before .before .args in
-    let g : admissible (a .p) (a .n) (a .a) (a .b) _ (a .constants .now) (a .parameters .now) ≡ true = sym (c .before .before .before .before .before .solve .ensures .is-valid) ∙ not-false _ (c .before .before .before .if2 .left) in
-    let small = fitting-reads _ _ _ _ _ (admissible-reads _ _ _ _ _ _ _ g .fits) .columns in
-    let s = c .before .before .before .before .before .solve .ensures .if-valid g _ _ _ (shows-model (a .p) (a .n) (a .a) (a .b) (a .constants .now) (a .parameters .now) _ (c .before .before .before .before .before .before .below .ensures) small) in
-    let known = c .before .before .before .before .struct-known .given in
-    let zero : refusal (a .p) (a .n) (a .a) (a .b) (a .constants .now) (a .parameters .now) ≡ 0 = taken-accepted (a .p) (a .n) (a .a) (a .b) (a .constants .now) (a .parameters .now) _ (c .before .before .before .before .before .before .below .ensures) (sym (c .before .before .before .before .before .before .before .before .passes-beforehand .ensures) ∙ not-false _ (c .before .before .before .before .before .before .before .if1 .left)) g in
+    let accepted = c .before .before .before .before .before .before in
+    let s = accepted .before .before in
+    let tested = s .before .before .before in
+    let a = tested .before .before .before .args in
+    let passed : beforehand (a .p) (a .n) (a .b) (row-numbers (a .parameters .now)) ≡ true = sym (tested .passes-beforehand .ensures) ∙ not-false _ (s .before .before .if1 .left) in
+    let zero : refusal (a .p) (a .n) (a .a) (a .b) (a .constants .now) (row-numbers (a .parameters .now)) ≡ 0 = taken-accepted (a .p) (a .n) (a .a) (a .b) (a .constants .now) (row-numbers (a .parameters .now)) _ (s .before .below .ensures) passed (taken accepted) in
     record {
       is-refusal = sym zero;
       if-refused = λ z. absurd (z zero);
-      if-accepted = λ z. answered (a .p) (a .n) (a .a) (a .b) (a .constants .now) (a .parameters .now) _ (known .1 .1 .0 .fits) (known .1 .1 .1 .1 .0 .fits) (rows-long (c .before .before .before .before .before)) (c .before .before .verdict-of .ensures) s;
+      if-accepted = λ z. answered (a .p) (a .n) (a .a) (a .b) (a .constants .now) (row-numbers (a .parameters .now)) _ (sets-fit s .0) (sets-fit s .1) (rows-long s) (c .before .before .before .before .before .verdict-of .ensures) (solved-by accepted);
     }
 
 pub layered-rank-spec : {M : Type 1} → statement M

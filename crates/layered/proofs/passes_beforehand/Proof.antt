@@ -15,14 +15,14 @@ returns-2 : tie.Need-returns-2
 unfolding beforehand
 returns-2 c = rw (le-leb (c .before .before .before .args .p) largest-prime (c .before .if1 .left), lt-leb 1 (c .before .before .before .args .n) (c .if2 .taken)) refl
 
-rows-within-requires : tie.Need-rows-within-requires
-rows-within-requires c κs = search needs
+parameters-within-requires : tie.Need-parameters-within-requires
+parameters-within-requires c κs = search needs
 
 returns-3 : tie.Need-returns-3
 unfolding beforehand
 returns-3 c =
     let a = c .before .before .before .before .args in
-    rw (le-leb (a .p) largest-prime (c .before .before .if1 .left), le-leb 1 (a .n) (c .before .if2 .left)) (c .rows-within .ensures)
+    rw (le-leb (a .p) largest-prime (c .before .before .if1 .left), le-leb 1 (a .n) (c .before .if2 .left)) (c .parameters-within .ensures)
 
 pub passes-beforehand-spec : {M : Type 1} → statement M
-passes-beforehand-spec = tie.close (tie.spec returns returns-2 rows-within-requires returns-3)
+passes-beforehand-spec = tie.close (tie.spec returns returns-2 parameters-within-requires returns-3)

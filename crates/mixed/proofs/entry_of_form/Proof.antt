@@ -3,13 +3,14 @@ use Prim.Native.Nat.{ℕ, _+_, _-_, _*_, _/_, _%_, _<_, _≤_}
 use mathlib.Core.Path.{_≡_, sym}
 use native.Mathlib.Nat.{mul-le-mul}
 use native.Mathlib.Omega.{arith}
+use Rattle.limits.specs.Limits.{most-columns}
 use Rattle.mixed.specs.MixedEntries.{width-positive, entry-unit, entry-other, entry-constant, constant-inside}
 use borrow.Author.Needs.{needs}
 use Rattle.mixed.proofs.entry_of_form.Statement.{statement}
 use Rattle.mixed.proofs.entry_of_form.Tie as tie
 
-small : (m n : ℕ) → m + n ≤ 64 → m * n ≤ 64 * 64
-small m n h = mul-le-mul {n₂ = 64} {m₂ = 64} (omega arith) (omega arith)
+small : (m n : ℕ) → m + n ≤ most-columns → m * n ≤ most-columns * most-columns
+small m n h = mul-le-mul {n₂ = most-columns} {m₂ = most-columns} (omega arith) (omega arith)
 
 add-width : tie.Need-add-width
 add-width c = search needs

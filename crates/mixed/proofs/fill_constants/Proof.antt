@@ -5,6 +5,7 @@ use native.Mathlib.Nat.{mul-le-mul}
 use borrow.Author.Count.{below-more}
 use lib.ListN.{length, getD, set}
 use lib.Seq.{getD-set-same, getD-set-other}
+use Rattle.limits.specs.Limits.{most-columns, most-rows, most-constants}
 use Rattle.mixed.specs.MixedForm.{form-entry}
 use borrow.Author.Needs.{needs}
 use native.Mathlib.Omega.{arith}
@@ -12,35 +13,35 @@ use Rattle.mixed.proofs.fill_constants.Statement.{statement}
 use Rattle.mixed.proofs.fill_constants.Tie as tie
 
 abbrev Inv-loop : tie.InvT-loop
-Inv-loop form₀ constants m n all k₀ form k = (k ≤ m * (m + n)) × (length form ≡ 4096) × ((j : ℕ) → j < k → getD form j 0 ≡ form-entry m n constants j)
+Inv-loop form₀ constants m n all k₀ form k = (k ≤ m * (m + n)) × (length form ≡ most-constants) × ((j : ℕ) → j < k → getD form j 0 ≡ form-entry m n constants j)
 
 abbrev μ-loop : tie.MeasureT-loop
 μ-loop form₀ constants m n all k₀ form k = m * (m + n) - k
 
 -- the form has room for all its entries
-room : (m n : ℕ) → m + n ≤ 64 → m * (m + n) ≤ 4096
-room m n h = mul-le-mul {n₂ = 64} {m₂ = 64} (omega arith) h
+room : (m n : ℕ) → m ≤ most-rows → m + n ≤ most-columns → m * (m + n) ≤ most-constants
+room m n l h = mul-le-mul {n₂ = most-rows} {m₂ = most-columns} l h
 
 add-all : tie.Need-add-all Inv-loop μ-loop
 add-all c = search needs
 
 mul-all : tie.Need-mul-all Inv-loop μ-loop
-mul-all c = omega (arith, room (c .before .args .m) (c .before .args .n) (c .before .pre .2))
+mul-all c = omega (arith, room (c .before .args .m) (c .before .args .n) (c .before .pre .2) (c .before .pre .3))
 
 loop-holds : tie.Need-loop-holds Inv-loop μ-loop
 loop-holds c = (omega arith, search needs, λ j l. absurd (omega arith))
 
 entry-of-form-requires : tie.Need-entry-of-form-requires Inv-loop μ-loop
-entry-of-form-requires c κs = (c .before .before .before .pre .1, c .before .before .before .pre .2, c .loop-test .taken)
+entry-of-form-requires c κs = (c .before .before .before .pre .1, c .before .before .before .pre .3, c .loop-test .taken)
 
 mul-form : tie.Need-mul-form Inv-loop μ-loop
-mul-form c = omega (arith, c .before .loop-test .taken, room (c .before .before .before .before .args .m) (c .before .before .before .before .args .n) (c .before .before .before .before .pre .2))
+mul-form c = omega (arith, c .before .loop-test .taken, room (c .before .before .before .before .args .m) (c .before .before .before .before .args .n) (c .before .before .before .before .pre .2) (c .before .before .before .before .pre .3))
 
 element-write-form : tie.Need-element-write-form Inv-loop μ-loop
-element-write-form c = omega (arith, c .before .loop-test .taken, room (c .before .before .before .before .args .m) (c .before .before .before .before .args .n) (c .before .before .before .before .pre .2))
+element-write-form c = omega (arith, c .before .loop-test .taken, room (c .before .before .before .before .args .m) (c .before .before .before .before .args .n) (c .before .before .before .before .pre .2) (c .before .before .before .before .pre .3))
 
 add-k : tie.Need-add-k Inv-loop μ-loop
-add-k c = omega (arith, c .before .loop-test .taken, room (c .before .before .before .before .args .m) (c .before .before .before .before .args .n) (c .before .before .before .before .pre .2))
+add-k c = omega (arith, c .before .loop-test .taken, room (c .before .before .before .before .args .m) (c .before .before .before .before .args .n) (c .before .before .before .before .pre .2) (c .before .before .before .before .pre .3))
 
 loop-less : tie.Need-loop-less Inv-loop μ-loop
 loop-less c = omega (arith, c .before .loop-test .taken)
@@ -50,7 +51,7 @@ loop-again c =
     let l = c .before .before .loop in
     let a = c .before .before .before .before .args in
     let v = c .entry-of-form .result in
-    let inside : l .k < length (l .form) = omega (arith, c .before .loop-test .taken, room (a .m) (a .n) (c .before .before .before .before .pre .2)) in (
+    let inside : l .k < length (l .form) = omega (arith, c .before .loop-test .taken, room (a .m) (a .n) (c .before .before .before .before .pre .2) (c .before .before .before .before .pre .3)) in (
       omega (arith, c .before .loop-test .taken),
       search needs,
       below-more (λ j. getD (set (l .form) (l .k) v) j 0 ≡ form-entry (a .m) (a .n) (a .constants .now) j) (l .k)

@@ -9,6 +9,8 @@ use lib.ListN.{getD}
 use borrow.Author.Tests.{not-true, not-false}
 use Rattle.counting.specs.Sets.{Set, _∈_}
 use Rattle.columns.specs.Columns.{width, members, none, inserted}
+use Rattle.columns.specs.ColumnSets.{whole}
+use Rattle.columns.specs.Words.Sets.{empty-none}
 use Rattle.columns.specs.Words.SetLaws.{inserted-same, inserted-old, inserted-split}
 use Rattle.mixed.specs.MixedForm.{serves}
 use borrow.Author.Needs.{needs}
@@ -33,7 +35,7 @@ idle-same m rows k S busy h i = (
 )
 
 abbrev Inv-loop : tie.InvT-loop
-Inv-loop m rows idle₀ i₀ idle i = (i ≤ m) × Idle m rows i (members idle)
+Inv-loop m rows idle₀ i₀ idle i = (i ≤ m) × Idle m rows i (members (whole idle))
 
 abbrev μ-loop : tie.MeasureT-loop
 μ-loop m rows idle₀ i₀ idle i = m - i
@@ -42,7 +44,7 @@ empty-requires : tie.Need-empty-requires Inv-loop μ-loop
 empty-requires c κs = search needs
 
 loop-holds : tie.Need-loop-holds Inv-loop μ-loop
-loop-holds c = (search needs, rw (c .empty .ensures) (λ j. ((λ e. absurd (false≢true e)), λ w. absurd (omega (arith, w .0)))))
+loop-holds c = (search needs, rw (empty-none (c .empty .ensures)) (λ j. ((λ e. absurd (false≢true e)), λ w. absurd (omega (arith, w .0)))))
 
 array-read-serves-original : tie.Need-array-read-serves-original Inv-loop μ-loop
 array-read-serves-original c = search needs
@@ -66,8 +68,8 @@ loop-again c =
     let s = c .before .serves-original in (
       search needs,
       ⊎-elim
-          (λ w. rw (w .2, w .1 .ensures) (idle-more (a .m) (a .t1) (l .i) (members (l .idle)) (omega arith) (s .ensures .1 (not-true _ (w .0 .taken))) (l .inv .1)))
-          (λ w. rw (w .1) (idle-same (a .m) (a .t1) (l .i) (members (l .idle)) (s .ensures .0 (not-false _ (w .0 .left))) (l .inv .1)))
+          (λ w. rw (w .2, w .1 .ensures) (idle-more (a .m) (a .t1) (l .i) (members (whole (l .idle))) (omega arith) (s .ensures .1 (not-true _ (w .0 .taken))) (l .inv .1)))
+          (λ w. rw (w .1) (idle-same (a .m) (a .t1) (l .i) (members (whole (l .idle))) (s .ensures .0 (not-false _ (w .0 .left))) (l .inv .1)))
           (c .if1 .came),
     )
 

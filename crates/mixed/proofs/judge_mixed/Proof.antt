@@ -1,6 +1,7 @@
 -- `mixed::judge_mixed` meets its contract. Assumes nothing.
 use mathlib.Core.Path.{_≡_, sym, _∙_}
 use Rattle.counting.specs.Bools.{not-true}
+use Rattle.columns.specs.ColumnSets.{row-numbers}
 use Rattle.format.specs.TestLaws.{model-accepted}
 use Rattle.mixed.specs.MixedAnswerLaws.{at-model, at-mixed, at-none, mixed-reads}
 use borrow.Author.Needs.{needs}
@@ -12,28 +13,28 @@ judge-model-requires : tie.Need-judge-model-requires
 judge-model-requires c κs = search needs
 
 returns : tie.Need-returns
-returns c = let a = c .before .before .before .before .args in at-model (a .p) (a .n) (a .a) (a .b) (a .constants .now) (a .parameters .now) _ (c .before .judge-model .ensures) (c .if1 .taken)
+returns c = let a = c .before .before .before .before .args in at-model (a .p) (a .n) (a .a) (a .b) (a .constants .now) (row-numbers (a .parameters .now)) _ (c .before .judge-model .ensures) (c .if1 .taken)
 
 returns-2 : tie.Need-returns-2
 returns-2 c =
     let a = c .before .before .before .before .before .args in
-    at-mixed (a .p) (a .n) (a .a) (a .b) (a .constants .now) (a .parameters .now) (sym (c .before .before .judge-model .ensures) ∙ c .before .if1 .left) (not-true _ (λ e. c .if2 .taken (mixed-reads (a .p) (a .n) (a .a) (a .b) (a .constants .now) (a .parameters .now) .0 e .0)))
+    at-mixed (a .p) (a .n) (a .a) (a .b) (a .constants .now) (row-numbers (a .parameters .now)) (sym (c .before .before .judge-model .ensures) ∙ c .before .if1 .left) (not-true _ (λ e. c .if2 .taken (mixed-reads (a .p) (a .n) (a .a) (a .b) (a .constants .now) (row-numbers (a .parameters .now)) .0 e .0)))
 
 add-if3 : tie.Need-add-if3
 add-if3 c =
     let a = c .before .before .before .before .before .args in
-    let h = model-accepted (a .p) (a .n) (a .a) (a .b) (a .constants .now) (a .parameters .now) (sym (c .before .before .judge-model .ensures) ∙ c .before .if1 .left) in
+    let h = model-accepted (a .p) (a .n) (a .a) (a .b) (a .constants .now) (row-numbers (a .parameters .now)) (sym (c .before .before .judge-model .ensures) ∙ c .before .if1 .left) in
     omega (arith, h .n-most, h .a-most)
 
 returns-3 : tie.Need-returns-3
 returns-3 c =
     let a = c .before .before .before .before .before .before .args in
-    at-mixed (a .p) (a .n) (a .a) (a .b) (a .constants .now) (a .parameters .now) (sym (c .before .before .before .judge-model .ensures) ∙ c .before .before .if1 .left) (not-true _ (λ e. omega (arith, c .if3 .taken, mixed-reads (a .p) (a .n) (a .a) (a .b) (a .constants .now) (a .parameters .now) .0 e .1)))
+    at-mixed (a .p) (a .n) (a .a) (a .b) (a .constants .now) (row-numbers (a .parameters .now)) (sym (c .before .before .before .judge-model .ensures) ∙ c .before .before .if1 .left) (not-true _ (λ e. omega (arith, c .if3 .taken, mixed-reads (a .p) (a .n) (a .a) (a .b) (a .constants .now) (row-numbers (a .parameters .now)) .0 e .1)))
 
 returns-4 : tie.Need-returns-4
 returns-4 c =
     let a = c .before .before .before .before .before .before .args in
-    at-none (a .p) (a .n) (a .a) (a .b) (a .constants .now) (a .parameters .now) (sym (c .before .before .before .judge-model .ensures) ∙ c .before .before .if1 .left) (mixed-reads (a .p) (a .n) (a .a) (a .b) (a .constants .now) (a .parameters .now) .1 (c .before .if2 .left, c .if3 .left))
+    at-none (a .p) (a .n) (a .a) (a .b) (a .constants .now) (row-numbers (a .parameters .now)) (sym (c .before .before .before .judge-model .ensures) ∙ c .before .before .if1 .left) (mixed-reads (a .p) (a .n) (a .a) (a .b) (a .constants .now) (row-numbers (a .parameters .now)) .1 (c .before .if2 .left, c .if3 .left))
 
 pub judge-mixed-spec : {M : Type 1} → statement M
 judge-mixed-spec =

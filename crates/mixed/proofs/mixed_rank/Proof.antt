@@ -2,8 +2,14 @@
 use Prim.Native.Nat.{ℕ, _+_, _-_, _*_, _<_, _≤_}
 use mathlib.Core.Path.{_≡_, refl, sym, ap, _∙_}
 use Rattle.counting.specs.Sets.{Set}
-use Rattle.columns.specs.Columns.{width, members, moved-down}
-use Rattle.exchange.specs.Solution.{Solved}
+use lib.ListN.{replicate}
+use Rattle.limits.specs.Limits.{most-columns}
+use Rattle.columns.specs.Columns.{moved-down}
+use Rattle.columns.specs.ColumnSets.{Fits, most-words, row-numbers}
+use Rattle.columns.specs.Words.Rows.{most-words-rows}
+use Rattle.exchange.specs.Solve.{SolvedBy}
+use Rattle.format.specs.Refusals.{mixed-refusal}
+use Rattle.format.specs.TestLaws.{Accepted}
 use Rattle.mixed_models.specs.Mixed.{layered-form, mixed}
 use Rattle.layered.specs.AnswerLaws.{rank-small}
 use Rattle.mixed.specs.MixedAnswerLaws.{form-admissible, shows-form, rank-of-form, mixed-answered, mixed-accepted}
@@ -12,17 +18,30 @@ use native.Mathlib.Omega.{arith}
 use Rattle.mixed.proofs.mixed_rank.Statement.{statement}
 use Rattle.mixed.proofs.mixed_rank.Tie as tie
 
+-- the question is accepted
+none-refused : (c : tie.Else1) → let a = c .before .before .before .before .args in mixed-refusal (a .p) (a .n) (a .a) (a .b) (a .constants .now) (row-numbers (a .parameters .now)) ≡ 0
+none-refused c = sym (c .before .judge-mixed .ensures) ∙ c .if1 .left
+
+accepted : (c : tie.Else1) → let a = c .before .before .before .before .args in Accepted (a .p) (a .n) (a .a) (a .a) (a .constants .now) (row-numbers (a .parameters .now)) × (a .a + a .n ≤ most-columns)
+accepted c = let a = c .before .before .before .before .args in mixed-accepted (a .p) (a .n) (a .a) (a .b) (a .constants .now) (row-numbers (a .parameters .now)) (none-refused c)
+
 -- the solver takes the form, and answers it
-form-solved : (c : tie.After-solve) → let a = c .before .before .before .before .before .before .before .before .before .before .before .before .args in let s = c .solve .result in
-    Solved (layered-form (mixed (a .p) (a .a) (a .n) (a .constants .now) (a .parameters .now))) (s .rank) (members (s .placed)) (members (s .constants)) (members (s .short)) (s .rows)
+form-solved : (c : tie.After-solve) → let a = c .before .before .before .before .before .before .before .before .before .before .before .before .before .args in
+    SolvedBy (layered-form (mixed (a .p) (a .a) (a .n) (a .constants .now) (row-numbers (a .parameters .now)))) (c .solve .result)
 form-solved c =
-    let a = c .before .before .before .before .before .before .before .before .before .before .before .before .args in
-    let h = mixed-accepted (a .p) (a .n) (a .a) (a .b) (a .constants .now) (a .parameters .now) (sym (c .before .before .before .before .before .before .before .before .before .judge-mixed .ensures) ∙ c .before .before .before .before .before .before .before .before .if1 .left) in
-    let fc = c .before .before .before .before .before .before .fill-constants .ensures in
-    let fp = c .before .before .before .before .fill-parameters .ensures in
+    let k = c .before .before .before .before .before .before .before .before .before in
+    let a = k .before .before .before .before .args in
+    let h = accepted k in
+    let constants = c .before .before .before .before .before .before .before .fill-constants .ensures in
+    let parameters = c .before .before .before .before .before .fill-parameters .ensures in
+    let all = c .before .before .before .below .ensures in
+    let lent = parameters .0 ∙ most-words-rows _ refl in
     c .solve .ensures .if-valid
-    (form-admissible (a .p) (a .a) (a .n) (a .constants .now) (a .parameters .now) (h .0) (h .1) _ _ _ (fc .0) (fp .0) (fc .1) (c .before .before .before .below .ensures)) _ _ _
-    (shows-form (a .p) (a .a) (a .n) (a .constants .now) (a .parameters .now) (h .0) (h .1) _ _ _ (fc .0) (fp .0) (fc .1) (c .before .before .before .below .ensures) (fp .1))
+    (form-admissible (a .p) (a .a) (a .n) (a .constants .now) (row-numbers (a .parameters .now)) (h .0) (h .1) _ _ _ (constants .0) lent (constants .1) all) _ _ _
+    (shows-form (a .p) (a .a) (a .n) (a .constants .now) (row-numbers (a .parameters .now)) (h .0) (h .1) _ _ _ (constants .0) lent (constants .1) all (parameters .1))
+
+sets-fit : (c : tie.After-solve) → Fits (c .solve .result .short)
+sets-fit c = search (needs, c .solve .ok)
 
 judge-mixed-requires : tie.Need-judge-mixed-requires
 judge-mixed-requires c κs = search needs
@@ -41,29 +60,22 @@ returns c =
     }
 
 fill-constants-requires : tie.Need-fill-constants-requires
-fill-constants-requires c κs =
-    let a = c .before .before .before .before .before .args in
-    let h = mixed-accepted (a .p) (a .n) (a .a) (a .b) (a .constants .now) (a .parameters .now) (sym (c .before .before .judge-mixed .ensures) ∙ c .before .if1 .left) in
-    (refl, h .0 .constants-lent, h .1)
+fill-constants-requires c κs = let h = accepted (c .before) in (refl, h .0 .constants-lent, h .0 .a-most, h .1)
+
+slice-aggregate-fill-parameters : tie.Need-slice-aggregate-fill-parameters
+slice-aggregate-fill-parameters c = search needs
 
 fill-parameters-requires : tie.Need-fill-parameters-requires
-fill-parameters-requires c κs =
-    let a = c .before .before .before .before .before .before .before .args in
-    let h = mixed-accepted (a .p) (a .n) (a .a) (a .b) (a .constants .now) (a .parameters .now) (sym (c .before .before .before .before .judge-mixed .ensures) ∙ c .before .before .before .if1 .left) in
-    (refl, h .0 .a-most, h .0 .parameters-lent)
+fill-parameters-requires c κs = rw (most-words-rows (replicate most-words 0) refl) (accepted (c .before .before .before) .0 .a-most)
 
 add-below : tie.Need-add-below
-add-below c =
-    let a = c .before .before .before .before .before .before .before .before .args in
-    omega (arith, mixed-accepted (a .p) (a .n) (a .a) (a .b) (a .constants .now) (a .parameters .now) (sym (c .before .before .before .before .before .judge-mixed .ensures) ∙ c .before .before .before .before .if1 .left) .1)
+add-below c = omega (arith, accepted (c .before .before .before .before .before) .1)
 
 below-requires : tie.Need-below-requires
 below-requires c κs = search needs
 
 add-solve : tie.Need-add-solve
-add-solve c =
-    let a = c .before .before .before .before .before .before .before .before .before .args in
-    omega (arith, mixed-accepted (a .p) (a .n) (a .a) (a .b) (a .constants .now) (a .parameters .now) (sym (c .before .before .before .before .before .before .judge-mixed .ensures) ∙ c .before .before .before .before .before .if1 .left) .1)
+add-solve c = omega (arith, accepted (c .before .before .before .before .before .before) .1)
 
 slice-aggregate-solve : tie.Need-slice-aggregate-solve
 slice-aggregate-solve c = search needs
@@ -76,40 +88,38 @@ solve-requires c κs = search needs
 
 sub-rank : tie.Need-sub-rank
 sub-rank c =
-    let a = c .before .before .before .before .before .before .before .before .before .before .before .before .before .args in
-    let s = c .before .solve .result in
-    omega (arith, rank-of-form (mixed (a .p) (a .a) (a .n) (a .constants .now) (a .parameters .now)) (s .rank) (members (s .placed)) (members (s .constants)) (members (s .short)) (s .rows) (form-solved (c .before)))
+    let solved = c .before in
+    let a = solved .before .before .before .before .before .before .before .before .before .before .before .before .before .args in
+    omega (arith, rank-of-form (mixed (a .p) (a .a) (a .n) (a .constants .now) (row-numbers (a .parameters .now))) _ _ _ _ _ (form-solved solved))
 
 verdict-of-requires : tie.Need-verdict-of-requires
 verdict-of-requires c κs = search needs
 
+cast-reached : tie.Need-cast-reached
+cast-reached c =
+    let solved = c .before .before in
+    let k = solved .before .before .before .before .before .before .before .before .before in
+    let a = k .before .before .before .before .args in
+    omega (arith, accepted k .1, form-solved solved .is-rank, rank-small (layered-form (mixed (a .p) (a .a) (a .n) (a .constants .now) (row-numbers (a .parameters .now)))))
+
 idle-rows-requires : tie.Need-idle-rows-requires
-idle-rows-requires c κs =
-    let a = c .before .before .before .before .before .before .before .before .before .before .before .before .before .before .before .args in
-    mixed-accepted (a .p) (a .n) (a .a) (a .b) (a .constants .now) (a .parameters .now) (sym (c .before .before .before .before .before .before .before .before .before .before .before .before .judge-mixed .ensures) ∙ c .before .before .before .before .before .before .before .before .before .before .before .if1 .left) .0 .a-most
+idle-rows-requires c κs = accepted (c .before .before .before .before .before .before .before .before .before .before .before .before .before) .0 .a-most
 
 lowered-requires : tie.Need-lowered-requires
 lowered-requires c κs = search needs
 
-cast-t26 : tie.Need-cast-t26
-cast-t26 c =
-    let a = c .before .before .before .before .before .before .before .before .before .before .before .before .before .before .before .before .before .args in
-    let h = mixed-accepted (a .p) (a .n) (a .a) (a .b) (a .constants .now) (a .parameters .now) (sym (c .before .before .before .before .before .before .before .before .before .before .before .before .before .before .judge-mixed .ensures) ∙ c .before .before .before .before .before .before .before .before .before .before .before .before .before .if1 .left) in
-    omega (arith, h .1, form-solved (c .before .before .before .before .before) .is-rank, rank-small (layered-form (mixed (a .p) (a .a) (a .n) (a .constants .now) (a .parameters .now))))
-
 returns-2 : tie.Need-returns-2
 unfolding moved-down
 returns-2 c =
-    let a = c .before .before .before .before .before .before .before .before .before .before .before .before .before .before .before .before .before .args in
-    let zero = sym (c .before .before .before .before .before .before .before .before .before .before .before .before .before .before .judge-mixed .ensures) ∙ c .before .before .before .before .before .before .before .before .before .before .before .before .before .if1 .left in
-    let h = mixed-accepted (a .p) (a .n) (a .a) (a .b) (a .constants .now) (a .parameters .now) zero in
-    let known = c .before .before .before .before .struct-known .given in
-    let down = c .lowered .ensures in
+    let solved = c .before .before .before .before .before .before in
+    let k = solved .before .before .before .before .before .before .before .before .before in
+    let a = k .before .before .before .before .args in
+    let zero = none-refused k in
     record {
       is-refusal = sym zero;
       if-refused = λ z. absurd (z zero);
-      if-accepted = λ z. mixed-answered (mixed (a .p) (a .a) (a .n) (a .constants .now) (a .parameters .now)) _ _ _ _ _ (form-solved (c .before .before .before .before .before)) _ (omega (arith, h .1)) (known .1 .1 .1 .1 .0 .fits) refl
-          (c .before .before .before .verdict-of .ensures) (c .before .idle-rows .ensures) (λ x. ap (λ (S : Set). S x) down) (λ x. refl);
+      if-accepted = λ z. mixed-answered (mixed (a .p) (a .a) (a .n) (a .constants .now) (row-numbers (a .parameters .now))) _ _ _ _ _ (form-solved solved) _ (omega (arith, accepted k .1)) (sets-fit solved) refl
+          (c .before .before .before .before .verdict-of .ensures) (c .before .idle-rows .ensures) (λ x. ap (λ (S : Set). S x) (c .lowered .ensures)) (λ x. refl);
     }
 
 pub mixed-rank-spec : {M : Type 1} → statement M
@@ -120,6 +130,7 @@ mixed-rank-spec =
     refuse-requires
     returns
     fill-constants-requires
+    slice-aggregate-fill-parameters
     fill-parameters-requires
     add-below
     below-requires
@@ -129,7 +140,7 @@ mixed-rank-spec =
     solve-requires
     sub-rank
     verdict-of-requires
+    cast-reached
     idle-rows-requires
     lowered-requires
-    cast-t26
     returns-2)

@@ -6,6 +6,7 @@ use mathlib.Core.List.{_++_}
 use borrow.Author.Tests.{eqb-true, eqb-false, not-true, not-false}
 use Rattle.counting.specs.Sets.{Set, #}
 use Rattle.columns.specs.Columns.{width, members, removed}
+use Rattle.columns.specs.ColumnSets.{whole}
 use Rattle.columns.specs.Words.SetLaws.{removed-less, least-there}
 use Rattle.text.specs.Text.{item, column-items}
 use Rattle.text.specs.PutLaws.{Putting, putting-none, putting-next, putting-all, putting-same}
@@ -15,16 +16,16 @@ use Rattle.text.proofs.put_columns.Statement.{statement}
 use Rattle.text.proofs.put_columns.Tie as tie
 
 abbrev Inv-loop : tie.InvT-loop
-Inv-loop out₀ at set place₀ rest₀ out place rest = Putting (column-items (members set)) (column-items (members rest)) out₀ at out place
+Inv-loop out₀ at place₀ rest₀ out place rest = Putting (column-items (members (whole rest₀))) (column-items (members (whole rest))) out₀ at out place
 
 abbrev μ-loop : tie.MeasureT-loop
-μ-loop out₀ at set place₀ rest₀ out place rest = # width (members rest)
+μ-loop out₀ at place₀ rest₀ out place rest = # width (members (whole rest))
 
-some : (c : tie.After-first Inv-loop μ-loop) → # width (members (c .before .before .before .loop .rest)) ≢ 0
+some : (c : tie.After-first Inv-loop μ-loop) → # width (members (whole (c .before .before .before .loop .rest))) ≢ 0
 some c = eqb-false _ 0 (sym (c .before .before .is-empty .ensures) ∙ not-true _ (c .before .if1 .taken))
 
 -- what is left is the item of the first column and those of the others
-next : (c : tie.After-first Inv-loop μ-loop) → let left = members (c .before .before .before .loop .rest) in
+next : (c : tie.After-first Inv-loop μ-loop) → let left = members (whole (c .before .before .before .loop .rest)) in
     column-items left ≡ item (c .first .result) ++ column-items (removed left (c .first .result))
 next c = rw (c .first .ensures) (column-items-next _ (some c))
 

@@ -4,6 +4,7 @@ use native.Mathlib.Omega.{arith}
 use Prim.Native.Nat.{_+_, _*_, _≤_}
 use mathlib.Core.Path.{sym}
 use native.Mathlib.Nat.{mul-le-mul}
+use Rattle.columns.specs.ColumnSets.{row-numbers}
 use Rattle.limits.specs.Limits.{most-columns, most-rows}
 use Rattle.format.specs.Refusals.{head-bytes}
 use Rattle.writer.proofs.Rows.{handed-over-length}
@@ -51,9 +52,8 @@ add-result-4 : tie.Need-add-result-4
 add-result-4 c = rw (c .parameter-size .ensures) (omega (arith, rows c))
 
 returns : tie.Need-returns
-returns c =
-    let a = c .before .before .before .args in
-    rw (c .parameter-size .ensures) (sym (handed-over-length (a .p) (a .n) (a .a) (a .b) (a .constants .now) (a .parameters .now) (c .before .before .before .pre .3) (c .before .before .before .pre .4)))
+returns c = let a = c .before .before .before .args in
+    rw (c .parameter-size .ensures) (sym (handed-over-length (a .p) (a .n) (a .a) (a .b) (a .constants .now) (row-numbers (a .parameters .now)) (c .before .before .before .pre .3) (c .before .before .before .pre .4)))
 
 pub file-length-spec : {M : Type 1} → statement M
 file-length-spec =

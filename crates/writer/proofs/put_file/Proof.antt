@@ -6,6 +6,7 @@ use mathlib.Core.List.{List, [], _∷_, _++_, flatMap}
 use mathlib.Core.Path.{refl, sym, ap, _∙_}
 use lib.ListN.{length, take, drop, length-append}
 use lib.Seq.{length-take-le}
+use Rattle.columns.specs.ColumnSets.{row-numbers}
 use Rattle.columns.specs.Bytes.{bytes-of}
 use Rattle.format.specs.Lists.{rows-of}
 use Rattle.format.specs.OverLaws.{Wrote}
@@ -49,10 +50,10 @@ area₁ c = c .before .before .put-prime .last .0
 abbrev at₁ : tie.After-slice-known2 → ℕ
 at₁ c = c .before .before .put-prime .result
 
-written₁ : (c : tie.After-slice-known2) → let a = c .before .before .before .before .before .before .before .args in Wrote (encode (handed-over (a .p) (a .n) (a .a) (a .b) (a .constants .now) (a .parameters .now))) (sizes (a .n) (a .a) (a .b) ++ (rows (a .n) (a .a) (a .constants .now) ++ (parameters (a .n) (a .b) (a .parameters .now) ++ end))) (a .out .now) (area₁ c) (at₁ c)
+written₁ : (c : tie.After-slice-known2) → let a = c .before .before .before .before .before .before .before .args in Wrote (encode (handed-over (a .p) (a .n) (a .a) (a .b) (a .constants .now) (row-numbers (a .parameters .now)))) (sizes (a .n) (a .a) (a .b) ++ (rows (a .n) (a .a) (a .constants .now) ++ (parameters (a .n) (a .b) (row-numbers (a .parameters .now)) ++ end))) (a .out .now) (area₁ c) (at₁ c)
 written₁ c =
     let a = c .before .before .before .before .before .before .before .args in
-    first-put _ (prime (a .p)) (sizes (a .n) (a .a) (a .b) ++ (rows (a .n) (a .a) (a .constants .now) ++ (parameters (a .n) (a .b) (a .parameters .now) ++ end))) (handed-over-fields (a .p) (a .n) (a .a) (a .b) (a .constants .now) (a .parameters .now)) (c .before .before .before .before .before .before .before .pre .5) (c .before .before .put-prime .ensures)
+    first-put _ (prime (a .p)) (sizes (a .n) (a .a) (a .b) ++ (rows (a .n) (a .a) (a .constants .now) ++ (parameters (a .n) (a .b) (row-numbers (a .parameters .now)) ++ end))) (handed-over-fields (a .p) (a .n) (a .a) (a .b) (a .constants .now) (row-numbers (a .parameters .now))) (c .before .before .before .before .before .before .before .pre .5) (c .before .before .put-prime .ensures)
 
 abbrev area₂ : tie.After-slice-known3 → List ℕ
 area₂ c = back (area₁ (c .before .before .before .before)) (at₁ (c .before .before .before .before)) (c .before .before .put-sizes .last .0)
@@ -60,7 +61,7 @@ area₂ c = back (area₁ (c .before .before .before .before)) (at₁ (c .before
 abbrev at₂ : tie.After-slice-known3 → ℕ
 at₂ c = at₁ (c .before .before .before .before) + c .before .before .put-sizes .result
 
-written₂ : (c : tie.After-slice-known3) → let a = c .before .before .before .before .before .before .before .before .before .before .before .args in Wrote (encode (handed-over (a .p) (a .n) (a .a) (a .b) (a .constants .now) (a .parameters .now))) (rows (a .n) (a .a) (a .constants .now) ++ (parameters (a .n) (a .b) (a .parameters .now) ++ end)) (a .out .now) (area₂ c) (at₂ c)
+written₂ : (c : tie.After-slice-known3) → let a = c .before .before .before .before .before .before .before .before .before .before .before .args in Wrote (encode (handed-over (a .p) (a .n) (a .a) (a .b) (a .constants .now) (row-numbers (a .parameters .now)))) (rows (a .n) (a .a) (a .constants .now) ++ (parameters (a .n) (a .b) (row-numbers (a .parameters .now)) ++ end)) (a .out .now) (area₂ c) (at₂ c)
 written₂ c = let a = c .before .before .before .before .before .before .before .before .before .before .before .args in wrote-put (sizes (a .n) (a .a) (a .b)) _ _ (written₁ (c .before .before .before .before)) refl (c .before .before .put-sizes .ensures)
 
 abbrev area₃ : tie.After-slice-known4 → List ℕ
@@ -69,17 +70,17 @@ area₃ c = back (area₂ (c .before .before .before .before)) (at₂ (c .before
 abbrev at₃ : tie.After-slice-known4 → ℕ
 at₃ c = at₂ (c .before .before .before .before) + c .before .before .put-constant-rows .result
 
-written₃ : (c : tie.After-slice-known4) → let a = c .before .before .before .before .before .before .before .before .before .before .before .before .before .before .before .args in Wrote (encode (handed-over (a .p) (a .n) (a .a) (a .b) (a .constants .now) (a .parameters .now))) (parameters (a .n) (a .b) (a .parameters .now) ++ end) (a .out .now) (area₃ c) (at₃ c)
+written₃ : (c : tie.After-slice-known4) → let a = c .before .before .before .before .before .before .before .before .before .before .before .before .before .before .before .args in Wrote (encode (handed-over (a .p) (a .n) (a .a) (a .b) (a .constants .now) (row-numbers (a .parameters .now)))) (parameters (a .n) (a .b) (row-numbers (a .parameters .now)) ++ end) (a .out .now) (area₃ c) (at₃ c)
 written₃ c = let a = c .before .before .before .before .before .before .before .before .before .before .before .before .before .before .before .args in wrote-put (rows (a .n) (a .a) (a .constants .now)) _ _ (written₂ (c .before .before .before .before)) refl (c .before .before .put-constant-rows .ensures)
 
 abbrev area₄ : tie.After-slice-known5 → List ℕ
-area₄ c = back (area₃ (c .before .before .before .before .before)) (at₃ (c .before .before .before .before .before)) (c .before .before .put-parameter-rows .last .0)
+area₄ c = back (area₃ (c .before .before .before .before)) (at₃ (c .before .before .before .before)) (c .before .before .put-parameter-rows .last .0)
 
 abbrev at₄ : tie.After-slice-known5 → ℕ
-at₄ c = at₃ (c .before .before .before .before .before) + c .before .before .put-parameter-rows .result
+at₄ c = at₃ (c .before .before .before .before) + c .before .before .put-parameter-rows .result
 
-written₄ : (c : tie.After-slice-known5) → let a = c .before .before .before .before .before .before .before .before .before .before .before .before .before .before .before .before .before .before .before .before .args in Wrote (encode (handed-over (a .p) (a .n) (a .a) (a .b) (a .constants .now) (a .parameters .now))) (end) (a .out .now) (area₄ c) (at₄ c)
-written₄ c = let a = c .before .before .before .before .before .before .before .before .before .before .before .before .before .before .before .before .before .before .before .before .args in wrote-put (parameters (a .n) (a .b) (a .parameters .now)) _ _ (written₃ (c .before .before .before .before .before)) refl (c .before .before .put-parameter-rows .ensures)
+written₄ : (c : tie.After-slice-known5) → let a = c .before .before .before .before .before .before .before .before .before .before .before .before .before .before .before .before .before .before .before .args in Wrote (encode (handed-over (a .p) (a .n) (a .a) (a .b) (a .constants .now) (row-numbers (a .parameters .now)))) (end) (a .out .now) (area₄ c) (at₄ c)
+written₄ c = let a = c .before .before .before .before .before .before .before .before .before .before .before .before .before .before .before .before .before .before .before .args in wrote-put (parameters (a .n) (a .b) (row-numbers (a .parameters .now))) _ _ (written₃ (c .before .before .before .before)) refl (c .before .before .put-parameter-rows .ensures)
 
 -- there is room for the next field
 room₁ : (c : tie.After-slice-known2) → let a = c .before .before .before .before .before .before .before .args in let next = sizes (a .n) (a .a) (a .b) in
@@ -90,15 +91,15 @@ room₂ : (c : tie.After-slice-known3) → let a = c .before .before .before .be
     (at₂ c + length next ≤ length (area₂ c)) × (length next ≤ length (take (length (area₂ c) - at₂ c) (drop (at₂ c) (area₂ c))))
 room₂ c = let a = c .before .before .before .before .before .before .before .before .before .before .before .args in room-left (rows (a .n) (a .a) (a .constants .now)) _ (written₂ c) refl
 
-room₃ : (c : tie.After-slice-known4) → let a = c .before .before .before .before .before .before .before .before .before .before .before .before .before .before .before .args in let next = parameters (a .n) (a .b) (a .parameters .now) in
+room₃ : (c : tie.After-slice-known4) → let a = c .before .before .before .before .before .before .before .before .before .before .before .before .before .before .before .args in let next = parameters (a .n) (a .b) (row-numbers (a .parameters .now)) in
     (at₃ c + length next ≤ length (area₃ c)) × (length next ≤ length (take (length (area₃ c) - at₃ c) (drop (at₃ c) (area₃ c))))
-room₃ c = let a = c .before .before .before .before .before .before .before .before .before .before .before .before .before .before .before .args in room-left (parameters (a .n) (a .b) (a .parameters .now)) _ (written₃ c) refl
+room₃ c = let a = c .before .before .before .before .before .before .before .before .before .before .before .before .before .before .before .args in room-left (parameters (a .n) (a .b) (row-numbers (a .parameters .now))) _ (written₃ c) refl
 
 room₄ : (c : tie.After-slice-known5) → (at₄ c + length end ≤ length (area₄ c)) × (length end ≤ length (take (length (area₄ c) - at₄ c) (drop (at₄ c) (area₄ c))))
 room₄ c = room-left end [] (written₄ c) refl
 
 put-prime-requires : tie.Need-put-prime-requires
-put-prime-requires c κs = let a = c .before .before .before .before .args in omega (arith, first (a .p) (a .n) (a .a) (a .b) (a .constants .now) (a .parameters .now), c .before .before .before .before .pre)
+put-prime-requires c κs = let a = c .before .before .before .before .args in omega (arith, first (a .p) (a .n) (a .a) (a .b) (a .constants .now) (row-numbers (a .parameters .now)), c .before .before .before .before .pre)
 
 sub-put-sizes : tie.Need-sub-put-sizes
 sub-put-sizes c = omega (arith, room₁ c)
@@ -148,11 +149,8 @@ part-put-parameter-rows-start c = omega (arith, room₃ c)
 part-put-parameter-rows-end : tie.Need-part-put-parameter-rows-end
 part-put-parameter-rows-end c = search needs
 
-slice-aggregate-put-parameter-rows : tie.Need-slice-aggregate-put-parameter-rows
-slice-aggregate-put-parameter-rows c = sym (length-take-le _ _ (c .before .before .before .before .before .before .before .before .before .before .before .before .before .before .before .before .before .pre .4))
-
 put-parameter-rows-requires : tie.Need-put-parameter-rows-requires
-put-parameter-rows-requires c κs = room₃ (c .before .before) .1
+put-parameter-rows-requires c κs = (c .before .before .before .before .before .before .before .before .before .before .before .before .before .before .before .before .pre .4, room₃ (c .before) .1)
 
 add-at-3 : tie.Need-add-at-3
 add-at-3 c = omega (arith, written₄ c .room)
@@ -199,7 +197,6 @@ put-file-spec =
     sub-put-parameter-rows
     part-put-parameter-rows-start
     part-put-parameter-rows-end
-    slice-aggregate-put-parameter-rows
     put-parameter-rows-requires
     add-at-3
     sub-put-head

@@ -3,6 +3,7 @@ use borrow.Author.Needs.{needs}
 use native.Mathlib.Omega.{arith}
 use Prim.Native.Nat.{_≤_}
 use lib.ListN.{length}
+use Rattle.columns.specs.ColumnSets.{whole}
 use Rattle.format.proofs.Puts.{put-same}
 use Rattle.writer.proofs.Rows.{parameter-bytes-length, parameter-row-put}
 use Rattle.writer.proofs.put_parameter_row.Statement.{statement}
@@ -13,7 +14,7 @@ room : (c : tie.After-slice-known2) → c .before .before .put-head .result ≤ 
 room c =
     let a = c .before .before .before .before .before .before .args in
     let h = c .before .before .put-head .ensures in
-    omega (arith, h .many-is, parameter-bytes-length (a .n) (a .set), c .before .before .before .before .before .before .pre, put-same h (omega (arith, parameter-bytes-length (a .n) (a .set), c .before .before .before .before .before .before .pre)))
+    omega (arith, h .many-is, parameter-bytes-length (a .n) (whole (a .set)), c .before .before .before .before .before .before .pre, put-same h (omega (arith, parameter-bytes-length (a .n) (whole (a .set)), c .before .before .before .before .before .before .pre)))
 
 parameter-size-requires : tie.Need-parameter-size-requires
 parameter-size-requires c κs = search needs
@@ -22,7 +23,7 @@ cast-put-head : tie.Need-cast-put-head
 cast-put-head c = search needs
 
 put-head-requires : tie.Need-put-head-requires
-put-head-requires c κs = let a = c .before .before .before .args in omega (arith, parameter-bytes-length (a .n) (a .set), c .before .before .before .pre)
+put-head-requires c κs = let a = c .before .before .before .args in omega (arith, parameter-bytes-length (a .n) (whole (a .set)), c .before .before .before .pre)
 
 sub-put-set-front : tie.Need-sub-put-set-front
 sub-put-set-front c = omega (arith, room c)
@@ -43,9 +44,8 @@ same-length : tie.Need-same-length
 same-length c = search needs
 
 returns : tie.Need-returns
-returns c =
-    let a = c .before .before .before .before .before .before .before .before .before .before .args in
-    parameter-row-put (a .n) (a .set) (c .before .before .before .before .before .before .before .before .parameter-size .ensures) (c .before .before .before .before .before .before .put-head .ensures) (c .before .before .put-set-front .ensures) (c .before .before .before .before .before .before .before .before .before .before .pre)
+returns c = let a = c .before .before .before .before .before .before .before .before .before .before .args in
+    parameter-row-put (a .n) (whole (a .set)) (c .before .before .before .before .before .before .before .before .parameter-size .ensures) (c .before .before .before .before .before .before .put-head .ensures) (c .before .before .put-set-front .ensures) (c .before .before .before .before .before .before .before .before .before .before .pre)
 
 pub put-parameter-row-spec : {M : Type 1} → statement M
 put-parameter-row-spec =

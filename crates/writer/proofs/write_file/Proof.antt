@@ -2,13 +2,14 @@
 use borrow.Author.Needs.{needs}
 use native.Mathlib.Omega.{arith}
 use mathlib.Core.Path.{_≡_, sym, _∙_}
+use Rattle.columns.specs.ColumnSets.{row-numbers}
 use Rattle.format.specs.Refusals.{refusal}
 use Rattle.format.specs.TestLaws.{model-accepted}
 use Rattle.writer.proofs.Writing.{writing-refused, writing-short, writing-done}
 use Rattle.writer.proofs.write_file.Statement.{statement}
 use Rattle.writer.proofs.write_file.Tie as tie
 
-accepted : (c : tie.Else1) → let a = c .before .before .before .before .before .args in refusal (a .p) (a .n) (a .a) (a .b) (a .constants .now) (a .parameters .now) ≡ 0
+accepted : (c : tie.Else1) → let a = c .before .before .before .before .before .args in refusal (a .p) (a .n) (a .a) (a .b) (a .constants .now) (row-numbers (a .parameters .now)) ≡ 0
 accepted c = sym (c .before .judge-model .ensures) ∙ c .if1 .left
 
 judge-model-requires : tie.Need-judge-model-requires

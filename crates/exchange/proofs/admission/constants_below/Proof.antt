@@ -13,7 +13,7 @@ cast-result c = search needs
 returns : tie.Need-returns
 returns c =
     let a = c .before .before .args in
-    below-largest (a .p) (a .k) (c .largest .result) (a .constants .now) (c .before .before .pre .1) (c .largest .ensures .0) (c .largest .ensures .1)
+    below-largest (a .p) (a .k) (c .largest .result) (a .constants .now) (c .before .before .pre .1) (c .largest .ensures)
 
 pub constants-below-spec : {M : Type 1} → statement M
 constants-below-spec = tie.close (tie.spec largest-requires cast-result returns)

@@ -5,26 +5,23 @@ use mathlib.Core.Logic.{_⊎_, inl, inr, ⊎-elim}
 use native.Mathlib.Decide.{ℕ-discrete}
 use mathlib.Core.List.{List}
 use lib.ListN.{getD}
-use Rattle.counting.specs.Sets.{Some}
+use Rattle.exchange.specs.SolveLaws.{Largest}
 use borrow.Author.Needs.{needs}
 use native.Mathlib.Omega.{arith}
 use Rattle.exchange.proofs.admission.largest.Statement.{statement}
 use Rattle.exchange.proofs.admission.largest.Tie as tie
 
-abbrev Largest : List ℕ → ℕ → ℕ → Type 0
-Largest cs k top = ((i : ℕ) → i < k → getD cs i 0 ≤ top) × ((top ≡ 0) ⊎ Some k (λ i. getD cs i 0 ≡ top))
-
 largest-more : (cs : List ℕ) (k top : ℕ) → top < getD cs k 0 → Largest cs k top → Largest cs (k + 1) (getD cs k 0)
-largest-more cs k top l h = (
-  (λ i m. elim (ℕ-discrete i k) [ yes e ↦ rw e (omega arith) | no ne ↦ omega (arith, h .0 i (omega arith)) ]),
-  inr (k, omega arith, refl),
-)
+largest-more cs k top l h = record {
+  most = λ i m. elim (ℕ-discrete i k) [ yes e ↦ rw e (omega arith) | no ne ↦ omega (arith, h .most i (omega arith)) ];
+  one = inr (k, omega arith, refl);
+}
 
 largest-same : (cs : List ℕ) (k top : ℕ) → getD cs k 0 ≤ top → Largest cs k top → Largest cs (k + 1) top
-largest-same cs k top l h = (
-  (λ i m. elim (ℕ-discrete i k) [ yes e ↦ rw e l | no ne ↦ h .0 i (omega arith) ]),
-  ⊎-elim (λ z. inl z) (λ w. inr (w .0, omega (arith, w .1), w .2)) (h .1),
-)
+largest-same cs k top l h = record {
+  most = λ i m. elim (ℕ-discrete i k) [ yes e ↦ rw e l | no ne ↦ h .most i (omega arith) ];
+  one = ⊎-elim (λ z. inl z) (λ w. inr (w .0, omega (arith, w .1), w .2)) (h .one);
+}
 
 abbrev Inv-loop : tie.InvT-loop
 Inv-loop constants k top₀ i₀ top i = (i ≤ k) × Largest constants i top
@@ -33,7 +30,7 @@ abbrev μ-loop : tie.MeasureT-loop
 μ-loop constants k top₀ i₀ top i = k - i
 
 loop-holds : tie.Need-loop-holds Inv-loop μ-loop
-loop-holds c = (search needs, ((λ j l. absurd (omega arith)), inl refl))
+loop-holds c = (search needs, record { most = λ j l. absurd (omega arith); one = inl refl })
 
 mul-v : tie.Need-mul-v Inv-loop μ-loop
 mul-v c = search needs

@@ -3,6 +3,8 @@ use Prim.Native.Nat.{ℕ, _+_, _-_, _*_, _<_, _≤_}
 use mathlib.Core.Path.{_≡_, _∙_, ap}
 use mathlib.Core.Logic.{⊎-elim}
 use Rattle.columns.specs.Columns.{members, inserted}
+use Rattle.columns.specs.ColumnSets.{whole}
+use Rattle.columns.specs.Words.Sets.{empty-none}
 use Rattle.exchange.specs.Code.Scanning.{owned}
 use Rattle.exchange.specs.Code.Answer.{Side, side-none, side-more, side-skip}
 use borrow.Author.Needs.{needs}
@@ -11,7 +13,7 @@ use Rattle.exchange.proofs.offering.constant_side.Statement.{statement}
 use Rattle.exchange.proofs.offering.constant_side.Tie as tie
 
 abbrev Inv-loop : tie.InvT-loop
-Inv-loop owner n a side₀ q₀ side q = (q ≤ a) × Side n q owner (members side)
+Inv-loop owner n a side₀ q₀ side q = (q ≤ a) × Side n q owner (members (whole side))
 
 abbrev μ-loop : tie.MeasureT-loop
 μ-loop owner n a side₀ q₀ side q = a - q
@@ -20,7 +22,7 @@ empty-requires : tie.Need-empty-requires Inv-loop μ-loop
 empty-requires c κs = search needs
 
 loop-holds : tie.Need-loop-holds Inv-loop μ-loop
-loop-holds c = (search needs, rw (c .empty .ensures) (side-none _ (c .before .args .owner .now)))
+loop-holds c = (search needs, rw (empty-none (c .empty .ensures)) (side-none _ (c .before .args .owner .now)))
 
 element-copy-out-widened : tie.Need-element-copy-out-widened Inv-loop μ-loop
 element-copy-out-widened c = search needs
@@ -45,8 +47,8 @@ loop-again c =
     let ey : y ≡ owned (a .owner .now) (l .q) = c .before .widened .ensures .0 in (
       search needs,
       ⊎-elim
-          (λ w. rw (w .2, w .1 .ensures ∙ ap (inserted (members (l .side))) ey) (side-more (a .n) (l .q) (a .owner .now) (members (l .side)) (l .inv .1) (omega arith) (rw ey at (w .0 .taken))))
-          (λ w. rw (w .1) (side-skip (a .n) (l .q) (a .owner .now) (members (l .side)) (l .inv .1) (rw ey at (w .0 .left))))
+          (λ w. rw (w .2, w .1 .ensures ∙ ap (inserted (members (whole (l .side)))) ey) (side-more (a .n) (l .q) (a .owner .now) (members (whole (l .side))) (l .inv .1) (omega arith) (rw ey at (w .0 .taken))))
+          (λ w. rw (w .1) (side-skip (a .n) (l .q) (a .owner .now) (members (whole (l .side))) (l .inv .1) (rw ey at (w .0 .left))))
           (c .if1 .came),
     )
 

@@ -4,50 +4,68 @@ use Prim.Native.Nat.{ℕ, _+_, _-_, _*_, _<_, _≤_}
 use mathlib.Core.Path.{_≡_, sym, _∙_, subst}
 use mathlib.Core.Logic.{_≢_}
 use mathlib.Core.Bool.{Bool}
-use lib.ListN.{length}
 use borrow.Author.Tests.{eqb-true, eqb-false, not-false}
 use Rattle.counting.specs.Bools.{not-in}
 use Rattle.counting.specs.Sets.{Set, _∈_, #}
 use Rattle.columns.specs.Columns.{width, members}
+use Rattle.columns.specs.ColumnSets.{whole, row-numbers}
+use Rattle.columns.specs.Words.Sets.{empty-none}
 use Rattle.columns.specs.Words.Operations.{least-first}
 use Rattle.columns.specs.Words.SetLaws.{removed-less, least-there, nothing-in}
-use Rattle.exchange.specs.Code.Cells.{Below}
+use Rattle.exchange.specs.Code.Scanning.{Arrays}
 use Rattle.exchange.specs.Code.Held.{Given}
 use Rattle.exchange.specs.Code.Placing.{Placing}
-use Rattle.exchange.specs.Code.Offering.{Offers, Offering, offering-start, offering-yes, offering-no, next-below, next-offered, next-new, offered-last}
+use Rattle.exchange.specs.Code.Offering.{Offers, Offering, offering-start, offering-yes, offering-no, offering-done, next-below, next-offered, next-new}
 use borrow.Author.Needs.{needs}
 use native.Mathlib.Omega.{arith}
 use Rattle.exchange.proofs.offering.offer_all.Statement.{statement}
 use Rattle.exchange.proofs.offering.offer_all.Tie as tie
 
 abbrev Inv-loop : tie.InvT-loop
-Inv-loop t₀ owner₀ parameters p n a b offered rest₀ placed₀ t owner rest placed = (length t ≡ 4096) × (length owner ≡ 128) × Below p t × ((G : Given p n b parameters) → Offers p n a b parameters (members offered) t₀ owner₀ G → Offering p n a b parameters G t owner (members rest) (members placed))
+Inv-loop t₀ owner₀ parameters p n a b rest₀ placed₀ t owner rest placed = Arrays p n a b t owner × ((G : Given p n b (row-numbers parameters)) → Offers p n a b (row-numbers parameters) (members (whole rest₀)) t₀ owner₀ G → Offering p n a b (row-numbers parameters) G t owner (members (whole rest)) (members (whole placed)))
 
 abbrev μ-loop : tie.MeasureT-loop
-μ-loop t₀ owner₀ parameters p n a b offered rest₀ placed₀ t owner rest placed = # width (members rest)
+μ-loop t₀ owner₀ parameters p n a b rest₀ placed₀ t owner rest placed = # width (members (whole rest))
+
+-- the places of a turn: where its column is taken out of what is left, where it is chosen, and where the call began
+
+abbrev taken-out : tie.After-place Inv-loop μ-loop → tie.After-without Inv-loop μ-loop
+taken-out c = c .before .before .before
+
+abbrev chosen : tie.After-place Inv-loop μ-loop → tie.After-first Inv-loop μ-loop
+chosen c = taken-out c .before
+
+abbrev entry : tie.After-first Inv-loop μ-loop → tie.Start Inv-loop μ-loop
+entry f = f .before .before .before .before .before .before
 
 -- the column of a turn is the least of what is left
-there : (c : tie.After-first Inv-loop μ-loop) → (c .first .result < width) × (c .first .result ∈ members (c .before .before .before .loop .rest))
-there c =
-    let some : # width (members (c .before .before .before .loop .rest)) ≢ 0 = eqb-false _ 0 (sym (c .before .before .is-empty .ensures) ∙ not-in _ (c .before .if1 .taken)) in
-    rw (c .first .ensures) (least-there width _ some)
+there : (f : tie.After-first Inv-loop μ-loop) → (f .first .result < width) × (f .first .result ∈ members (whole (f .before .before .before .loop .rest)))
+there f =
+    let some : # width (members (whole (f .before .before .before .loop .rest))) ≢ 0 = eqb-false _ 0 (sym (f .before .before .is-empty .ensures) ∙ not-in _ (f .before .if1 .taken)) in
+    rw (f .first .ensures) (least-there width _ some)
 
-least : (c : tie.After-first Inv-loop μ-loop)
-    → let l = c .before .before .before .loop in let a = c .before .before .before .before .before .before .args in
-    a .n ≤ width → (G : Given (a .p) (a .n) (a .b) (a .parameters .now)) → Offers (a .p) (a .n) (a .a) (a .b) (a .parameters .now) (members (a .offered)) (a .t .now) (a .owner .now) G
-    → (x : ℕ) → x ∈ members (l .rest) → c .first .result ≤ x
-least c h G m x e =
-    let l = c .before .before .before .loop in
-    rw (c .first .ensures) (least-first width (members (l .rest)) x (omega (arith, l .inv .3 G m .left x .0 e .0)) e)
+module _ (f : tie.After-first Inv-loop μ-loop) (G : Given (entry f .args .p) (entry f .args .n) (entry f .args .b) (row-numbers (entry f .args .parameters .now)))
+    (m : Offers (entry f .args .p) (entry f .args .n) (entry f .args .a) (entry f .args .b) (row-numbers (entry f .args .parameters .now)) (members (whole (entry f .args .offered))) (entry f .args .t .now) (entry f .args .owner .now) G) where
+  abbrev so-far : Offering (entry f .args .p) (entry f .args .n) (entry f .args .a) (entry f .args .b) (row-numbers (entry f .args .parameters .now)) G (f .before .before .before .loop .t) (f .before .before .before .loop .owner) (members (whole (f .before .before .before .loop .rest))) (members (whole (f .before .before .before .loop .placed)))
+  so-far = f .before .before .before .loop .inv .1 G m
+
+  least : (x : ℕ) → x ∈ members (whole (f .before .before .before .loop .rest)) → f .first .result ≤ x
+  least x e = rw (f .first .ensures) (least-first width _ x (omega (arith, so-far .left x .0 e .0, entry f .pre .0 .lengths .columns)) e)
+
+-- what placing it gives
+placing : (c : tie.After-place Inv-loop μ-loop) → let f = chosen c in let a = entry f .args in
+    (G : Given (a .p) (a .n) (a .b) (row-numbers (a .parameters .now))) (m : Offers (a .p) (a .n) (a .a) (a .b) (row-numbers (a .parameters .now)) (members (whole (a .offered))) (a .t .now) (a .owner .now) G)
+    → Placing (a .p) (a .n) (a .a) (a .b) (row-numbers (a .parameters .now)) G (f .before .before .before .loop .t) (f .before .before .before .loop .owner) (c .place .last .0) (c .place .last .1 .0) (f .first .result) (c .place .result) (so-far f G m .held)
+placing c G m =
+    let f = chosen c in
+    let d = so-far f G m in
+    c .place .ensures .1 G (d .held) (next-offered d _ (there f .1) (least f G m)) (next-new d _ (there f .1) (least f G m))
 
 empty-requires : tie.Need-empty-requires Inv-loop μ-loop
 empty-requires c κs = search needs
 
 loop-holds : tie.Need-loop-holds Inv-loop μ-loop
-loop-holds c =
-    let k = c .before .before in
-    let a = k .args in
-    (search needs, search needs, k .pre .7, λ G m. rw (c .empty .ensures) (offering-start (a .p) (a .n) (a .a) (a .b) (a .parameters .now) G (a .t .now) (a .owner .now) (members (a .offered)) (m .held) (m .none-yet) (m .columns)))
+loop-holds c = (c .before .before .pre .0, λ G m. rw (empty-none (c .empty .ensures)) (offering-start m))
 
 is-empty-requires : tie.Need-is-empty-requires Inv-loop μ-loop
 is-empty-requires c κs = search needs
@@ -61,93 +79,48 @@ without-requires c κs = search needs
 place-requires : tie.Need-place-requires Inv-loop μ-loop
 place-requires c κs =
     let f = c .before .before .before in
-    let l = f .before .before .before .loop in
-    let k = f .before .before .before .before .before .before in
-    let a = k .args in
-    let ws = a .parameters .now in
-    let G = k .pre .8 .0 in
-    let m = k .pre .8 .1 in
-    let d = l .inv .3 G m in
-    let first : (x : ℕ) → x ∈ members (l .rest) → f .first .result ≤ x = λ x e. least f (omega arith) G m x e in
-    let below = next-below (a .p) (a .n) (a .a) (a .b) ws G (l .t) (l .owner) (l .t) (l .owner) (members (l .rest)) (members (l .placed)) d (f .first .result) (there f .1) first in
-    let offered = next-offered (a .p) (a .n) (a .a) (a .b) ws G (l .t) (l .owner) (l .t) (l .owner) (members (l .rest)) (members (l .placed)) d (f .first .result) (there f .1) first in
-    (l .inv .0, l .inv .1, k .pre .2, k .pre .3, k .pre .4, k .pre .5, below, k .pre .6, l .inv .2, (G, offered, d .held))
+    let given = entry f .pre .1 in
+    let d = so-far f (given .0) (given .1) in
+    let first = least f (given .0) (given .1) in
+    (f .before .before .before .loop .inv .0, next-below d _ (there f .1) first, (given .0, next-offered d _ (there f .1) first, d .held))
 
 with-requires : tie.Need-with-requires Inv-loop μ-loop
 with-requires c κs = search needs
 
+-- a turn takes a column out of what is left
+fewer : (c : tie.After-place Inv-loop μ-loop) → # width (members (whole (taken-out c .without .result))) < # width (members (whole (chosen c .before .before .before .loop .rest)))
+fewer c = let w = there (chosen c) in rw (taken-out c .without .ensures) (removed-less width _ _ (w .0) (w .1))
+
 loop-less : tie.Need-loop-less Inv-loop μ-loop
-loop-less c =
-    let w = there (c .before .before .before .before .before .before) in
-    rw (c .before .before .before .before .before .without .ensures) (removed-less width _ _ (w .0) (w .1))
+loop-less c = fewer (c .before .before)
 
 loop-again : tie.Need-loop-again Inv-loop μ-loop
 loop-again c =
-    let f = c .before .before .before .before .before .before in
-    let l = f .before .before .before .loop in
-    let k = f .before .before .before .before .before .before in
-    let a = k .args in
-    let ws = a .parameters .now in
-    let pl = c .before .before .place in
-    let t = pl .last .0 in
-    let o = pl .last .1 .0 in
-    rw (c .before .before .before .before .before .without .ensures, c .with .ensures) (
-      pl .ensures .0,
-      pl .ensures .1,
-      pl .ensures .2,
-      λ G m.
-          let d = l .inv .3 G m in
-          let first : (x : ℕ) → x ∈ members (l .rest) → f .first .result ≤ x = λ x e. least f (omega arith) G m x e in
-          let v = pl .ensures .3 G (d .held) (next-offered (a .p) (a .n) (a .a) (a .b) ws G (l .t) (l .owner) t o (members (l .rest)) (members (l .placed)) d (f .first .result) (there f .1) first)
-          (next-new (a .p) (a .n) (a .a) (a .b) ws G (l .t) (l .owner) t o (members (l .rest)) (members (l .placed)) d (f .first .result) (there f .1) first) in
-          offering-yes (a .p) (a .n) (a .a) (a .b) ws G (l .t) (l .owner) t o (members (l .rest)) (members (l .placed)) d (f .first .result) (there f .1) first (omega arith)
-          (subst (λ (r : Bool). Placing (a .p) (a .n) (a .a) (a .b) ws G (l .t) (l .owner) t o (f .first .result) r (d .held)) (c .before .if2 .taken) v),
+    let k = c .before .before in
+    let f = chosen k in
+    rw (taken-out k .without .ensures, c .with .ensures) (
+      k .place .ensures .0,
+      λ G m. offering-yes (so-far f G m) _ (there f .1) (least f G m) (omega (arith, entry f .pre .0 .lengths .columns)) (c .before .if2 .taken) (placing k G m),
     )
 
 loop-less-2 : tie.Need-loop-less-2 Inv-loop μ-loop
-loop-less-2 c =
-    let w = there (c .before .before .before .before .before) in
-    rw (c .before .before .before .before .without .ensures) (removed-less width _ _ (w .0) (w .1))
+loop-less-2 c = fewer (c .before)
 
 loop-again-2 : tie.Need-loop-again-2 Inv-loop μ-loop
 loop-again-2 c =
-    let f = c .before .before .before .before .before in
-    let l = f .before .before .before .loop in
-    let k = f .before .before .before .before .before .before in
-    let a = k .args in
-    let ws = a .parameters .now in
-    let pl = c .before .place in
-    let t = pl .last .0 in
-    let o = pl .last .1 .0 in
-    rw (c .before .before .before .before .without .ensures) (
-      pl .ensures .0,
-      pl .ensures .1,
-      pl .ensures .2,
-      λ G m.
-          let d = l .inv .3 G m in
-          let first : (x : ℕ) → x ∈ members (l .rest) → f .first .result ≤ x = λ x e. least f (omega arith) G m x e in
-          let v = pl .ensures .3 G (d .held) (next-offered (a .p) (a .n) (a .a) (a .b) ws G (l .t) (l .owner) t o (members (l .rest)) (members (l .placed)) d (f .first .result) (there f .1) first)
-          (next-new (a .p) (a .n) (a .a) (a .b) ws G (l .t) (l .owner) t o (members (l .rest)) (members (l .placed)) d (f .first .result) (there f .1) first) in
-          offering-no (a .p) (a .n) (a .a) (a .b) ws G (l .t) (l .owner) t o (members (l .rest)) (members (l .placed)) d (f .first .result) (there f .1) first
-          (subst (λ (r : Bool). Placing (a .p) (a .n) (a .a) (a .b) ws G (l .t) (l .owner) t o (f .first .result) r (d .held)) (c .if2 .left) v),
+    let k = c .before in
+    let f = chosen k in
+    rw (taken-out k .without .ensures) (
+      k .place .ensures .0,
+      λ G m. offering-no (so-far f G m) _ (there f .1) (least f G m) (c .if2 .left) (placing k G m),
     )
 
 returns : tie.Need-returns Inv-loop μ-loop
 returns c =
     let l = c .before .before .loop in
-    let k = c .before .before .before .before .before in
-    let a = k .args in
-    let gone : # width (members (l .rest)) ≡ 0 = eqb-true _ 0 (sym (c .before .is-empty .ensures) ∙ not-false _ (c .if1 .left)) in (
-      l .inv .0,
-      l .inv .1,
-      l .inv .2,
-      λ G m.
-          let d = l .inv .3 G m in record {
-            held = d .held;
-            all-offered = offered-last (a .p) (a .n) (a .a) (a .b) (a .parameters .now) G (l .t) (l .owner) (members (l .rest)) (members (l .placed)) d (λ x e. nothing-in width (members (l .rest)) gone x (omega (arith, d .left x .0 e .0)) e);
-            are-placed = d .are-placed;
-          },
-    )
+    let columns = c .before .before .before .before .before .pre .0 .lengths .columns in
+    let gone : # width (members (whole (l .rest))) ≡ 0 = eqb-true _ 0 (sym (c .before .is-empty .ensures) ∙ not-false _ (c .if1 .left)) in
+    (l .inv .0, λ G m. let d = l .inv .1 G m in offering-done d (λ x e. nothing-in width (members (whole (l .rest))) gone x (omega (arith, d .left x .0 e .0, columns)) e))
 
 pub offer-all-spec : {M : Type 1} → statement M
 offer-all-spec =

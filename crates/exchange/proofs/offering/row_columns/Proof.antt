@@ -4,21 +4,22 @@ use mathlib.Core.Path.{_≡_, refl, _∙_}
 use borrow.Author.Count.{below-more}
 use lib.ListN.{length, getD, set, getD-replicate}
 use lib.Seq.{getD-set-same, getD-set-other}
+use Rattle.limits.specs.Limits.{most-rows, no-column}
 use Rattle.exchange.specs.Code.Scanning.{owned}
-use Rattle.exchange.specs.Code.Answer.{shown-column}
+use Rattle.exchange.specs.Code.Answer.{shown-column, RowsShown}
 use borrow.Author.Needs.{needs}
 use native.Mathlib.Omega.{arith}
 use Rattle.exchange.proofs.offering.row_columns.Statement.{statement}
 use Rattle.exchange.proofs.offering.row_columns.Tie as tie
 
 abbrev Inv-loop : tie.InvT-loop
-Inv-loop owner n a b rows₀ r₀ rows r = (r ≤ b) × (length rows ≡ 64) × ((k : ℕ) → k < r → getD rows k 0 ≡ shown-column n (owned owner (a + k))) × ((k : ℕ) → r ≤ k → k < 64 → getD rows k 0 ≡ 255)
+Inv-loop owner n a b rows₀ r₀ rows r = (r ≤ b) × (length rows ≡ most-rows) × RowsShown n a r owner rows
 
 abbrev μ-loop : tie.MeasureT-loop
 μ-loop owner n a b rows₀ r₀ rows r = b - r
 
 loop-holds : tie.Need-loop-holds Inv-loop μ-loop
-loop-holds c = (search needs, refl, (λ k l. absurd (omega arith)), λ k l m. getD-replicate 64 k 255 0 m)
+loop-holds c = (search needs, refl, record { owners = λ k l. absurd (omega arith); past = λ k l m. getD-replicate most-rows k no-column 0 m })
 
 add-q : tie.Need-add-q Inv-loop μ-loop
 add-q c = search needs
@@ -46,16 +47,18 @@ loop-again c =
     let inside : l .r < length (l .rows) = omega arith in (
       search needs,
       search needs,
-      below-more (λ k. getD (set (l .rows) (l .r) v) k 0 ≡ shown-column (a .n) (owned (a .owner .now) (a .a + k))) (l .r)
-          (λ k m. getD-set-other (l .rows) (l .r) k v 0 (λ z. omega arith) ∙ l .inv .2 k m)
-          (getD-set-same (l .rows) (l .r) v 0 inside ∙ c .column-shown .ensures),
-      λ k m h. getD-set-other (l .rows) (l .r) k v 0 (λ z. omega arith) ∙ l .inv .3 k (omega arith) h,
+      record {
+        owners = below-more (λ k. getD (set (l .rows) (l .r) v) k 0 ≡ shown-column (a .n) (owned (a .owner .now) (a .a + k))) (l .r)
+            (λ k m. getD-set-other (l .rows) (l .r) k v 0 (λ z. omega arith) ∙ l .inv .2 .owners k m)
+            (getD-set-same (l .rows) (l .r) v 0 inside ∙ c .column-shown .ensures);
+        past = λ k m h. getD-set-other (l .rows) (l .r) k v 0 (λ z. omega arith) ∙ l .inv .2 .past k (omega arith) h;
+      },
     )
 
 returns : tie.Need-returns Inv-loop μ-loop
 returns c =
     let l = c .before .loop in
-    (search needs, (λ k m. l .inv .2 k (omega arith)), λ k m h. l .inv .3 k (omega arith) h)
+    (search needs, record { owners = λ k m. l .inv .2 .owners k (omega arith); past = λ k m h. l .inv .2 .past k (omega arith) h })
 
 pub row-columns-spec : {M : Type 1} → statement M
 row-columns-spec =

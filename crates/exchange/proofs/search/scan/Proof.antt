@@ -9,7 +9,8 @@ use borrow.Author.Tests.{eqb-true, eqb-false, not-false}
 use Rattle.counting.specs.Bools.{not-in}
 use Rattle.counting.specs.Sets.{Set, _∈_, _⊆_, #}
 use Rattle.columns.specs.Columns.{width, members, none, inserted, removed}
-use Rattle.columns.specs.Words.Operations.{members-below}
+use Rattle.columns.specs.ColumnSets.{whole, row-numbers}
+use Rattle.columns.specs.Words.Sets.{columns-below, empty-none}
 use Rattle.columns.specs.Words.SetLaws.{inserted-same, inserted-old, removed-old, removed-other, removed-less, least-there, nothing-in}
 use Rattle.exchange.specs.Code.Scanning.{touched, owned, RowsRead, rows-kept, rows-down, Owners, owners-none, owners-more, Scanned}
 use borrow.Author.Needs.{needs}
@@ -18,24 +19,24 @@ use Rattle.exchange.proofs.search.scan.Statement.{statement}
 use Rattle.exchange.proofs.search.scan.Tie as tie
 
 abbrev Inv-loop : tie.InvT-loop
-Inv-loop t owner parameters n a rows front rest next₀ column₀ row₀ x q₀ next column row q = (q ≤ rows) × (row ≡ rows) × (members next₀ ⊆ members next) × RowsRead n rows (touched a t parameters) (owned owner) (members next) x q × Owners n rows (touched a t parameters) (owned owner) (members front) (members next)
+Inv-loop t owner parameters n a rows rest next₀ column₀ row₀ x q₀ next column row q = (q ≤ rows) × (row ≡ rows) × (members (whole next₀) ⊆ members (whole next)) × RowsRead n rows (touched a t (row-numbers parameters)) (owned owner) (members (whole next)) x q × ((F : Set) → x ∈ F → Owners n rows (touched a t (row-numbers parameters)) (owned owner) F (members (whole next₀)) → Owners n rows (touched a t (row-numbers parameters)) (owned owner) F (members (whole next)))
 
 abbrev μ-loop : tie.MeasureT-loop
-μ-loop t owner parameters n a rows front rest next₀ column₀ row₀ x q₀ next column row q = q
+μ-loop t owner parameters n a rows rest next₀ column₀ row₀ x q₀ next column row q = q
 
 abbrev Inv-search : tie.InvT-search
-Inv-search t owner parameters n a rows front rest₀ next₀ column₀ row₀ rest next column row = (row ≡ rows) × (members rest ⊆ members front) × ((y : ℕ) → y ∈ members front → (y ∈ members rest) ⊎ RowsRead n rows (touched a t parameters) (owned owner) (members next) y 0) × Owners n rows (touched a t parameters) (owned owner) (members front) (members next)
+Inv-search t owner parameters n a rows rest₀ next₀ column₀ row₀ rest next column row = (row ≡ rows) × (members (whole rest) ⊆ members (whole rest₀)) × ((y : ℕ) → y ∈ members (whole rest₀) → (y ∈ members (whole rest)) ⊎ RowsRead n rows (touched a t (row-numbers parameters)) (owned owner) (members (whole next)) y 0) × Owners n rows (touched a t (row-numbers parameters)) (owned owner) (members (whole rest₀)) (members (whole next))
 
 abbrev μ-search : tie.MeasureT-search
-μ-search t owner parameters n a rows front rest₀ next₀ column₀ row₀ rest next column row = # width (members rest)
+μ-search t owner parameters n a rows rest₀ next₀ column₀ row₀ rest next column row = # width (members (whole rest))
 
 -- the column of a turn is the least of what is left
-there : (c : tie.After-first Inv-loop μ-loop Inv-search μ-search) → (c .first .result < width) × (c .first .result ∈ members (c .before .before .before .search .rest))
+there : (c : tie.After-first Inv-loop μ-loop Inv-search μ-search) → (c .first .result < width) × (c .first .result ∈ members (whole (c .before .before .before .search .rest)))
 there c =
-    let some : # width (members (c .before .before .before .search .rest)) ≢ 0 = eqb-false _ 0 (sym (c .before .before .is-empty .ensures) ∙ not-in _ (c .before .if1 .taken)) in
+    let some : # width (members (whole (c .before .before .before .search .rest))) ≢ 0 = eqb-false _ 0 (sym (c .before .before .is-empty .ensures) ∙ not-in _ (c .before .if1 .taken)) in
     rw (c .first .ensures) (least-there width _ some)
 
-in-front : (c : tie.After-first Inv-loop μ-loop Inv-search μ-search) → c .first .result ∈ members (c .before .before .before .before .before .before .args .front)
+in-front : (c : tie.After-first Inv-loop μ-loop Inv-search μ-search) → c .first .result ∈ members (whole (c .before .before .before .before .before .before .args .front))
 in-front c = c .before .before .before .search .inv .1 _ (there c .1)
 
 empty-requires : tie.Need-empty-requires Inv-loop μ-loop Inv-search μ-search
@@ -44,7 +45,7 @@ empty-requires c κs = search needs
 search-holds : tie.Need-search-holds Inv-loop μ-loop Inv-search μ-search
 search-holds c =
     let a = c .before .before .args in
-    (refl, (λ x e. e), (λ x e. inl e), rw (c .empty .ensures) (owners-none (a .n) (a .rows) _ _ (members (a .front))))
+    (refl, (λ x e. e), (λ x e. inl e), rw (empty-none (c .empty .ensures)) (owners-none (a .n) (a .rows) _ _ (members (whole (a .front)))))
 
 is-empty-requires : tie.Need-is-empty-requires Inv-loop μ-loop Inv-search μ-search
 is-empty-requires c κs = search needs
@@ -53,13 +54,13 @@ first-requires : tie.Need-first-requires Inv-loop μ-loop Inv-search μ-search
 first-requires c κs = search needs
 
 loop-holds : tie.Need-loop-holds Inv-loop μ-loop Inv-search μ-search
-loop-holds c = (search needs, c .before .before .before .search .inv .0, (λ y e. e), (λ k l m. absurd (omega arith)), c .before .before .before .search .inv .3)
+loop-holds c = (search needs, c .before .before .before .search .inv .0, (λ y e. e), (λ k l m. absurd (omega arith)), (λ F i h. h))
 
 sub-q : tie.Need-sub-q Inv-loop μ-loop Inv-search μ-search
 sub-q c = search needs
 
 touches-requires : tie.Need-touches-requires Inv-loop μ-loop Inv-search μ-search
-touches-requires c κs = (search needs, search needs, there (c .before .before) .0, search needs)
+touches-requires c κs = (search needs, search needs, there (c .before .before) .0)
 
 element-copy-out-widened : tie.Need-element-copy-out-widened Inv-loop μ-loop Inv-search μ-search
 element-copy-out-widened c = search needs
@@ -78,21 +79,21 @@ loop-again c =
     let l = c .before .before .before .before .before .before .before .loop in
     let s = c .before .before .before .before .before .before .before .before in
     let a = s .before .before .before .before .before .before .args in
-    let T = touched (a .a) (a .t .now) (a .parameters .now) in
+    let T = touched (a .a) (a .t .now) (row-numbers (a .parameters .now)) in
     let o = owned (a .owner .now) in
     let q = l .q - 1 in
     let y = c .before .before .widened .result in
     let ey : y ≡ o q = c .before .before .widened .ensures .0 in
     let lo : o q < a .n = omega arith in
-    let e : members (c .with .result) ≡ inserted (members (l .next)) (o q) = c .with .ensures ∙ ap (inserted (members (l .next))) ey in
+    let e : members (whole (c .with .result)) ≡ inserted (members (whole (l .next))) (o q) = c .with .ensures ∙ ap (inserted (members (whole (l .next)))) ey in
     let up : q + 1 ≡ l .q = omega arith in
-    let kept : members (l .next) ⊆ inserted (members (l .next)) (o q) = inserted-old (members (l .next)) (o q) in
+    let kept : members (whole (l .next)) ⊆ inserted (members (whole (l .next))) (o q) = inserted-old (members (whole (l .next))) (o q) in
     rw e (
       search needs,
       l .inv .1,
       (λ z h. kept z (l .inv .2 z h)),
-      rows-down (a .n) (a .rows) T o (inserted (members (l .next)) (o q)) (s .first .result) q (λ t. (lo, inserted-same (members (l .next)) (o q) (omega arith))) (rw up (rows-kept (a .n) (a .rows) T o (members (l .next)) (inserted (members (l .next)) (o q)) (s .first .result) (l .q) kept (l .inv .3))),
-      owners-more (a .n) (a .rows) T o (members (a .front)) (members (l .next)) (s .first .result) q (l .inv .4) (in-front s) (omega arith) (sym (c .before .before .before .before .before .touches .ensures) ∙ c .before .before .before .before .if2 .taken) lo,
+      rows-down (a .n) (a .rows) T o (inserted (members (whole (l .next))) (o q)) (s .first .result) q (λ t. (lo, inserted-same (members (whole (l .next))) (o q) (omega arith))) (rw up (rows-kept (a .n) (a .rows) T o (members (whole (l .next))) (inserted (members (whole (l .next))) (o q)) (s .first .result) (l .q) kept (l .inv .3))),
+      λ F i h. owners-more (a .n) (a .rows) T o F (members (whole (l .next))) (s .first .result) q (l .inv .4 F i h) i (omega arith) (sym (c .before .before .before .before .before .touches .ensures) ∙ c .before .before .before .before .if2 .taken) lo,
     )
 
 loop-less-2 : tie.Need-loop-less-2 Inv-loop μ-loop Inv-search μ-search
@@ -103,14 +104,14 @@ loop-again-2 c =
     let l = c .before .before .before .loop in
     let s = c .before .before .before .before in
     let a = s .before .before .before .before .before .before .args in
-    let T = touched (a .a) (a .t .now) (a .parameters .now) in
+    let T = touched (a .a) (a .t .now) (row-numbers (a .parameters .now)) in
     let o = owned (a .owner .now) in
     let q = l .q - 1 in
     let up : q + 1 ≡ l .q = omega arith in (
       search needs,
       l .inv .1,
       l .inv .2,
-      rows-down (a .n) (a .rows) T o (members (l .next)) (s .first .result) q (λ t. absurd (true≢false (sym t ∙ sym (c .before .touches .ensures) ∙ c .if2 .left))) (rw up (l .inv .3)),
+      rows-down (a .n) (a .rows) T o (members (whole (l .next))) (s .first .result) q (λ t. absurd (true≢false (sym t ∙ sym (c .before .touches .ensures) ∙ c .if2 .left))) (rw up (l .inv .3)),
       l .inv .4,
     )
 
@@ -121,7 +122,7 @@ search-less : tie.Need-search-less Inv-loop μ-loop Inv-search μ-search
 search-less c =
     let s = c .before .before .before in
     let w = there s in
-    rw (c .without .ensures) (removed-less width (members (s .before .before .before .search .rest)) (s .first .result) (w .0) (w .1))
+    rw (c .without .ensures) (removed-less width (members (whole (s .before .before .before .search .rest))) (s .first .result) (w .0) (w .1))
 
 search-again : tie.Need-search-again Inv-loop μ-loop Inv-search μ-search
 search-again c =
@@ -129,28 +130,28 @@ search-again c =
     let s = c .before .before .before in
     let k = s .before .before .before .search in
     let a = s .before .before .before .before .before .before .args in
-    let T = touched (a .a) (a .t .now) (a .parameters .now) in
+    let T = touched (a .a) (a .t .now) (row-numbers (a .parameters .now)) in
     let o = owned (a .owner .now) in
     let x = s .first .result in
-    let R = members (k .rest) in
+    let R = members (whole (k .rest)) in
     rw (c .without .ensures) (
       l .inv .1,
       (λ y e. k .inv .1 y (removed-old R x y e)),
       (λ y e. ⊎-elim
           (λ b. elim (ℕ-discrete y x) [ yes d ↦ inr (λ i h m. rw d (l .inv .3 i (omega arith) m)) | no nd ↦ inl (removed-other R x y b nd) ])
-          (λ rows. inr (rows-kept (a .n) (a .rows) T o (members (k .next)) (members (l .next)) y 0 (l .inv .2) rows))
+          (λ rows. inr (rows-kept (a .n) (a .rows) T o (members (whole (k .next))) (members (whole (l .next))) y 0 (l .inv .2) rows))
           (k .inv .2 y e)),
-      l .inv .4,
+      l .inv .4 (members (whole (a .front))) (in-front s) (k .inv .3),
     )
 
 returns : tie.Need-returns Inv-loop μ-loop Inv-search μ-search
 returns c =
     let s = c .before .before .search in
     let k = c .before .before .before .before .before in
-    let gone : # width (members (s .rest)) ≡ 0 = eqb-true _ 0 (sym (c .before .is-empty .ensures) ∙ not-false _ (c .if1 .left)) in
+    let gone : # width (members (whole (s .rest))) ≡ 0 = eqb-true _ 0 (sym (c .before .is-empty .ensures) ∙ not-false _ (c .if1 .left)) in
     record {
       at-end = λ h. absurd (omega arith);
-      all-read = λ h y e. ⊎-elim (λ b. absurd (nothing-in width (members (s .rest)) gone y (members-below (k .args .front) y (k .fits .front .fits) (s .inv .1 y b)) b)) (λ rows. rows) (s .inv .2 y e);
+      all-read = λ h y e. ⊎-elim (λ b. absurd (nothing-in width (members (whole (s .rest))) gone y (columns-below (k .args .front) y (search needs) (s .inv .1 y b)) b)) (λ rows. rows) (s .inv .2 y e);
       from = s .inv .3;
     }
 
@@ -161,7 +162,7 @@ returns-2 c =
     record {
       at-end = λ h. (in-front s, sym (c .before .before .before .before .touches .ensures) ∙ c .before .before .before .if2 .taken, omega (arith, c .before .widened .ensures .0));
       all-read = λ h. absurd (omega arith);
-      from = l .inv .4;
+      from = l .inv .4 _ (in-front s) (s .before .before .before .search .inv .3);
     }
 
 pub scan-spec : {M : Type 1} → statement M

@@ -7,6 +7,7 @@ use borrow.Author.Tests.{eqb-true, eqb-false}
 use Rattle.counting.specs.Sets.{Set, _∈_, _∩_, _∪_, ∁, #}
 use Rattle.counting.specs.Counts.{#-le}
 use Rattle.columns.specs.Columns.{width, members}
+use Rattle.columns.specs.ColumnSets.{whole, row-numbers}
 use Rattle.columns.specs.Words.SetLaws.{union-more}
 use Rattle.rank.specs.Graph.States.{State}
 use Rattle.exchange.specs.Code.Scanning.{touched, owned}
@@ -17,23 +18,23 @@ use Rattle.exchange.proofs.search.search.Statement.{statement}
 use Rattle.exchange.proofs.search.search.Tie as tie
 
 abbrev Inv-loop : tie.InvT-loop
-Inv-loop t owner parameters n a rows start reached₀ front₀ depth₀ reached front depth = (depth ≤ # width (members reached)) × ((E : Set) (s : State n rows) → Shows E s (touched a t parameters) (owned owner) → ((x : ℕ) → x ∈ members start → (x < n) × (x ∈ E)) → Reaching s (members start) E (members reached) (members front) depth)
+Inv-loop t owner parameters n a rows reached₀ front₀ depth₀ reached front depth = (depth ≤ # width (members (whole reached))) × ((E : Set) (s : State n rows) → Shows E s (touched a t (row-numbers parameters)) (owned owner) → ((x : ℕ) → x ∈ members (whole reached₀) → (x < n) × (x ∈ E)) → Reaching s (members (whole reached₀)) E (members (whole reached)) (members (whole front)) depth)
 
 abbrev μ-loop : tie.MeasureT-loop
-μ-loop t owner parameters n a rows start reached₀ front₀ depth₀ reached front depth = width - # width (members reached)
+μ-loop t owner parameters n a rows reached₀ front₀ depth₀ reached front depth = width - # width (members (whole reached))
 
 -- the columns that a turn brings
-grown : (c : tie.After-union Inv-loop μ-loop) → # width (members (c .before .before .before .before .before .before .before .loop .reached)) < # width (members (c .union .result))
+grown : (c : tie.After-union Inv-loop μ-loop) → # width (members (whole (c .before .before .before .before .before .before .before .loop .reached))) < # width (members (whole (c .union .result)))
 grown c =
-    let r = members (c .before .before .before .before .before .before .before .loop .reached) in
-    let m = members (c .before .before .before .before .before .before .scan .result .next) in
-    let d = members (c .before .before .before .difference .result) in
+    let r = members (whole (c .before .before .before .before .before .before .before .loop .reached)) in
+    let m = members (whole (c .before .before .before .before .before .before .scan .result .next)) in
+    let d = members (whole (c .before .before .before .difference .result)) in
     let some : # width d ≢ 0 = eqb-false (# width d) 0 (sym (c .before .before .is-empty .ensures) ∙ c .before .if2 .left) in
     let new : # width (m ∩ ∁ r) ≢ 0 = λ z. some (ap (# width) (c .before .before .before .difference .ensures) ∙ z) in
     rw (c .union .ensures) (union-more width r m new)
 
 loop-holds : tie.Need-loop-holds Inv-loop μ-loop
-loop-holds c = (search needs, λ E s h b. reaching-start s (members (c .before .args .start)) E b)
+loop-holds c = (search needs, λ E s h b. reaching-start s (members (whole (c .before .args .start))) E b)
 
 scan-requires : tie.Need-scan-requires Inv-loop μ-loop
 scan-requires c κs = search needs
@@ -53,7 +54,7 @@ is-empty-requires c κs = search needs
 returns-2 : tie.Need-returns-2 Inv-loop μ-loop
 returns-2 c =
     let l = c .before .before .before .before .before .before .loop in
-    let none-new : # width (members (c .before .before .difference .result)) ≡ 0 = eqb-true _ 0 (sym (c .before .is-empty .ensures) ∙ c .if2 .taken) in
+    let none-new : # width (members (whole (c .before .before .difference .result))) ≡ 0 = eqb-true _ 0 (sym (c .before .is-empty .ensures) ∙ c .if2 .taken) in
     λ E s h b. (
       (λ k. absurd (omega arith)),
       λ k. final s _ E h _ _ _ _ _ _ (l .inv .1 E s h b) (c .before .before .before .before .before .scan .ensures) (c .before .before .before .if1 .left) (omega arith) (rw (c .before .before .difference .ensures) at none-new),
@@ -63,10 +64,10 @@ union-requires : tie.Need-union-requires Inv-loop μ-loop
 union-requires c κs = search needs
 
 add-depth : tie.Need-add-depth Inv-loop μ-loop
-add-depth c = omega (arith, grown c, #-le width (members (c .union .result)))
+add-depth c = omega (arith, grown c, #-le width (members (whole (c .union .result))))
 
 loop-less : tie.Need-loop-less Inv-loop μ-loop
-loop-less c = omega (arith, grown c, #-le width (members (c .union .result)))
+loop-less c = omega (arith, grown c, #-le width (members (whole (c .union .result))))
 
 loop-again : tie.Need-loop-again Inv-loop μ-loop
 loop-again c =

@@ -1,5 +1,7 @@
 -- `exchange::search::touches` meets its contract. Assumes nothing.
-use mathlib.Core.Path.{_∙_, sym}
+use Prim.Native.Nat.{ℕ}
+use mathlib.Core.Path.{_∙_, sym, ap}
+use Rattle.columns.specs.Columns.{members}
 use Rattle.exchange.specs.Code.Scanning.{touched-constant, touched-parameter}
 use borrow.Author.Needs.{needs}
 use native.Mathlib.Omega.{arith}
@@ -18,11 +20,8 @@ mul-result c = search needs
 element-copy-out-result : tie.Need-element-copy-out-result
 element-copy-out-result c = search needs
 
-mul-contains : tie.Need-mul-contains
-mul-contains c = search needs
-
-shared-slice-read-contains : tie.Need-shared-slice-read-contains
-shared-slice-read-contains c = search needs
+row-requires : tie.Need-row-requires
+row-requires c κs = search needs
 
 contains-requires : tie.Need-contains-requires
 contains-requires c κs = search needs
@@ -31,7 +30,7 @@ returns : tie.Need-returns
 returns c = sym (touched-constant _ _ _ _ _ (omega arith))
 
 returns-2 : tie.Need-returns-2
-returns-2 c = c .contains .ensures ∙ sym (touched-parameter _ _ _ _ _ (omega arith))
+returns-2 c = c .contains .ensures ∙ ap (λ (w : ℕ). members w (c .before .before .before .before .args .x)) (c .before .row .ensures) ∙ sym (touched-parameter _ _ _ _ _ (omega arith))
 
 pub touches-spec : {M : Type 1} → statement M
 touches-spec =
@@ -41,8 +40,7 @@ touches-spec =
     add-i
     mul-result
     element-copy-out-result
-    mul-contains
-    shared-slice-read-contains
+    row-requires
     contains-requires
     returns
     returns-2)

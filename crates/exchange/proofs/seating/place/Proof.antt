@@ -3,35 +3,64 @@
 use Prim.Native.Nat.{ℕ, _+_, _-_, _*_, _<_, _≤_}
 use mathlib.Core.Path.{_≡_, ap, _∙_, subst}
 use mathlib.Core.Bool.{true≢false, false≢true}
-use lib.ListN.{length}
+use mathlib.Core.List.{List}
 use Rattle.counting.specs.Sets.{Set}
 use Rattle.columns.specs.Columns.{members, none, inserted}
+use Rattle.columns.specs.ColumnSets.{whole, row-numbers}
+use Rattle.columns.specs.Words.Sets.{empty-none}
 use Rattle.rank.specs.Graph.Closed.{Closed}
 use Rattle.rank.specs.Graph.Layers.{layer}
 use Rattle.exchange.specs.Code.Cells.{Below}
+use Rattle.exchange.specs.Code.Scanning.{Lengths, Arrays}
 use Rattle.exchange.specs.Code.Held.{held-shows}
-use Rattle.exchange.specs.Code.Placing.{Seeks, seeks, Finds, Holds, holds-first, same-placed-refl, found-below, turn-holds, turn-nearer, last-turn}
+use Rattle.exchange.specs.Code.Placing.{Seeks, seeks, Finds, finds, Holds, holds-first, same-placed-refl, found-below, turn-holds, turn-nearer, last-turn}
 use borrow.Author.Needs.{needs}
 use native.Mathlib.Omega.{arith}
 use Rattle.exchange.proofs.seating.place.Statement.{statement}
 use Rattle.exchange.proofs.seating.place.Tie as tie
 
 abbrev Inv-loop : tie.InvT-loop
-Inv-loop t₀ owner₀ parameters p n a b j rows start f₀ t owner f = (length t ≡ 4096) × (length owner ≡ 128) × Below p t × (f .row < a + b) × Finds p n a b parameters j t owner (f .column) (f .row) (f .depth) × Holds p n a b parameters j t₀ owner₀ t owner
+Inv-loop t₀ owner₀ parameters p n a b j rows start f₀ t owner f = Arrays p n a b t owner × Finds n a b (row-numbers parameters) j t owner f × Holds p n a b (row-numbers parameters) j t₀ owner₀ t owner
 
 abbrev μ-loop : tie.MeasureT-loop
 μ-loop t₀ owner₀ parameters p n a b j rows start f₀ t owner f = f .depth
 
+-- the arrays after a seat
+seated : {p n a b : ℕ} {t o t′ o′ : List ℕ} → Arrays p n a b t o → Lengths n a (a + b) t′ o′ → Below p t′ → Arrays p n a b t′ o′
+seated w l bt = record { lengths = l; below = bt; prime = w .prime }
+
 -- the search starts from column j alone
-starts : (c : tie.After-with Inv-loop μ-loop) → members (c .with .result) ≡ inserted none (c .before .before .before .args .j)
-starts c = c .with .ensures ∙ ap (λ (S : Set). inserted S (c .before .before .before .args .j)) (c .before .empty .ensures)
+starts : (c : tie.After-with Inv-loop μ-loop) → members (whole (c .with .result)) ≡ inserted none (c .before .before .before .args .j)
+starts c = c .with .ensures ∙ ap (λ (S : Set). inserted S (c .before .before .before .args .j)) (empty-none (c .before .empty .ensures))
 
 first-seeks : (c : tie.After-search Inv-loop μ-loop)
-    → let k = c .before .before .before .before .before .before in let a = k .args in
-    Seeks (a .p) (a .n) (a .a) (a .b) (a .parameters .now) (a .j) (a .t .now) (a .owner .now) (c .search .result .column) (c .search .result .row) (c .search .result .depth) (members (c .search .result .reached))
-first-seeks c =
-    let k = c .before .before .before .before .before .before in let a = k .args in
-    seeks (a .p) (a .n) (a .a) (a .b) (a .parameters .now) (a .j) (a .t .now) (a .owner .now) _ _ _ _ _ (omega arith) (omega arith) (starts (c .before .before .before)) (c .search .ensures)
+    → let a = c .before .before .before .before .before .before .args in Seeks (a .n) (a .a) (a .b) (row-numbers (a .parameters .now)) (a .j) (a .t .now) (a .owner .now) (c .search .result)
+first-seeks c = seeks (c .search .result) _ (omega arith) (omega arith) (starts (c .before .before .before)) (c .search .ensures)
+
+-- where the call began, and where the loop did
+
+abbrev entry : tie.At-loop Inv-loop μ-loop → tie.Start Inv-loop μ-loop
+entry k = k .before .before .before .before .before .before .before .before .before
+
+abbrev turn : tie.After-search2 Inv-loop μ-loop → tie.At-loop Inv-loop μ-loop
+turn c = c .before .before .before .before .before .before .before .before
+
+-- what a turn of the loop has, when it has searched again
+
+turned-arrays : (c : tie.After-search2 Inv-loop μ-loop) → let a = entry (turn c) .args in let st = c .before .before .before .seat in Arrays (a .p) (a .n) (a .a) (a .b) (st .last .0) (st .last .1 .0)
+turned-arrays c = let st = c .before .before .before .seat in seated (turn c .loop .inv .0) (st .ensures .0) (st .ensures .1)
+
+turned-seeks : (c : tie.After-search2 Inv-loop μ-loop) → let a = entry (turn c) .args in let st = c .before .before .before .seat in
+    Seeks (a .n) (a .a) (a .b) (row-numbers (a .parameters .now)) (a .j) (st .last .0) (st .last .1 .0) (c .search2 .result)
+turned-seeks c =
+    let given = entry (turn c) .pre in
+    seeks (c .search2 .result) _ (given .1) (omega (arith, given .0 .lengths .columns)) (starts (turn c .before .before .before .before .before .before)) (c .search2 .ensures)
+
+turned-nearer : (c : tie.After-search2 Inv-loop μ-loop) → let a = entry (turn c) .args in (c .search2 .result .row < a .a + a .b) × (c .search2 .result .depth < turn c .loop .f .depth)
+turned-nearer c =
+    let v = turn c .loop .inv in
+    let given = entry (turn c) .pre .2 in
+    turn-nearer (v .0) (v .1) (v .2) (turned-arrays c) (c .before .before .before .before .before .before .if2 .taken) (c .before .before .before .seat .ensures .2) (turned-seeks c) (given .0) (given .2) (given .1)
 
 add-rows : tie.Need-add-rows Inv-loop μ-loop
 add-rows c = search needs
@@ -47,72 +76,46 @@ search-requires c κs = search needs
 
 returns : tie.Need-returns Inv-loop μ-loop
 returns c =
-    let k = c .before .before .before .before .before .before .before .before in
-    let a = k .args in (
-      search needs,
-      search needs,
-      k .pre .8,
+    let s = c .before .before .before .before .before .before .before .before in
+    let a = s .args in
+    let found = first-seeks (c .before .before) in (
+      s .pre .0,
       λ G h e new. (
         h,
         (λ d. absurd (false≢true d)),
-        λ d. (same-placed-refl (h .s), first-seeks (c .before .before) (G .E) (h .s) (held-shows (a .p) (a .n) (a .a) (a .b) (a .parameters .now) G (k .pre .7) (a .t .now) (a .owner .now) (k .pre .8) h) e .1 (omega arith) .is-closed),
+        λ d. (same-placed-refl (h .s), found .says (G .E) (h .s) (held-shows (a .p) (a .n) (a .a) (a .b) (row-numbers (a .parameters .now)) G (a .t .now) (a .owner .now) (s .pre .0) h) e .1 (omega arith) .is-closed),
       ),
     )
 
 loop-holds : tie.Need-loop-holds Inv-loop μ-loop
-loop-holds c =
-    let k = c .before .before .before .before .before .before .before .before in
-    let a = k .args in
-    (search needs, search needs, k .pre .8, search needs, (λ E s h e. first-seeks (c .before .before) E s h e .0 (omega arith)), holds-first (a .p) (a .n) (a .a) (a .b) (a .parameters .now) (a .j) (a .t .now) (a .owner .now))
+loop-holds c = (c .before .before .before .before .before .before .before .before .pre .0, finds (omega arith) (first-seeks (c .before .before)), holds-first)
 
 seat-requires : tie.Need-seat-requires Inv-loop μ-loop
 seat-requires c κs =
-    let l = c .before .before .before .before .loop in
-    let k = c .before .before .before .before .before .before .before .before .before .before .before .before .before in
-    let a = k .args in
-    (search needs, search needs, search needs, search needs, search needs, found-below (a .p) (a .n) (a .a) (a .b) (a .parameters .now) (a .j) (k .pre .7) (a .t .now) (a .owner .now) (l .t) (l .owner) (l .inv .2) (l .inv .1) (omega arith) (l .f .column) (l .f .row) (l .f .depth) (l .inv .4) (l .inv .5) (k .pre .9 .0) (k .pre .9 .2) (k .pre .9 .1), search needs, l .inv .2)
+    let k = c .before .before .before .before in
+    let v = k .loop .inv in
+    let given = entry k .pre .2 in
+    (v .0 .lengths, v .0 .below, found-below (v .0) (v .1) (v .2) (given .0) (given .2) (given .1), v .1 .at-row)
 
 search-requires-2 : tie.Need-search-requires-2 Inv-loop μ-loop
 search-requires-2 c κs = search needs
 
 loop-less : tie.Need-loop-less Inv-loop μ-loop
-loop-less c =
-    let l = c .before .before .before .before .before .before .before .before .loop in
-    let k = c .before .before .before .before .before .before .before .before .before .before .before .before .before .before .before .before .before in
-    let a = k .args in
-    let w = c .before .before .before .before .before .before .before .before .before .before .before .before .before .before in
-    let st = c .before .before .before .seat in
-    let R = seeks (a .p) (a .n) (a .a) (a .b) (a .parameters .now) (a .j) (st .last .0) (st .last .1 .0) _ _ _ _ _ (omega arith) (omega arith) (starts w) (c .search2 .ensures) in
-    let near = turn-nearer (a .p) (a .n) (a .a) (a .b) (a .parameters .now) (a .j) (k .pre .7) (a .t .now) (a .owner .now) (l .t) (l .owner) (l .inv .2) (l .inv .1) (omega arith) (l .f .column) (l .f .row) (l .f .depth) (l .inv .4) (l .inv .5) (st .last .0) (st .last .1 .0) (st .ensures .2) (c .before .before .before .before .before .before .if2 .taken) (st .ensures .3) _ _ _ _ R (k .pre .9 .0) (k .pre .9 .2) (k .pre .9 .1) in
-    near .1
+loop-less c = turned-nearer c .1
 
 loop-again : tie.Need-loop-again Inv-loop μ-loop
 loop-again c =
-    let l = c .before .before .before .before .before .before .before .before .loop in
-    let k = c .before .before .before .before .before .before .before .before .before .before .before .before .before .before .before .before .before in
-    let a = k .args in
-    let w = c .before .before .before .before .before .before .before .before .before .before .before .before .before .before in
-    let st = c .before .before .before .seat in
-    let R = seeks (a .p) (a .n) (a .a) (a .b) (a .parameters .now) (a .j) (st .last .0) (st .last .1 .0) _ _ _ _ _ (omega arith) (omega arith) (starts w) (c .search2 .ensures) in
-    let near = turn-nearer (a .p) (a .n) (a .a) (a .b) (a .parameters .now) (a .j) (k .pre .7) (a .t .now) (a .owner .now) (l .t) (l .owner) (l .inv .2) (l .inv .1) (omega arith) (l .f .column) (l .f .row) (l .f .depth) (l .inv .4) (l .inv .5) (st .last .0) (st .last .1 .0) (st .ensures .2) (c .before .before .before .before .before .before .if2 .taken) (st .ensures .3) _ _ _ _ R (k .pre .9 .0) (k .pre .9 .2) (k .pre .9 .1) in
-    (search needs, search needs, st .ensures .2, near .0, (λ E s h e. R E s h e .0 (near .0)), turn-holds (a .p) (a .n) (a .a) (a .b) (a .parameters .now) (a .j) (k .pre .7) (a .t .now) (a .owner .now) (l .t) (l .owner) (l .inv .2) (l .inv .1) (omega arith) (l .f .column) (l .f .row) (l .f .depth) (l .inv .4) (l .inv .5) (st .last .0) (st .last .1 .0) (st .ensures .2) (c .before .before .before .before .before .before .if2 .taken) (st .ensures .3) _ _ _ _ R)
+    let v = turn c .loop .inv in
+    (turned-arrays c, finds (turned-nearer c .0) (turned-seeks c), turn-holds (v .0) (v .1) (v .2) (turned-arrays c) (c .before .before .before .before .before .before .if2 .taken) (c .before .before .before .seat .ensures .2) (turned-seeks c))
 
 seat-requires-2 : tie.Need-seat-requires-2 Inv-loop μ-loop
-seat-requires-2 c κs =
-    let l = c .before .before .before .before .loop in
-    (search needs, search needs, search needs, search needs, search needs, search needs, search needs, l .inv .2)
+seat-requires-2 c κs = let v = c .before .before .before .before .loop .inv in (v .0 .lengths, v .0 .below, search needs, v .1 .at-row)
 
 returns-2 : tie.Need-returns-2 Inv-loop μ-loop
 returns-2 c =
-    let l = c .before .before .before .before .before .loop in
-    let k = c .before .before .before .before .before .before .before .before .before .before .before .before .before .before in
-    let a = k .args in (
-      c .seat2 .ensures .0,
-      c .seat2 .ensures .1,
-      c .seat2 .ensures .2,
-      λ G h e new.
-          let v = last-turn (a .p) (a .n) (a .a) (a .b) (a .parameters .now) (a .j) (k .pre .7) (a .t .now) (a .owner .now) (l .t) (l .owner) (l .inv .2) (l .inv .1) (omega arith) (l .f .column) (l .f .row) (l .f .depth) (l .inv .4) (l .inv .5) _ _ (omega arith) (c .seat2 .ensures .3) G h e new in
-          (v .0, (λ d. v .1), λ d. absurd (true≢false d)),
+    let v = c .before .before .before .before .before .loop .inv in (
+      seated (v .0) (c .seat2 .ensures .0) (c .seat2 .ensures .1),
+      λ G h e new. let w = last-turn (v .0) (v .1) (v .2) _ _ (omega arith) (c .seat2 .ensures .2) G h e new in (w .0, (λ d. w .1), λ d. absurd (true≢false d)),
     )
 
 pub place-spec : {M : Type 1} → statement M

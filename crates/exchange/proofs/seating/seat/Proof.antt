@@ -20,10 +20,20 @@ pivot-requires : tie.Need-pivot-requires
 pivot-requires c κs = search needs
 
 returns : tie.Need-returns
-returns c = (c .pivot .ensures .0, search needs, c .pivot .ensures .2, record { middle = _; vacated = c .before .before .before .vacate .ensures .1; owners = refl; pivoted = λ l. c .pivot .ensures .1; kept = λ l. absurd (omega arith) })
+returns c =
+    let l = c .before .before .before .before .before .pre .0 in (
+      record { tableau = c .pivot .ensures .0 .full; owners = search needs; columns = l .columns; constant-rows = l .constant-rows; all-rows = l .all-rows },
+      c .pivot .ensures .0 .below,
+      record { middle = _; vacated = c .before .before .before .vacate .ensures .1; owners = refl; pivoted = λ l. c .pivot .ensures .1; kept = λ l. absurd (omega arith) },
+    )
 
 returns-2 : tie.Need-returns-2
-returns-2 c = (search needs, search needs, c .before .before .before .pre .7, record { middle = _; vacated = c .before .vacate .ensures .1; owners = refl; pivoted = λ l. absurd (omega arith); kept = λ l. refl })
+returns-2 c =
+    let l = c .before .before .before .pre .0 in (
+      record { tableau = l .tableau; owners = search needs; columns = l .columns; constant-rows = l .constant-rows; all-rows = l .all-rows },
+      c .before .before .before .pre .1,
+      record { middle = _; vacated = c .before .vacate .ensures .1; owners = refl; pivoted = λ l. absurd (omega arith); kept = λ l. refl },
+    )
 
 pub seat-spec : {M : Type 1} → statement M
 seat-spec =

@@ -6,6 +6,7 @@ use lib.ListN.{drop}
 use lib.Seq.{take-all}
 use Rattle.columns.specs.Bytes.{number}
 use Rattle.columns.specs.Columns.{within}
+use Rattle.columns.specs.ColumnSets.{whole}
 use Rattle.limits.specs.Limits.{set-bytes}
 use Rattle.format.specs.Refusals.{head-bytes}
 use Rattle.format.specs.File.Piece.{head-tests, Judgement}
@@ -21,7 +22,7 @@ head : (c : tie.After-judge-head) → let a = c .before .before .before .args in
 head c = rw (c .before .parameter-size .ensures) at (c .judge-head .ensures)
 
 -- the row's set is the number of its body
-set : (c : tie.After-of-bytes) → c .of-bytes .result ≡ number (c .before .said-body .result .now)
+set : (c : tie.After-of-bytes) → whole (c .of-bytes .result) ≡ number (c .before .said-body .result .now)
 set c =
     let a = c .before .before .before .before .before .before .before .args in
     let b = c .before .said-body in

@@ -10,6 +10,7 @@ use lib.ListN.{length, getD, take, drop, length-drop, drop-of-length-le}
 use lib.Seq.{drop-cons, getD-take}
 use borrow.Author.Tests.{le-leb, lt-leb}
 use Rattle.columns.specs.Bytes.{bytes-of}
+use Rattle.columns.specs.ColumnSets.{whole}
 use Rattle.limits.specs.Limits.{set-bytes}
 use Rattle.format.specs.Refusals.{area-test}
 use Rattle.format.specs.RefusalLaws.{first-fails, zero-unless}
@@ -19,14 +20,14 @@ use Rattle.format.proofs.sets.put_set_front.Statement.{statement}
 use Rattle.format.proofs.sets.put_set_front.Tie as tie
 
 abbrev Inv-loop : tie.InvT-loop
-Inv-loop out₀ set many end at₀ out at = let all = take many (bytes-of set-bytes set) in Wrote all (drop at all) out₀ out at × (at ≤ length all)
+Inv-loop out₀ set many end at₀ out at = let all = take many (bytes-of set-bytes (whole set)) in Wrote all (drop at all) out₀ out at × (at ≤ length all)
 
 abbrev μ-loop : tie.MeasureT-loop
 μ-loop out₀ set many end at₀ out at = end - at
 
 -- so many bytes are written
-end-is : (c : tie.After-at-most-all Inv-loop μ-loop) → c .at-most-all .result ≡ length (take (c .before .before .args .many) (bytes-of set-bytes (c .before .before .args .set)))
-end-is c = c .at-most-all .ensures ∙ sym (front-length (c .before .before .args .many) (bytes-of set-bytes (c .before .before .args .set)))
+end-is : (c : tie.After-at-most-all Inv-loop μ-loop) → c .at-most-all .result ≡ length (take (c .before .before .args .many) (bytes-of set-bytes (whole (c .before .before .args .set))))
+end-is c = c .at-most-all .ensures ∙ sym (front-length (c .before .before .args .many) (bytes-of set-bytes (whole (c .before .before .args .set))))
 
 at-most-all-requires : tie.Need-at-most-all-requires Inv-loop μ-loop
 at-most-all-requires c κs = search needs
@@ -36,7 +37,7 @@ unfolding area-test
 returns c =
     let e = end-is (c .before) in
     let a = c .before .before .before .args in
-    let short : length (a .out .now) < length (take (a .many) (bytes-of set-bytes (a .set))) = omega arith in
+    let short : length (a .out .now) < length (take (a .many) (bytes-of set-bytes (whole (a .set)))) = omega arith in
     record { refusal-is = first-fails _ _ _ (lt-leb _ _ short); bytes-are = over-no-room _ _ short }
 
 loop-holds : tie.Need-loop-holds Inv-loop μ-loop
@@ -49,7 +50,7 @@ slice-write-out : tie.Need-slice-write-out Inv-loop μ-loop
 slice-write-out c =
     let l = c .before .before .loop in
     let a = c .before .before .before .before .before .before .args in
-    omega (arith, end-is (c .before .before .before .before), l .inv .0 .room, length-drop (l .at) (take (a .many) (bytes-of set-bytes (a .set))))
+    omega (arith, end-is (c .before .before .before .before), l .inv .0 .room, length-drop (l .at) (take (a .many) (bytes-of set-bytes (whole (a .set)))))
 
 add-at : tie.Need-add-at Inv-loop μ-loop
 add-at c = let e = end-is (c .before .before .before .before) in omega arith
@@ -61,7 +62,7 @@ loop-again : tie.Need-loop-again Inv-loop μ-loop
 loop-again c =
     let l = c .before .before .loop in
     let a = c .before .before .before .before .before .before .args in
-    let set = bytes-of set-bytes (a .set) in
+    let set = bytes-of set-bytes (whole (a .set)) in
     let all = take (a .many) set in
     let e = end-is (c .before .before .before .before) in
     let f = front-length (a .many) set in
@@ -78,7 +79,7 @@ unfolding area-test
 returns-2 c =
     let l = c .before .loop in
     let a = c .before .before .before .before .before .args in
-    let all = take (a .many) (bytes-of set-bytes (a .set)) in
+    let all = take (a .many) (bytes-of set-bytes (whole (a .set))) in
     let e = end-is (c .before .before .before) in
     let fits : length all ≤ length (a .out .now) = omega arith in
     record {

@@ -3,9 +3,10 @@ use borrow.Author.Needs.{needs}
 use native.Mathlib.Omega.{arith}
 use Prim.Native.Nat.{ℕ, _-_, _*_, _≤_}
 use mathlib.Core.List.{List}
-use mathlib.Core.Path.{_≡_, sym, ap, _∙_}
+use mathlib.Core.Path.{_≡_, refl, sym, ap, _∙_}
 use native.Mathlib.Nat.{mul-le-mul, le-of-lt}
 use lib.ListN.{length, take, drop}
+use Rattle.columns.specs.ColumnSets.{row-numbers}
 use Rattle.columns.specs.Words.Bytes.{AreBytes}
 use Rattle.format.specs.declared.header.Header.{Header}
 use Rattle.format.specs.Lists.{over}
@@ -42,9 +43,9 @@ sizes : (c : tie.Else1) → let z = c .before .before .sizes-of .result in Sizes
 sizes c = numbers-accepted (numbers (c .before .before)) (accepted c)
 
 -- the rows stand behind two fields
-rows : (c : tie.After-left-after) → let s = c .before .before .before .before .before .before .before .before .before .before .before .args .file .now in let left = c .left-after .result in
+rows : (c : tie.After-left-after) → let s = c .before .before .before .before .before .before .before .before .before .before .before .before .before .args .file .now in let left = c .left-after .result in
     take (length s - (length s - left)) (drop (length s - left) s) ≡ rows-part s
-rows c = left-part (said-rests-ends 2 _) (c .left-after .ensures) ∙ rows-said _ (accepted (c .before .before .before .before))
+rows c = left-part (said-rests-ends 2 _) (c .left-after .ensures) ∙ rows-said _ (accepted (c .before .before .before .before .before .before))
 
 read-header-requires : tie.Need-read-header-requires
 read-header-requires c κs = search needs
@@ -56,8 +57,7 @@ returns : tie.Need-returns
 returns c = reading-refused _ _ _ (numbers (c .before .before)) (c .if1 .taken)
 
 mul-if2 : tie.Need-mul-if2
-mul-if2 c =
-    let z = c .before .before .before .sizes-of in
+mul-if2 c = let z = c .before .before .before .sizes-of in
     let m : z .result .a * z .result .n ≤ 256 * 256 = mul-le-mul (le-of-lt (z .ensures .6)) (le-of-lt (z .ensures .5)) in
     omega arith
 
@@ -65,19 +65,23 @@ no-sizes-requires : tie.Need-no-sizes-requires
 no-sizes-requires c κs = search needs
 
 returns-2 : tie.Need-returns-2
-returns-2 c =
-    let z = c .no-sizes .ensures in
+returns-2 c = let z = c .no-sizes .ensures in
     let d = c .before .before .before in
     rw (z .0, z .1, z .2, z .3, z .4) (constants-short _ _ _ (accepted d) (sizes d) (c .before .if2 .taken))
+
+rows-requires : tie.Need-rows-requires
+rows-requires c κs = search needs
 
 no-sizes-requires-2 : tie.Need-no-sizes-requires-2
 no-sizes-requires-2 c κs = search needs
 
+same-length : tie.Need-same-length
+same-length c = refl
+
 returns-3 : tie.Need-returns-3
-returns-3 c =
-    let z = c .no-sizes2 .ensures in
-    let d = c .before .before .before .before in
-    rw (z .0, z .1, z .2, z .3, z .4) (parameters-short _ _ _ (accepted d) (sizes d) (c .before .before .if2 .left) (c .before .if3 .taken))
+returns-3 c = let z = c .no-sizes2 .ensures in
+    let d = c .before .before .before .before .before .before in
+    rw (z .0, z .1, z .2, z .3, z .4) (parameters-short _ _ _ (accepted d) (sizes d) (c .before .before .before .before .if2 .left) (rw (c .before .before .rows .ensures) at (c .before .if3 .taken)))
 
 left-after-requires : tie.Need-left-after-requires
 left-after-requires c κs = search needs
@@ -95,10 +99,9 @@ part-rows-end : tie.Need-part-rows-end
 part-rows-end c = search needs
 
 read-constants-requires : tie.Need-read-constants-requires
-read-constants-requires c κs =
-    let d = c .before .before .before .before .before .before in
+read-constants-requires c κs = let d = c .before .before .before .before .before .before .before .before in
     let x = sizes d in
-    rw (rows (c .before .before), x .a-is, constants-count _ (bytes (c .before .before .before .before .before .before .before .before .before .before .before .before)) (accepted d)) (rw (x .a-is, x .n-is) at (c .before .before .before .before .if2 .left))
+    rw (rows (c .before .before), x .a-is, constants-count _ (bytes (c .before .before .before .before .before .before .before .before .before .before .before .before .before .before)) (accepted d)) (rw (x .a-is, x .n-is) at (c .before .before .before .before .before .before .if2 .left))
 
 left-after-requires-2 : tie.Need-left-after-requires-2
 left-after-requires-2 c κs = search needs
@@ -118,22 +121,21 @@ part-read-parameters-end c = search needs
 read-parameters-requires : tie.Need-read-parameters-requires
 read-parameters-requires c κs = search needs
 
-same-length : tie.Need-same-length
-same-length c = search needs
-
 same-length-2 : tie.Need-same-length-2
 same-length-2 c = search needs
 
+same-length-3 : tie.Need-same-length-3
+same-length-3 c = search needs
+
 returns-4 : tie.Need-returns-4
-returns-4 c =
-    let args = c .before .before .before .before .before .before .before .before .before .before .before .before .before .before .before .before .before .before .before .before .before .before .args in
-    let d = c .before .before .before .before .before .before .before .before .before .before .before .before .before .before .before in
-    let z = c .before .before .before .before .before .before .before .before .before .before .before .before .before .before .before .before .before .sizes-of in
+returns-4 c = let args = c .before .before .before .before .before .before .before .before .before .before .before .before .before .before .before .before .before .before .before .before .before .before .before .before .args in
+    let d = c .before .before .before .before .before .before .before .before .before .before .before .before .before .before .before .before .before in
+    let z = d .before .before .sizes-of in
     let t = rows (c .before .before .before .before .before .before .before .before .before .before .before) in
     let constants = c .before .before .before .before .before .before .before .before .read-constants .ensures ∙ ap (λ (u : List ℕ). over (constants-said (z .result .a) u) (args .constants .now)) t in
     let left = left-part (said-rests-ends (z .result .a) _) (c .before .before .before .before .before .left-after2 .ensures) ∙ ap (said-rests (z .result .a)) t in
-    let parameters = c .before .before .read-parameters .ensures ∙ ap (λ (u : List ℕ). over (parameters-said (z .result .b) u) (args .parameters .now)) left in
-    rw (d .if1 .left) (reading-done _ _ _ (accepted d) (sizes d) (c .before .before .before .before .before .before .before .before .before .before .before .before .before .if2 .left) (c .before .before .before .before .before .before .before .before .before .before .before .before .if3 .left) _ _ constants parameters)
+    let parameters = c .before .before .read-parameters .ensures ∙ ap (λ (u : List ℕ). over (parameters-said (z .result .b) u) (row-numbers (args .parameters .now))) left in
+    rw (d .if1 .left) (reading-done _ _ _ (accepted d) (sizes d) (c .before .before .before .before .before .before .before .before .before .before .before .before .before .before .before .if2 .left) (rw (c .before .before .before .before .before .before .before .before .before .before .before .before .before .rows .ensures) at (c .before .before .before .before .before .before .before .before .before .before .before .before .if3 .left)) _ _ constants parameters)
 
 pub read-file-spec : {M : Type 1} → statement M
 read-file-spec =
@@ -145,7 +147,9 @@ read-file-spec =
     mul-if2
     no-sizes-requires
     returns-2
+    rows-requires
     no-sizes-requires-2
+    same-length
     returns-3
     left-after-requires
     sub-at
@@ -159,6 +163,6 @@ read-file-spec =
     part-read-parameters-start
     part-read-parameters-end
     read-parameters-requires
-    same-length
     same-length-2
+    same-length-3
     returns-4)

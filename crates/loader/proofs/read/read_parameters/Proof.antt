@@ -7,6 +7,8 @@ use mathlib.Core.List.{List}
 use mathlib.Core.Path.{_≡_, refl, sym, ap, _∙_}
 use lib.ListN.{length, take}
 use Rattle.columns.specs.Bytes.{number}
+use Rattle.columns.specs.ColumnSets.{whole, row-numbers}
+use Rattle.columns.specs.Words.Rows.{rows-with-row, with-row-length}
 use Rattle.limits.specs.Limits.{set-bytes}
 use Rattle.format.specs.File.Piece.{said-body}
 use Rattle.format.specs.File.Steps.{parameters-said}
@@ -16,20 +18,15 @@ use Rattle.loader.proofs.read.read_parameters.Statement.{statement}
 use Rattle.loader.proofs.read.read_parameters.Tie as tie
 
 abbrev Inv-loop : tie.InvT-loop
-Inv-loop out₀ file b rest₀ at₀ out rest at = Wrote (parameters-said b file) (parameters-said (b - at) rest) out₀ out at × (at ≤ b)
+Inv-loop out₀ file b rest₀ at₀ out rest at = Wrote (parameters-said b file) (parameters-said (b - at) rest) (row-numbers out₀) (row-numbers out) at × (at ≤ b) × (length out ≡ length out₀)
 
 abbrev μ-loop : tie.MeasureT-loop
 μ-loop out₀ file b rest₀ at₀ out rest at = b - at
 
--- while rows are left, the area has room for the next one
-room : (c : tie.After-of-bytes Inv-loop μ-loop) → c .before .before .before .loop .at + 1 ≤ length (c .before .before .before .loop .out)
-room c = let l = c .before .before .before .loop in omega (arith, parameters-length (c .before .before .before .before .before .before .args .b - l .at) (l .rest .now), l .inv .0 .room)
-
 loop-holds : tie.Need-loop-holds Inv-loop μ-loop
-loop-holds c =
-    let a = c .before .before .args in
+loop-holds c = let a = c .before .before .args in
     let all : a .b - 0 ≡ a .b = omega arith in
-    (rw all (wrote-none _ _ (omega (arith, parameters-length (a .b) (a .file .now)))), omega arith)
+    (rw all (wrote-none _ _ (omega (arith, parameters-length (a .b) (a .file .now), c .before .before .pre))), omega arith, refl)
 
 said-body-requires : tie.Need-said-body-requires Inv-loop μ-loop
 said-body-requires c κs = search needs
@@ -37,33 +34,35 @@ said-body-requires c κs = search needs
 of-bytes-requires : tie.Need-of-bytes-requires Inv-loop μ-loop
 of-bytes-requires c κs = search needs
 
-mul-out : tie.Need-mul-out Inv-loop μ-loop
-mul-out c = omega (arith, room c)
-
-slice-write-out : tie.Need-slice-write-out Inv-loop μ-loop
-slice-write-out c = omega (arith, room c)
+put-row-requires : tie.Need-put-row-requires Inv-loop μ-loop
+put-row-requires c κs = search needs
 
 said-rest-requires : tie.Need-said-rest-requires Inv-loop μ-loop
 said-rest-requires c κs = search needs
 
 add-at : tie.Need-add-at Inv-loop μ-loop
-add-at c = omega (arith, room (c .before))
+add-at c = omega arith
 
 loop-less : tie.Need-loop-less Inv-loop μ-loop
 loop-less c = omega arith
 
 loop-again : tie.Need-loop-again Inv-loop μ-loop
 loop-again c =
-    let l = c .before .before .before .before .loop in
+    let put = c .before .before .before .put-row in
+    let of-bytes = c .before .before .before .before .of-bytes in
+    let body = c .before .before .before .before .before .said-body in
+    let k = c .before .before .before .before .before .before .before .before in
+    let l = k .loop in
     let r = l .rest .now in
-    let b = c .before .before .before .before .before .before .before .args .b in
-    let set = c .before .of-bytes in
+    let b = k .before .before .before .args .b in
+    let w = whole (of-bytes .result) in
     let q : b - l .at - 1 ≡ b - (l .at + 1) = omega arith in
-    let body : number (take set-bytes (said-body r)) ≡ set .result = ap (λ (t : List ℕ). number (take set-bytes t)) (sym (c .before .before .said-body .ensures .bytes-are)) ∙ sym (set .ensures) in
-    (wrote-set (set .result) _ (l .inv .0) (parameters-next (b - l .at) r (omega arith) ∙ rw (q, body, ← c .said-rest .ensures .bytes-are) refl), omega arith)
+    let is-row : number (take set-bytes (said-body r)) ≡ w = ap (λ (t : List ℕ). number (take set-bytes t)) (sym (body .ensures)) ∙ sym (of-bytes .ensures) in
+    let written = ap row-numbers (put .ensures) ∙ rows-with-row (l .out) (l .at) w in
+    (rw written (wrote-set w _ (l .inv .0) (parameters-next (b - l .at) r (omega arith) ∙ rw (q, is-row, ← c .said-rest .ensures .bytes-are) refl)), omega arith, ap length (put .ensures) ∙ with-row-length (l .out) (l .at) w ∙ l .inv .2)
 
 same-length : tie.Need-same-length Inv-loop μ-loop
-same-length c = c .before .loop .inv .0 .same
+same-length c = c .before .loop .inv .2
 
 returns : tie.Need-returns Inv-loop μ-loop
 returns c = let l = c .before .loop in wrote-all (l .inv .0) (parameters-done _ _ (omega arith))
@@ -77,8 +76,7 @@ read-parameters-spec =
     loop-holds
     said-body-requires
     of-bytes-requires
-    mul-out
-    slice-write-out
+    put-row-requires
     said-rest-requires
     add-at
     loop-less
