@@ -1,6 +1,12 @@
 // The longest file: written, read, and written again.
 use crate::rows::looked_up;
 use crate::said;
+use limits::LARGEST_PRIME;
+use limits::LONGEST_FILE;
+use limits::MOST_COLUMNS;
+use limits::MOST_ROWS;
+
+const MOST_CONSTANTS: usize = MOST_ROWS * MOST_COLUMNS;
 
 fn fill_constants(constants: &mut [u16]) {
     let mut i = 0;
@@ -21,24 +27,32 @@ fn fill_parameters(parameters: &mut [u64]) {
 }
 
 pub fn there_and_back() {
-    let mut constants = [0u16; 4096];
-    let mut parameters = [0u64; 64];
+    let mut constants = [0u16; MOST_CONSTANTS];
+    let mut parameters = [0u64; MOST_ROWS];
     fill_constants(&mut constants);
     fill_parameters(&mut parameters);
-    let mut file = [0u8; 9102];
+    let mut file = [0u8; LONGEST_FILE];
     said::label(b"longest");
-    written(65521, 64, 64, 64, &constants, &parameters, &mut file);
+    written(
+        LARGEST_PRIME,
+        MOST_COLUMNS,
+        MOST_ROWS,
+        MOST_ROWS,
+        &constants,
+        &parameters,
+        &mut file,
+    );
     back(&file);
 }
 
 fn back(file: &[u8]) {
-    let mut constants = [0u16; 4096];
-    let mut parameters = [0u64; 64];
+    let mut constants = [0u16; MOST_CONSTANTS];
+    let mut parameters = [0u64; MOST_ROWS];
     let r = loader::read_file(file, &mut constants, &mut parameters);
     said::label(b"read");
     said::sizes(r);
     said::end_line();
-    let mut again = [0u8; 9102];
+    let mut again = [0u8; LONGEST_FILE];
     said::label(b"written again");
     written(r.p, r.n, r.a, r.b, &constants, &parameters, &mut again);
     said::label(b"same bytes");
@@ -48,10 +62,10 @@ fn back(file: &[u8]) {
 }
 
 fn looked_into(file: &[u8]) {
-    looked_up(file, 63);
-    looked_up(file, 64);
+    looked_up(file, MOST_ROWS - 1);
+    looked_up(file, MOST_ROWS);
     said::label(b"last byte missing");
-    said::number(format::judge_file(said::front(file, 9101)) as u64);
+    said::number(format::judge_file(said::front(file, LONGEST_FILE - 1)) as u64);
     said::end_line();
 }
 

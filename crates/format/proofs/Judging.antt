@@ -9,7 +9,7 @@ use lib.ListN.{length, take, drop, length-drop}
 use lib.Seq.{length-take-le}
 use borrow.Author.Tests.{le-leb, lt-leb}
 use Rattle.format.specs.declared.judge.Judged.{Judged}
-use Rattle.format.specs.Refusals.{Tests, _then_, head-bytes, first-refusal, head-test, due-test, body-test}
+use Rattle.format.specs.Refusals.{truncated, unexpected, number-of, Tests, _then_, head-bytes, first-refusal, head-test, due-test, body-test}
 use Rattle.format.specs.RefusalLaws.{first-fails, first-passes, first-none, then-refused, then-passed, zero-then, where-refused, accepted-value}
 use Rattle.format.specs.File.Piece.{Body, Piece, field, head-tests, many-tests, many-rest, seq, closed, Judgement, said-body, said-rest}
 use Rattle.format.specs.File.PieceLaws.{head-good}
@@ -59,17 +59,17 @@ module _ {ts : Tests} {rest : List ℕ} {r : Judged} (us : Tests) (j : Judgement
 -- ---- a field's head, from the tests that a reader makes
 
 module _ (tag size : ℕ) (s : List ℕ) where
-  pub head-none : length s < head-bytes → 1 ≡ first-refusal (head-tests tag size s)
+  pub head-none : length s < head-bytes → number-of truncated ≡ first-refusal (head-tests tag size s)
   unfolding head-tests head-test
   head-none l = first-fails _ _ _ (lt-leb head-bytes (length s) l)
 
   module _ (l : head-bytes ≤ length s) where
-    pub head-undue : due-test tag size s ≡ false → 2 ≡ first-refusal (head-tests tag size s)
+    pub head-undue : due-test tag size s ≡ false → number-of unexpected ≡ first-refusal (head-tests tag size s)
     unfolding head-tests head-test
     head-undue d = first-passes _ _ _ _ (le-leb head-bytes (length s) l) (first-fails _ _ _ d)
 
     module _ (d : due-test tag size s ≡ true) where
-      pub head-cut : body-test size s ≡ false → 1 ≡ first-refusal (head-tests tag size s)
+      pub head-cut : body-test size s ≡ false → number-of truncated ≡ first-refusal (head-tests tag size s)
       unfolding head-tests head-test
       head-cut e = first-passes _ _ _ _ (le-leb head-bytes (length s) l) (first-passes _ _ _ _ d (first-fails _ _ _ e))
 

@@ -1,4 +1,5 @@
 pub mod Entries
+pub mod Passing
 pub mod Parts
 pub mod Judging
 pub mod Headers

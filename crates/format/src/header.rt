@@ -1,7 +1,7 @@
-// What a file says before its rows, judged field by field: each function takes what the fields before said, and their refusal first.
+// What a file says before its rows, judged field by field: each function takes what the fields before said.
 ghost use mathlib.Core.Path.{_≡_};
 ghost use Rattle.format.specs.File.Format.{refused-header};
-ghost use Rattle.format.specs.File.Steps.{prime-said, sizes-said, rows-said};
+ghost use Rattle.format.specs.File.Steps.{prime-said, sizes-said, rows-said, next-said};
 use crate::content::prime_within;
 use crate::content::sizes_within;
 use crate::content::two;
@@ -24,6 +24,13 @@ pub struct Header {
     pub b: u8,
 }
 
+// Nothing is said yet.
+pub fn nothing_said() -> Header
+    ensures { λ r. ⌜ r ≡ refused-header 0 ⌝ }
+{
+    refused(0)
+}
+
 // A refusal alone.
 fn refused(refusal: u32) -> Header
     ensures { λ r. ⌜ r ≡ refused-header refusal ⌝ }
@@ -38,7 +45,7 @@ fn refused(refusal: u32) -> Header
 }
 
 // The field of p.
-pub fn prime_field(rest: &[u8]) -> Header
+fn prime_field(rest: &[u8]) -> Header
     ensures { λ r. ⌜ r ≡ prime-said (now (rest .entry)) ⌝ }
 {
     let head = judge_head(rest, PRIME_TAG, PRIME_BYTES);
@@ -60,12 +67,9 @@ pub fn prime_field(rest: &[u8]) -> Header
 }
 
 // The field of n, a, b, after that of p.
-pub fn sizes_field(rest: &[u8], before: Header) -> Header
+fn sizes_field(rest: &[u8], before: Header) -> Header
     ensures { λ r. ⌜ r ≡ sizes-said (now (rest .entry)) before ⌝ }
 {
-    if before.refusal != 0 {
-        return before;
-    }
     let head = judge_head(rest, SIZES_TAG, SIZES_BYTES);
     if head.refusal != 0 {
         return refused(head.refusal);
@@ -87,15 +91,28 @@ pub fn sizes_field(rest: &[u8], before: Header) -> Header
 }
 
 // The rows and the end, after the fields before them.
-pub fn row_fields(rest: &[u8], before: Header) -> Header
+fn row_fields(rest: &[u8], before: Header) -> Header
     ensures { λ r. ⌜ r ≡ rows-said (now (rest .entry)) before ⌝ }
 {
-    if before.refusal != 0 {
-        return before;
-    }
     let r = judge_row_fields(rest, before.p, before.n, before.a, before.b);
     if r != 0 {
         return refused(r);
     }
     before
+}
+
+// The fields that are due next, by what those before said: that of p, that of the sizes, then the rows and the end.
+pub fn next_fields(rest: &[u8], before: Header) -> Header
+    ensures { λ r. ⌜ r ≡ next-said (now (rest .entry)) before ⌝ }
+{
+    if before.refusal != 0 {
+        return before;
+    }
+    if before.p == 0 {
+        return prime_field(rest);
+    }
+    if before.n == 0 {
+        return sizes_field(rest, before);
+    }
+    row_fields(rest, before)
 }

@@ -6,7 +6,7 @@ use mathlib.Core.List.{List}
 use native.Mathlib.Omega.{arith}
 use lib.ListN.{length, take, drop, length-drop}
 use borrow.Author.Tests.{lt-ltb, le-ltb}
-use Rattle.format.specs.Refusals.{head-bytes, said-length, row-test}
+use Rattle.format.specs.Refusals.{number-of, row-beyond, head-bytes, said-length, row-test}
 use Rattle.format.specs.RefusalLaws.{first-fails, first-passes, first-none, then-refused, then-passed, then-zero, unless-zero, where-refused, accepted-value}
 use Rattle.format.specs.TestLaws.{row-reads}
 use Rattle.format.specs.File.Piece.{closed, said-rests}
@@ -20,9 +20,9 @@ pub lookup-refused : (s : List ℕ) (i r : ℕ) → r ≡ judge s → r ≢ 0 �
 unfolding lookup-refusal judge
 lookup-refused s i r e h = then-refused (closed fields s) _ r e h
 
-pub lookup-beyond : (s : List ℕ) (i : ℕ) → judge s ≡ 0 → decode s .a ≤ i → 9 ≡ lookup-refusal s i
+pub lookup-beyond : (s : List ℕ) (i : ℕ) → judge s ≡ 0 → decode s .a ≤ i → number-of row-beyond ≡ lookup-refusal s i
 unfolding lookup-refusal judge row-test
-lookup-beyond s i e h = then-passed (closed fields s) _ 9 e (first-fails _ _ _ (le-ltb _ _ h))
+lookup-beyond s i e h = then-passed (closed fields s) _ _ e (first-fails _ _ _ (le-ltb _ _ h))
 
 pub lookup-passed : (s : List ℕ) (i : ℕ) → judge s ≡ 0 → i < decode s .a → 0 ≡ lookup-refusal s i
 unfolding lookup-refusal judge row-test

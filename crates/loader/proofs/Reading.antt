@@ -13,7 +13,7 @@ use Rattle.limits.specs.Limits.{set-bytes}
 use Rattle.format.specs.declared.header.Header.{Header}
 use Rattle.format.specs.Lists.{All, over}
 use Rattle.format.specs.OverLaws.{over-none}
-use Rattle.format.specs.Refusals.{area-test}
+use Rattle.format.specs.Refusals.{number-of, area-short, area-test}
 use Rattle.format.specs.RefusalLaws.{first-fails, first-passes, first-none, then-refused, then-passed, where-refused, accepted-value}
 use Rattle.format.specs.File.Piece.{closed, said-body, said-rest, said-bodies, said-rests}
 use Rattle.format.specs.File.Format.{FileModel, entries, fields, judge, decode, header, refused-header, rows-part, read-refusal, no-model, model-read, ReadCall}
@@ -139,16 +139,16 @@ module _ (s cs ws : List ℕ) where
       rw (p₀, n₀, a₀, b₀) (reading-nothing r (then-refused (closed fields s) _ r (x .refusal-is) h) h)
 
   module _ (e : judge s ≡ 0) {p n a b : ℕ} (h : Sizes-are s p n a b) where
-    pub constants-short : length cs < a * n → ReadCall s cs ws 8 0 0 0 0 cs ws
+    pub constants-short : length cs < a * n → ReadCall s cs ws (number-of area-short) 0 0 0 0 cs ws
     unfolding read-refusal judge area-test
-    constants-short l = reading-nothing 8 (then-passed (closed fields s) _ 8 e (first-fails _ _ _ (lt-leb _ _ (rw (h .a-is, h .n-is) at l)))) (λ z. omega arith)
+    constants-short l = reading-nothing _ (then-passed (closed fields s) _ _ e (first-fails _ _ _ (lt-leb _ _ (rw (h .a-is, h .n-is) at l)))) (λ z. omega arith)
 
     module _ (c : a * n ≤ length cs) where
-      pub parameters-short : length ws < b → ReadCall s cs ws 8 0 0 0 0 cs ws
+      pub parameters-short : length ws < b → ReadCall s cs ws (number-of area-short) 0 0 0 0 cs ws
       unfolding read-refusal judge area-test
       parameters-short l =
-          reading-nothing 8
-          (then-passed (closed fields s) _ 8 e (first-passes _ _ _ _ (le-leb _ _ (rw (h .a-is, h .n-is) at c)) (first-fails _ _ _ (lt-leb _ _ (rw (h .b-is) at l)))))
+          reading-nothing _
+          (then-passed (closed fields s) _ _ e (first-passes _ _ _ _ (le-leb _ _ (rw (h .a-is, h .n-is) at c)) (first-fails _ _ _ (lt-leb _ _ (rw (h .b-is) at l)))))
           (λ z. omega arith)
 
       pub reading-done : b ≤ length ws → (cs′ ws′ : List ℕ) → cs′ ≡ over (constants-said a (rows-part s)) cs → ws′ ≡ over (parameters-said b (said-rests a (rows-part s))) ws

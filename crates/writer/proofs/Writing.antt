@@ -8,7 +8,7 @@ use lib.ListN.{length}
 use borrow.Author.Tests.{le-leb, lt-leb}
 use Rattle.format.specs.Lists.{over}
 use Rattle.format.specs.OverLaws.{over-none}
-use Rattle.format.specs.Refusals.{area-test, model-tests, refusal}
+use Rattle.format.specs.Refusals.{number-of, area-short, area-test, model-tests, refusal}
 use Rattle.format.specs.RefusalLaws.{first-fails, first-passes, first-none, then-refused, then-passed, where-refused, accepted-value}
 use Rattle.format.specs.File.Format.{encode, handed-over, write-refusal, bytes-written, WriteCall}
 use Rattle.format.specs.File.Steps.{Put}
@@ -25,9 +25,9 @@ module _ (p n a b : ℕ) (cs ws out : List ℕ) where
   writing-refused r e h = writing-nothing r (then-refused (model-tests p n a b cs ws) _ r e h) h
 
   module _ (e : refusal p n a b cs ws ≡ 0) where
-    pub writing-short : length out < length (encode (handed-over p n a b cs ws)) → WriteCall p n a b cs ws out 8 0 out
+    pub writing-short : length out < length (encode (handed-over p n a b cs ws)) → WriteCall p n a b cs ws out (number-of area-short) 0 out
     unfolding write-refusal refusal area-test
-    writing-short l = writing-nothing 8 (then-passed (model-tests p n a b cs ws) _ 8 e (first-fails _ _ _ (lt-leb _ _ l))) (λ z. omega arith)
+    writing-short l = writing-nothing _ (then-passed (model-tests p n a b cs ws) _ _ e (first-fails _ _ _ (lt-leb _ _ l))) (λ z. omega arith)
 
     pub writing-done : {out′ : List ℕ} {len : ℕ} → length (encode (handed-over p n a b cs ws)) ≤ length out → Put (encode (handed-over p n a b cs ws)) out out′ len → WriteCall p n a b cs ws out 0 len out′
     unfolding write-refusal refusal area-test bytes-written

@@ -13,7 +13,6 @@ use Rattle.format.specs.Refusals.{refusal}
 use Rattle.format.specs.TestLaws.{model-accepted}
 use Rattle.format.specs.File.Format.{ValidModel, judge, decode, encode, handed-over}
 use Rattle.format.specs.File.FormatLaws.{decode-encode, encoded-accepted}
-use Rattle.format.specs.File.WriteLaws.{file-length}
 
 -- ---- an accepted model is of the stated form
 
@@ -61,8 +60,3 @@ module _ (p n a b : ℕ) (cs ws : List ℕ) (words : (i : ℕ) → getD ws i 0 <
 
   pub written-read : decode (encode (handed-over p n a b cs ws)) ≡ handed-over p n a b cs ws
   written-read = decode-encode _ handed-over-valid
-
-  -- and of the length that document 01 states
-  pub written-length : length (encode (handed-over p n a b cs ws)) ≡ 14 + a * (3 + 2 * n) + 11 * b
-  unfolding handed-over
-  written-length = file-length _ handed-over-valid

@@ -2,7 +2,9 @@
 -- as they are read and written. Definitions only.
 use Prim.Native.Nat.{ℕ, _*_}
 use mathlib.Core.Path.{_≡_}
+use mathlib.Core.Bool.{cond}
 use mathlib.Core.List.{List, map, flatMap}
+use lib.Dec.{eqb}
 use lib.ListN.{length, take}
 use Rattle.columns.specs.Bytes.{number, bytes-of}
 use Rattle.limits.specs.Limits.{set-bytes}
@@ -12,7 +14,7 @@ use Rattle.format.specs.Refusals.{first-refusal, where-accepted}
 use Rattle.format.specs.File.Piece.{field-bytes, closed, said-bodies}
 use Rattle.format.specs.File.Format.{entries, entry-bytes, constant-tag, parameter-tag, parameter-size, prime-field, sizes-field, row-fields, refused-header}
 
--- ---- judged: what the fields say, each after those before it; the first refusal alone
+-- ---- judged: what the fields say, or a refusal alone
 
 abbrev pub or-refused : ℕ → Header → Header
 or-refused k h = where-accepted k h (refused-header k)
@@ -23,10 +25,14 @@ prime-said s = or-refused (first-refusal (prime-field .tests s)) (record { refus
 unfoldable pub sizes-said : List ℕ → Header → Header
 sizes-said s h =
     let z = sizes-field .dec s in
-    where-accepted (h .refusal) (or-refused (first-refusal (sizes-field .tests s)) (record { refusal = 0; p = h .p; n = z .0; a = z .1; b = z .2 })) h
+    or-refused (first-refusal (sizes-field .tests s)) (record { refusal = 0; p = h .p; n = z .0; a = z .1; b = z .2 })
 
 unfoldable pub rows-said : List ℕ → Header → Header
-rows-said s h = where-accepted (h .refusal) (or-refused (first-refusal (closed (row-fields (h .p) (h .n, h .a, h .b)) s)) h) h
+rows-said s h = or-refused (first-refusal (closed (row-fields (h .p) (h .n, h .a, h .b)) s)) h
+
+-- what is due next goes by what was said before: p, then the sizes, then the rows and the end; after a refusal nothing
+unfoldable pub next-said : List ℕ → Header → Header
+next-said s h = where-accepted (h .refusal) (cond (eqb (h .p) 0) (prime-said s) (cond (eqb (h .n) 0) (sizes-said s h) (rows-said s h))) h
 
 -- ---- read: by the lengths that the heads say
 

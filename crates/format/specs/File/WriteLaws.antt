@@ -8,6 +8,7 @@ use lib.ListN.{length, length-append}
 use Rattle.columns.specs.Bytes.{bytes-of}
 use Rattle.columns.specs.Words.Bytes.{AreBytes}
 use Rattle.format.specs.Lists.{All}
+use Rattle.format.specs.Refusals.{head-bytes}
 use Rattle.format.specs.File.Piece.{Body, field}
 use Rattle.format.specs.File.Format.{FileModel, ValidModel, prime-tag, sizes-tag, constant-tag, parameter-tag, end-tag, parameter-size, prime-field, sizes-field, entry-bytes, prime-body, sizes-body, constant-body, parameter-body, end-body, constant-row, parameter-row, end-field, row-fields, size-fields, fields, encode}
 use Rattle.format.specs.File.BodyLaws.{entries-back}
@@ -80,7 +81,7 @@ pub file-length : (m : FileModel) → ValidModel m → length (encode m) ≡ 14 
 unfolding encode fields size-fields row-fields prime-field sizes-field constant-row parameter-row end-field
 file-length m v =
     let r = length-many (field constant-tag (constant-body (m .p) (m .n)) .enc) (3 + 2 * m .n) (λ r w. (let e = entries-back r in let l = w .0 in omega arith)) (m .constants) (v .constants-below) in
-    let s = length-many (field parameter-tag (parameter-body (m .n)) .enc) 11 (λ w _. refl) (m .parameters) (v .parameters-within) in
+    let s = length-many (field parameter-tag (parameter-body (m .n)) .enc) (head-bytes + parameter-size (m .n)) (λ w _. refl) (m .parameters) (v .parameters-within) in
     let ra : length (m .constants) * (3 + 2 * m .n) ≡ m .a * (3 + 2 * m .n) = ap (λ (k : ℕ). k * (3 + 2 * m .n)) (v .constant-rows) in
-    let sb : length (m .parameters) * 11 ≡ m .b * 11 = ap (λ (k : ℕ). k * 11) (v .parameter-rows) in
+    let sb : length (m .parameters) * (head-bytes + parameter-size (m .n)) ≡ m .b * (head-bytes + parameter-size (m .n)) = ap (λ (k : ℕ). k * (head-bytes + parameter-size (m .n))) (v .parameter-rows) in
     simp length-append (omega arith)

@@ -1,8 +1,7 @@
 -- `content::entries_below` meets its contract. The invariant: the test of all entries says what the test of the unread rest says.
 -- The measure is the length of the rest. Assumes nothing.
-use Prim.Native.Nat.{ℕ, _+_, _*_}
-use mathlib.Core.List.{List}
-use mathlib.Core.Path.{_≡_, refl, sym, ap, _∙_}
+use Prim.Native.Nat.{_+_, _*_}
+use mathlib.Core.Path.{ap}
 use native.Mathlib.Omega.{arith}
 use lib.Dec.{ltb}
 use lib.ListN.{length, getD, length-take, length-drop}
@@ -10,19 +9,20 @@ use borrow.Author.Needs.{needs}
 use borrow.Author.Tests.{lt-ltb, le-ltb}
 use Rattle.format.proofs.Entries.{entries-next, entries-done}
 use Rattle.format.specs.File.Format.{entries}
-use Rattle.format.specs.ListLaws.{tail-part, all-pass-done, all-pass-fails, all-pass-next}
+use Rattle.format.specs.ListLaws.{tail-part}
 use Rattle.format.specs.Refusals.{constant-test}
+use Rattle.format.proofs.Passing.{Passing, passing-all, passing-fails, passing-next, passing-done}
 use Rattle.format.proofs.content.entries_below.Statement.{statement}
 use Rattle.format.proofs.content.entries_below.Tie as tie
 
 abbrev Inv-loop : tie.InvT-loop
-Inv-loop body p rest₀ rest = constant-test p (entries body) ≡ constant-test p (entries rest)
+Inv-loop body p rest₀ rest = Passing (λ x. ltb x p) (entries body) (entries rest)
 
 abbrev μ-loop : tie.MeasureT-loop
 μ-loop body p rest₀ rest = length rest
 
 loop-holds : tie.Need-loop-holds Inv-loop μ-loop
-loop-holds c = refl
+loop-holds c = passing-all
 
 shared-slice-read-two : tie.Need-shared-slice-read-two Inv-loop μ-loop
 shared-slice-read-two c = search needs
@@ -35,10 +35,9 @@ two-requires c κs = search needs
 
 returns : tie.Need-returns Inv-loop μ-loop
 unfolding constant-test
-returns c =
-    let l = c .before .before .before .before .before .loop in
+returns c = let l = c .before .before .before .before .before .loop in
     let p = c .before .before .before .before .before .before .before .args .p in
-    sym (l .inv ∙ ap (constant-test p) (entries-next (l .rest .now) (c .before .before .before .before .loop-test .taken)) ∙ all-pass-fails (λ x. ltb x p) _ _ (le-ltb (getD (l .rest .now) 0 0 + 256 * getD (l .rest .now) 1 0) p (omega (arith, c .before .two .ensures))))
+    passing-fails (l .inv) (entries-next (l .rest .now) (c .before .before .before .before .loop-test .taken)) (le-ltb (getD (l .rest .now) 0 0 + 256 * getD (l .rest .now) 1 0) p (omega (arith, c .before .two .ensures)))
 
 sub-rest : tie.Need-sub-rest Inv-loop μ-loop
 sub-rest c = search needs
@@ -53,18 +52,13 @@ loop-less : tie.Need-loop-less Inv-loop μ-loop
 loop-less c = simp (length-take, length-drop) (omega arith)
 
 loop-again : tie.Need-loop-again Inv-loop μ-loop
-unfolding constant-test
-loop-again c =
-    let l = c .before .before .before .before .before .before .loop in
+loop-again c = let l = c .before .before .before .before .before .before .loop in
     let p = c .before .before .before .before .before .before .before .before .args .p in
-    l .inv
-    ∙ ap (constant-test p) (entries-next (l .rest .now) (c .before .before .before .before .before .loop-test .taken))
-    ∙ all-pass-next (λ x. ltb x p) _ _ (lt-ltb (getD (l .rest .now) 0 0 + 256 * getD (l .rest .now) 1 0) p (omega (arith, c .before .before .two .ensures)))
-    ∙ ap (λ (s : List ℕ). constant-test p (entries s)) (sym (tail-part 2 (l .rest .now)))
+    passing-next (l .inv) (entries-next (l .rest .now) (c .before .before .before .before .before .loop-test .taken)) (lt-ltb (getD (l .rest .now) 0 0 + 256 * getD (l .rest .now) 1 0) p (omega (arith, c .before .before .two .ensures))) (ap entries (tail-part 2 (l .rest .now)))
 
 returns-2 : tie.Need-returns-2 Inv-loop μ-loop
 unfolding constant-test
-returns-2 c = sym (c .before .loop .inv ∙ ap (constant-test _) (entries-done _ (c .loop-test .left)) ∙ all-pass-done _)
+returns-2 c = passing-done (c .before .loop .inv) (entries-done _ (c .loop-test .left))
 
 pub entries-below-spec : {M : Type 1} → statement M
 entries-below-spec =

@@ -1,23 +1,25 @@
 -- `content::parameters_within` meets its contract. The invariant: the test of all says what the test of the unread rest says.
 -- The measure is the length of the rest. Assumes nothing.
-use mathlib.Core.Path.{_≡_, refl, sym, ap, _∙_}
+use mathlib.Core.Path.{sym, _∙_}
 use native.Mathlib.Omega.{arith}
 use lib.ListN.{length, length-take, length-drop}
 use borrow.Author.Needs.{needs}
 use borrow.Author.Tests.{not-true, not-false}
-use Rattle.format.specs.ListLaws.{all-pass-done, all-pass-fails, all-pass-next, tail-part, first-rest, nothing}
+use Rattle.format.specs.ListLaws.{tail-part, first-rest, nothing}
+use Rattle.columns.specs.Columns.{within}
 use Rattle.format.specs.Refusals.{parameter-test}
+use Rattle.format.proofs.Passing.{Passing, passing-all, passing-fails, passing-next, passing-done}
 use Rattle.format.proofs.content.parameters_within.Statement.{statement}
 use Rattle.format.proofs.content.parameters_within.Tie as tie
 
 abbrev Inv-loop : tie.InvT-loop
-Inv-loop parameters n rest₀ rest = parameter-test n parameters ≡ parameter-test n rest
+Inv-loop parameters n rest₀ rest = Passing (within n) parameters rest
 
 abbrev μ-loop : tie.MeasureT-loop
 μ-loop parameters n rest₀ rest = length rest
 
 loop-holds : tie.Need-loop-holds Inv-loop μ-loop
-loop-holds c = refl
+loop-holds c = passing-all
 
 shared-slice-read-within : tie.Need-shared-slice-read-within Inv-loop μ-loop
 shared-slice-read-within c = search needs
@@ -27,10 +29,7 @@ within-requires c κs = search needs
 
 returns : tie.Need-returns Inv-loop μ-loop
 unfolding parameter-test
-returns c =
-    let l = c .before .before .before .before .loop in
-    let n = c .before .before .before .before .before .before .args .n in
-    sym (l .inv ∙ ap (parameter-test n) (first-rest (l .rest .now) (c .before .before .before .loop-test .taken)) ∙ all-pass-fails _ _ _ (sym (c .before .within .ensures) ∙ not-true _ (c .if1 .taken)))
+returns c = passing-fails (c .before .before .before .before .loop .inv) (first-rest _ (c .before .before .before .loop-test .taken)) (sym (c .before .within .ensures) ∙ not-true _ (c .if1 .taken))
 
 sub-rest : tie.Need-sub-rest Inv-loop μ-loop
 sub-rest c = search needs
@@ -45,18 +44,12 @@ loop-less : tie.Need-loop-less Inv-loop μ-loop
 loop-less c = simp (length-take, length-drop) (omega arith)
 
 loop-again : tie.Need-loop-again Inv-loop μ-loop
-unfolding parameter-test
-loop-again c =
-    let l = c .before .before .before .before .before .loop in
-    let n = c .before .before .before .before .before .before .before .args .n in
-    l .inv
-    ∙ ap (parameter-test n) (first-rest (l .rest .now) (c .before .before .before .before .loop-test .taken))
-    ∙ all-pass-next _ _ _ (sym (c .before .before .within .ensures) ∙ not-false _ (c .before .if1 .left))
-    ∙ ap (parameter-test n) (sym (tail-part 1 (l .rest .now)))
+loop-again c = let l = c .before .before .before .before .before .loop in
+    passing-next (l .inv) (first-rest (l .rest .now) (c .before .before .before .before .loop-test .taken)) (sym (c .before .before .within .ensures) ∙ not-false _ (c .before .if1 .left)) (tail-part 1 (l .rest .now))
 
 returns-2 : tie.Need-returns-2 Inv-loop μ-loop
 unfolding parameter-test
-returns-2 c = sym (c .before .loop .inv ∙ ap (parameter-test _) (nothing _ (c .loop-test .left)) ∙ all-pass-done _)
+returns-2 c = passing-done (c .before .loop .inv) (nothing _ (c .loop-test .left))
 
 pub parameters-within-spec : {M : Type 1} → statement M
 parameters-within-spec =

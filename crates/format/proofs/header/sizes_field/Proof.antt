@@ -11,14 +11,15 @@ use Rattle.format.specs.Refusals.{head-bytes, size-test}
 use Rattle.format.specs.RefusalLaws.{first-fails, then-refused, zero-unless}
 use Rattle.format.specs.File.Piece.{head-tests, field, said-body, Judgement}
 use Rattle.format.specs.File.Format.{sizes-tag, sizes-body, sizes-field}
+use Rattle.format.specs.File.Steps.{sizes-said}
 use Rattle.format.proofs.Judging.{accepted, content-refused, content-passed, body-is}
-use Rattle.format.proofs.Headers.{said-refused, said-passed, sizes-handed, sizes-first}
+use Rattle.format.proofs.Headers.{said-refused, said-passed}
 use Rattle.format.proofs.header.sizes_field.Statement.{statement}
 use Rattle.format.proofs.header.sizes_field.Tie as tie
 
 -- the head is not refused, and the body in hand is its body
 abbrev bytes : tie.After-byte-at3 → List ℕ
-bytes c = c .before .before .before .before .before .before .before .before .before .before .args .rest .now
+bytes c = c .before .before .before .before .before .before .before .before .args .rest .now
 
 abbrev hand : tie.After-byte-at3 → List ℕ
 hand c = c .before .before .before .said-body .result .now
@@ -27,7 +28,7 @@ head : (c : tie.After-byte-at3) → Judgement (head-tests sizes-tag (sizes-body 
 head c = c .before .before .before .before .before .before .judge-head .ensures
 
 passed : (c : tie.After-byte-at3) → c .before .before .before .before .before .before .judge-head .result .refusal ≡ 0
-passed c = c .before .before .before .before .if2 .left
+passed c = c .before .before .before .before .if1 .left
 
 body : (c : tie.After-byte-at3) → hand c ≡ said-body (bytes c)
 body c = c .before .before .before .said-body .ensures
@@ -50,18 +51,15 @@ numbers : (c : tie.After-byte-at3) (p : ℕ) → made p (c .before .before .byte
 numbers c p =
     same-made p (c .before .before .byte-at .ensures) (c .before .byte-at2 .ensures) (c .byte-at3 .ensures) ∙ ap (λ (b : List ℕ). made p (sizes-body .dec b)) (due c)
 
-returns : tie.Need-returns
-returns c = sizes-handed _ _ (c .if1 .taken)
-
 judge-head-requires : tie.Need-judge-head-requires
 judge-head-requires c κs = search needs
 
 refused-requires : tie.Need-refused-requires
 refused-requires c κs = search needs
 
-returns-2 : tie.Need-returns-2
-unfolding sizes-field
-returns-2 c = c .refused .ensures ∙ said-refused _ _ (then-refused _ _ _ (c .before .before .before .judge-head .ensures .refusal-is) (c .before .if2 .taken)) (c .before .if2 .taken) ∙ sizes-first _ _ (c .before .before .before .before .if1 .left)
+returns : tie.Need-returns
+unfolding sizes-said sizes-field
+returns c = c .refused .ensures ∙ said-refused _ _ (then-refused _ _ _ (c .before .before .before .judge-head .ensures .refusal-is) (c .before .if1 .taken)) (c .before .if1 .taken)
 
 said-body-requires : tie.Need-said-body-requires
 said-body-requires c κs = search needs
@@ -90,30 +88,27 @@ sizes-within-requires c κs = search needs
 refused-requires-2 : tie.Need-refused-requires-2
 refused-requires-2 c κs = search needs
 
-returns-3 : tie.Need-returns-3
-unfolding sizes-field
-returns-3 c =
+returns-2 : tie.Need-returns-2
+unfolding sizes-said sizes-field
+returns-2 c =
     let d = c .before .before .before in
     c .refused2 .ensures
-    ∙ said-refused _ _ (content-refused sizes-tag sizes-body _ (head d) (passed d) (body d) _ (first-fails _ _ _ (tested d ∙ sym (c .before .before .sizes-within .ensures) ∙ not-true _ (c .before .if3 .taken))) (λ e. omega arith) .refusal-is) (λ e. omega arith)
-    ∙ sizes-first _ _ (c .before .before .before .before .before .before .before .before .before .before .if1 .left)
+    ∙ said-refused _ _ (content-refused sizes-tag sizes-body _ (head d) (passed d) (body d) _ (first-fails _ _ _ (tested d ∙ sym (c .before .before .sizes-within .ensures) ∙ not-true _ (c .before .if2 .taken))) (λ e. omega arith) .refusal-is) (λ e. omega arith)
 
-returns-4 : tie.Need-returns-4
-unfolding sizes-field
-returns-4 c =
+returns-3 : tie.Need-returns-3
+unfolding sizes-said sizes-field
+returns-3 c =
     let d = c .before .before in
     numbers d _
-    ∙ said-passed _ 0 (sym (accepted (content-passed sizes-tag sizes-body _ (head d) (passed d) (body d) (zero-unless _ _ (tested d ∙ sym (c .before .sizes-within .ensures) ∙ not-false _ (c .if3 .left)))) (passed d))) refl
-    ∙ sizes-first _ _ (c .before .before .before .before .before .before .before .before .before .if1 .left)
+    ∙ said-passed _ 0 (sym (accepted (content-passed sizes-tag sizes-body _ (head d) (passed d) (body d) (zero-unless _ _ (tested d ∙ sym (c .before .sizes-within .ensures) ∙ not-false _ (c .if2 .left)))) (passed d))) refl
 
 pub sizes-field-spec : {M : Type 1} → statement M
 sizes-field-spec =
     tie.close
     (tie.spec
-    returns
     judge-head-requires
     refused-requires
-    returns-2
+    returns
     said-body-requires
     byte-at-requires
     byte-at-requires-2
@@ -123,5 +118,5 @@ sizes-field-spec =
     cast-sizes-within-3
     sizes-within-requires
     refused-requires-2
-    returns-3
-    returns-4)
+    returns-2
+    returns-3)
