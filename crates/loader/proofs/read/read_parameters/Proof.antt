@@ -57,7 +57,7 @@ loop-again c =
     let b = k .before .before .before .args .b in
     let w = whole (of-bytes .result) in
     let q : b - l .at - 1 ≡ b - (l .at + 1) = omega arith in
-    let is-row : number (take set-bytes (said-body r)) ≡ w = ap (λ (t : List ℕ). number (take set-bytes t)) (sym (body .ensures)) ∙ sym (of-bytes .ensures) in
+    let is-row : number (take set-bytes (said-body r)) ≡ w = ap (λ (t : List ℕ). number (take set-bytes t)) (sym (body .ensures .bytes-are)) ∙ sym (of-bytes .ensures) in
     let written = ap row-numbers (put .ensures) ∙ rows-with-row (l .out) (l .at) w in
     (rw written (wrote-set w _ (l .inv .0) (parameters-next (b - l .at) r (omega arith) ∙ rw (q, is-row, ← c .said-rest .ensures .bytes-are) refl)), omega arith, ap length (put .ensures) ∙ with-row-length (l .out) (l .at) w ∙ l .inv .2)
 
