@@ -41,7 +41,7 @@ fn read_into(file: &[u8], constants: &mut [u16], k: usize, parameters: &mut [u64
     if parameters.len() < j {
         return;
     }
-    let r = solvability::read_file(file, &mut constants[..k], &mut parameters[..j]);
+    let r = loader::read_file(file, &mut constants[..k], &mut parameters[..j]);
     said::sizes(r);
     said::constants(constants);
     said::parameters(parameters);
@@ -68,7 +68,7 @@ fn write_into(out: &mut [u8], k: usize, p: u32) {
     }
     let constants = [1u16, 0];
     let parameters = [2u64];
-    let w = solvability::write_file(p, 2, 1, 1, &constants, &parameters, &mut out[..k]);
+    let w = writer::write_file(p, 2, 1, 1, &constants, &parameters, &mut out[..k]);
     said::number(w.refusal as u64);
     said::number(w.length as u64);
     said::bytes(out);

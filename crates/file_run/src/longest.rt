@@ -48,7 +48,7 @@ pub fn there_and_back() {
 fn back(file: &[u8]) {
     let mut constants = [0u16; MOST_CONSTANTS];
     let mut parameters = [0u64; MOST_ROWS];
-    let r = solvability::read_file(file, &mut constants, &mut parameters);
+    let r = loader::read_file(file, &mut constants, &mut parameters);
     said::label(b"read");
     said::sizes(r);
     said::end_line();
@@ -65,7 +65,7 @@ fn looked_into(file: &[u8]) {
     looked_up(file, MOST_ROWS - 1);
     looked_up(file, MOST_ROWS);
     said::label(b"last byte missing");
-    said::number(solvability::judge_file(said::front(file, LONGEST_FILE - 1)) as u64);
+    said::number(format::judge_file(said::front(file, LONGEST_FILE - 1)) as u64);
     said::end_line();
 }
 
@@ -78,7 +78,7 @@ fn written(
     parameters: &[u64],
     out: &mut [u8],
 ) {
-    let w = solvability::write_file(p, n, a, b, constants, parameters, out);
+    let w = writer::write_file(p, n, a, b, constants, parameters, out);
     said::number(w.refusal as u64);
     said::number(w.length as u64);
     said::number(said::checksum(out));

@@ -54,7 +54,7 @@ fn prefixes(file: &[u8]) {
     label(b"prefixes");
     let mut k = 0;
     while k < file.len() {
-        number(solvability::judge_file(&file[..k]) as u64);
+        number(format::judge_file(&file[..k]) as u64);
         k = k + 1;
     }
     end_line();
@@ -67,7 +67,7 @@ fn changed(file: &mut [u8]) {
     while i < file.len() {
         let old = file[i];
         file[i] = more(old);
-        number(solvability::judge_file(file) as u64);
+        number(format::judge_file(file) as u64);
         file[i] = old;
         i = i + 1;
     }
@@ -95,7 +95,7 @@ fn set_two(file: &mut [u8], at: usize, lo: u8, hi: u8) {
 fn with_bytes(at: usize, lo: u8, hi: u8) {
     let mut file = sample();
     set_two(&mut file, at, lo, hi);
-    number(solvability::judge_file(&file) as u64);
+    number(format::judge_file(&file) as u64);
 }
 
 fn primes() {
@@ -132,7 +132,7 @@ fn one_byte_more() {
     let constants = [1u16, 0];
     let parameters = [2u64];
     let mut out = [0u8; 33];
-    let w = solvability::write_file(1021, 2, 1, 1, &constants, &parameters, &mut out);
+    let w = writer::write_file(1021, 2, 1, 1, &constants, &parameters, &mut out);
     label(b"written");
     number(w.refusal as u64);
     number(w.length as u64);
@@ -146,10 +146,10 @@ fn longer_file(out: &[u8]) {
     number(check::same(&file, front(out, 32)) as u64);
     end_line();
     label(b"one byte more");
-    number(solvability::judge_file(out) as u64);
+    number(format::judge_file(out) as u64);
     end_line();
     label(b"empty");
-    number(solvability::judge_file(front(out, 0)) as u64);
+    number(format::judge_file(front(out, 0)) as u64);
     end_line();
 }
 
@@ -157,7 +157,7 @@ fn longer_file(out: &[u8]) {
 fn document_file() {
     let file = sample();
     label(b"file");
-    number(solvability::judge_file(&file) as u64);
+    number(format::judge_file(&file) as u64);
     end_line();
     prefixes(&file);
     let mut other = sample();

@@ -5,14 +5,14 @@ use crate::said;
 fn judged(p: u32, n: usize, a: usize, b: usize) {
     let constants = [1u16, 0];
     let parameters = [2u64];
-    said::number(solvability::judge_model(p, n, a, b, &constants, &parameters) as u64);
+    said::number(format::judge_model(p, n, a, b, &constants, &parameters) as u64);
 }
 
 // A model of one constant and one parameter row, at n 2.
 fn with_contents(p: u32, constant: u16, set: u64) {
     let constants = [0u16, constant];
     let parameters = [set];
-    said::number(solvability::judge_model(p, 2, 1, 1, &constants, &parameters) as u64);
+    said::number(format::judge_model(p, 2, 1, 1, &constants, &parameters) as u64);
 }
 
 fn accepted() {

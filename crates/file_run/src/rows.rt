@@ -5,7 +5,7 @@ use crate::said;
 pub fn looked_up(file: &[u8], i: usize) {
     said::label(b"row");
     said::number(i as u64);
-    said::number(solvability::judge_row(file, i) as u64);
-    said::bytes(solvability::row(file, i));
+    said::number(loader::judge_row(file, i) as u64);
+    said::bytes(loader::row(file, i));
     said::end_line();
 }

@@ -16,7 +16,7 @@ pub fn end_line() {
     io::write_all(1, b"\n");
 }
 
-pub fn sizes(r: solvability::Sizes) {
+pub fn sizes(r: loader::Sizes) {
     number(r.refusal as u64);
     number(r.p as u64);
     number(r.n as u64);

@@ -8,7 +8,7 @@ use lib.ListN.{length, take, drop, length-drop}
 use lib.Seq.{drop-drop, drop-nil}
 use Rattle.format.specs.ListLaws.{tail-part}
 use Rattle.format.specs.Refusals.{head-bytes, said-length}
-use Rattle.format.specs.File.Piece.{Body, Piece, field, many-rest, said-rest, said-rests, LastPart}
+use Rattle.format.specs.File.Piece.{Body, Piece, field, many-rest, said-rest, said-rests, PartAt, LastPart}
 
 -- u is what s holds from some place on
 pub record Ends (u s : List ℕ) : Type 0 where
@@ -77,3 +77,7 @@ part-next {u} {holds} {lent} {m} {r} p f k h e q area start =
     let w = ends-within f in
     let j = p .length-is in
     record { bytes-are = b; same-area = area ∙ p .same-area; start-is = omega (arith, p .start-is); length-is = ap length b }
+
+-- a front of a part is a part that starts there
+pub part-front : {start : ℕ} {u holds : List ℕ} {lent m r : RefT (List ℕ)} → PartAt start u lent m → r .now ≡ holds → r .ptr .0 ≡ m .ptr .0 → r .ptr .1 ≡ m .ptr .1 → PartAt start holds lent r
+part-front p e area start = record { bytes-are = e; same-area = area ∙ p .same-area; start-is = start ∙ p .start-is; length-is = ap length e }

@@ -1,10 +1,10 @@
 // The fields of a file: their tags, and what a field's head says of the field in front, its body and what follows it. A file that is
 // accepted is walked by these alone.
 ghost use mathlib.Core.Path.{_≡_};
-ghost use Prim.Native.Nat.{_<_};
-ghost use lib.ListN.{getD, drop};
+ghost use Prim.Native.Nat.{_-_, _<_};
+ghost use lib.ListN.{length, getD, drop};
 ghost use Rattle.format.specs.Refusals.{head-bytes, said-length};
-ghost use Rattle.format.specs.File.Piece.{said-body, said-rest, LastPart};
+ghost use Rattle.format.specs.File.Piece.{said-body, said-rest, PartAt, LastPart};
 ghost use Rattle.format.specs.File.Format.{parameter-size};
 use crate::content::two;
 
@@ -63,7 +63,7 @@ fn past_head(rest: &[u8]) -> &[u8]
 
 // The body of the field in front; as much of it as there is.
 pub fn said_body(rest: &[u8]) -> &[u8]
-    ensures { λ r. ⌜ now r ≡ said-body (now (rest .entry)) ⌝ }
+    ensures { λ r. ⌜ PartAt (length (now (rest .entry)) - length (drop head-bytes (now (rest .entry)))) (said-body (now (rest .entry))) (rest .entry) r ⌝ }
 {
     let body = past_head(rest);
     let size = said_length(rest);

@@ -1,6 +1,5 @@
 -- The bytes of answers, by document 01, "The host and the program". Definitions only.
 use Prim.Native.Nat.{ℕ, _+_, _*_}
-use mathlib.Core.Path.{_≡_}
 use mathlib.Core.List.{List, _∷_, _++_}
 use Rattle.limits.specs.Limits.{most-rows, set-bytes}
 use Rattle.columns.specs.Bytes.{bytes-of}

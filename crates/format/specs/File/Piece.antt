@@ -96,9 +96,15 @@ unfoldable pub said-rests : ℕ → List ℕ → List ℕ
 said-rests zero s = s
 said-rests (suc k) s = said-rests k (said-rest s)
 
--- r is the last part of the bytes lent, and holds these: where it starts among them, and how long it is
-pub record LastPart (holds : List ℕ) (lent r : RefT (List ℕ)) : Type 0 where
+-- ---- a part of bytes that are lent, handed back
+
+-- r is the part that starts there, and holds these: where it lies among the bytes lent, and how long it is
+pub record PartAt (start : ℕ) (holds : List ℕ) (lent r : RefT (List ℕ)) : Type 0 where
   pub bytes-are : r .now ≡ holds
   pub same-area : r .ptr .0 ≡ lent .ptr .0
-  pub start-is : r .ptr .1 ≡ (length (lent .now) - length holds) + lent .ptr .1
+  pub start-is : r .ptr .1 ≡ start + lent .ptr .1
   pub length-is : length (r .now) ≡ length holds
+
+-- the last part, which holds these
+abbrev pub LastPart : List ℕ → RefT (List ℕ) → RefT (List ℕ) → Type 0
+LastPart holds lent r = PartAt (length (lent .now) - length holds) holds lent r

@@ -1,8 +1,8 @@
 -- `host::put_answer` meets its contract: the rows stand behind what every answer begins with. Assumes nothing.
 use mathlib.Core.List.{[], append-nil}
-use mathlib.Core.Path.{_≡_, refl, sym, ap, _∙_}
+use mathlib.Core.Path.{refl, sym}
 use native.Mathlib.Omega.{arith}
-use lib.ListN.{length, length-append}
+use lib.ListN.{length-append}
 use borrow.Author.Needs.{needs}
 use Rattle.limits.specs.Limits.{most-rows}
 use Rattle.columns.specs.ColumnSets.{whole}

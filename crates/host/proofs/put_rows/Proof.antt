@@ -1,22 +1,23 @@
 -- `host::put_rows` meets its contract. The invariant: the bytes before place `at` are written, and those from it on are left.
 -- The measure is how many are left. Assumes nothing.
-use Prim.Native.Nat.{ℕ, _+_, _-_, _≤_}
+use Prim.Native.Nat.{_+_, _-_, _≤_}
 use mathlib.Core.List.{_∷_}
-use mathlib.Core.Path.{_≡_, refl, sym, ap, _∙_}
+use mathlib.Core.Path.{_≡_, refl, ap, _∙_}
 use native.Mathlib.Numerals.{add-one}
 use native.Mathlib.Omega.{arith}
 use lib.ListN.{length, drop, getD, drop-of-length-le}
 use lib.Seq.{drop-cons}
+use Rattle.limits.specs.Limits.{most-rows}
 use borrow.Author.Needs.{needs}
 use Rattle.format.specs.OverLaws.{Wrote, wrote-none, wrote-set, wrote-all}
 use Rattle.host.proofs.put_rows.Statement.{statement}
 use Rattle.host.proofs.put_rows.Tie as tie
 
 abbrev Inv-loop : tie.InvT-loop
-Inv-loop out₀ rows at₀ out at = Wrote rows (drop at rows) out₀ out at × (at ≤ 64)
+Inv-loop out₀ rows at₀ out at = Wrote rows (drop at rows) out₀ out at × (at ≤ most-rows)
 
 abbrev μ-loop : tie.MeasureT-loop
-μ-loop out₀ rows at₀ out at = 64 - at
+μ-loop out₀ rows at₀ out at = most-rows - at
 
 loop-holds : tie.Need-loop-holds Inv-loop μ-loop
 loop-holds c = (wrote-none _ _ (omega (arith, c .pre)), omega arith)

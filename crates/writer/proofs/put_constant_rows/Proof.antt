@@ -53,7 +53,8 @@ slice-aggregate-put-constant-row : tie.Need-slice-aggregate-put-constant-row Inv
 slice-aggregate-put-constant-row c = sym (length-take-le _ _ (left (c .before .before) .0))
 
 put-constant-row-requires : tie.Need-put-constant-row-requires Inv-loop μ-loop
-put-constant-row-requires c κs = let l = c .before .before .before .loop in
+put-constant-row-requires c κs =
+    let l = c .before .before .before .loop in
     let n = c .before .before .before .before .before .before .args .n in
     let f = left (c .before .before) in
     (rw (length-take-le n (l .rest .now) (f .0)) (omega arith), rw (constant-bytes-cut n (l .rest .now) (f .0)) (room (c .before .before) .1))
@@ -80,7 +81,8 @@ loop-less : tie.Need-loop-less Inv-loop μ-loop
 loop-less c = omega arith
 
 loop-again : tie.Need-loop-again Inv-loop μ-loop
-loop-again c = let l = c .before .before .before .before .before .before .before .loop in
+loop-again c =
+    let l = c .before .before .before .before .before .before .before .loop in
     let n = c .before .before .before .before .before .before .before .before .before .before .args .n in
     let r = l .rest .now in
     let row = constant-bytes n (take n r) in

@@ -57,7 +57,8 @@ loop-less : tie.Need-loop-less Inv-loop μ-loop
 loop-less c = simp (length-take, length-drop) (omega arith)
 
 loop-again : tie.Need-loop-again Inv-loop μ-loop
-loop-again c = let l = c .before .before .before .before .before .before .before .loop in
+loop-again c =
+    let l = c .before .before .before .before .before .before .before .loop in
     let r = l .rest .now in
     wrote-put (getD r 0 0 % 256 ∷ getD r 0 0 / 256 ∷ []) _ _ (l .inv)
     (entry-bytes-next r (c .before .before .before .before .before .before .loop-test .taken) ∙ ap (λ (s : List ℕ). (getD r 0 0 % 256 ∷ getD r 0 0 / 256 ∷ []) ++ entry-bytes s) (sym (tail-part 1 r))) (c .before .before .before .put-two .ensures)

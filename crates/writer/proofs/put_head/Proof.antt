@@ -29,13 +29,15 @@ add-result : tie.Need-add-result
 add-result c = search needs
 
 same-length : tie.Need-same-length
-same-length c = let a = c .before .before .before .before .before .args in
+same-length c =
+    let a = c .before .before .before .before .before .args in
     let bytes : List ℕ = a .size % 256 ∷ a .size / 256 ∷ [] in
     let w = wrote-set (a .tag) bytes (wrote-none (a .tag ∷ bytes) (a .out .now) (omega arith)) refl in
     wrote-put bytes [] _ w refl (c .before .before .put-two .ensures) .same
 
 returns : tie.Need-returns
-returns c = let a = c .before .before .before .before .before .args in
+returns c =
+    let a = c .before .before .before .before .before .args in
     let bytes : List ℕ = a .size % 256 ∷ a .size / 256 ∷ [] in
     let w = wrote-set (a .tag) bytes (wrote-none (a .tag ∷ bytes) (a .out .now) (omega arith)) refl in
     put-all (wrote-put bytes [] _ w refl (c .before .before .put-two .ensures)) refl

@@ -33,7 +33,8 @@ same-length : tie.Need-same-length
 same-length c = search needs
 
 returns : tie.Need-returns
-returns c = let a = c .before .before .before .before .before .before .before .before .before .args in
+returns c =
+    let a = c .before .before .before .before .before .before .before .before .before .args in
     let bytes : List ℕ = a .p % 256 ∷ a .p / 256 ∷ [] in
     let high : a .p / 256 % 256 ≡ a .p / 256 = omega arith in
     rw high (put-next (c .before .before .before .before .before .before .put-head .ensures) (c .before .before .put-two .ensures))

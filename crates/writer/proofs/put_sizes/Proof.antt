@@ -44,7 +44,8 @@ same-length : tie.Need-same-length
 same-length c = search needs
 
 returns : tie.Need-returns
-returns c = let a = c .before .before .before .before .before .args in
+returns c =
+    let a = c .before .before .before .before .before .args in
     let sizes : List ℕ = a .n ∷ a .a ∷ a .b ∷ [] in
     let w = first-put (field-bytes sizes-tag 3 sizes) (field-bytes sizes-tag 3 []) sizes refl (c .before .before .before .before .before .pre) (c .before .before .put-head .ensures) in
     put-all (wrote-set (a .b) [] (wrote-set (a .a) (a .b ∷ []) (wrote-set (a .n) (a .a ∷ a .b ∷ []) w refl) refl) refl) refl

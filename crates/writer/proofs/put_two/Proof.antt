@@ -24,7 +24,8 @@ same-length : tie.Need-same-length
 same-length c = search needs
 
 returns : tie.Need-returns
-returns c = let a = c .args in
+returns c =
+    let a = c .args in
     let w = wrote-none (a .c % 256 ∷ a .c / 256 ∷ []) (a .out .now) (c .pre) in
     put-all (wrote-set (a .c / 256) [] (wrote-set (a .c % 256) (a .c / 256 ∷ []) w refl) refl) refl
 

@@ -28,7 +28,8 @@ cast-put-file : tie.Need-cast-put-file
 cast-put-file c = let h = model-accepted _ _ _ _ _ _ (accepted (c .before .before .before)) in omega (arith, h .p-most)
 
 put-file-requires : tie.Need-put-file-requires
-put-file-requires c κs = let h = model-accepted _ _ _ _ _ _ (accepted (c .before .before .before)) in
+put-file-requires c κs =
+    let h = model-accepted _ _ _ _ _ _ (accepted (c .before .before .before)) in
     (h .n-most, h .a-most, h .b-most, h .constants-lent, h .parameters-lent, rw (c .before .before .file-length .ensures) at (c .before .if2 .left))
 
 same-length : tie.Need-same-length

@@ -28,7 +28,8 @@ widened-requires c κs = search needs
 
 returns : tie.Need-returns Inv-loop μ-loop
 unfolding constant-test
-returns c = let l = c .before .before .before .before .loop in
+returns c =
+    let l = c .before .before .before .before .loop in
     let p = c .before .before .before .before .before .before .args .p in
     passing-fails (l .inv) (first-rest (l .rest .now) (c .before .before .before .loop-test .taken)) (le-ltb (getD (l .rest .now) 0 0) p (omega (arith, c .before .widened .ensures)))
 
@@ -45,7 +46,8 @@ loop-less : tie.Need-loop-less Inv-loop μ-loop
 loop-less c = simp (length-take, length-drop) (omega arith)
 
 loop-again : tie.Need-loop-again Inv-loop μ-loop
-loop-again c = let l = c .before .before .before .before .before .loop in
+loop-again c =
+    let l = c .before .before .before .before .before .loop in
     let p = c .before .before .before .before .before .before .before .args .p in
     passing-next (l .inv) (first-rest (l .rest .now) (c .before .before .before .before .loop-test .taken)) (lt-ltb (getD (l .rest .now) 0 0) p (omega (arith, c .before .before .widened .ensures))) (tail-part 1 (l .rest .now))
 

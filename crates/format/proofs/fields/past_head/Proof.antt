@@ -18,7 +18,8 @@ part-result-end : tie.Need-part-result-end
 part-result-end c = search needs
 
 returns : tie.Need-returns
-returns c = let s = c .before .before .args .rest in
+returns c =
+    let s = c .before .before .args .rest in
     let none : drop head-bytes (s .now) ≡ drop (length (s .now)) (s .now) = drop-of-length-le (s .now) {i = head-bytes} (omega arith) ∙ sym (drop-of-length-le (s .now) {i = length (s .now)} (omega arith)) in
     part-next (part-whole s) (ends-drop 0 (s .now)) (length (s .now)) (omega arith) none refl refl refl
 

@@ -27,7 +27,8 @@ part-result-end c = search needs
 
 returns : tie.Need-returns
 unfolding said-rest
-returns c = let s = c .before .before .before .before .before .args .rest in
+returns c =
+    let s = c .before .before .before .before .before .args .rest in
     let m = c .before .before .before .past-head in
     let b = m .result .now in
     let size : c .before .before .said-length .result ≡ said-length (s .now) = c .before .before .said-length .ensures .0 in
@@ -47,7 +48,8 @@ part-result-end-2 c = search needs
 
 returns-2 : tie.Need-returns-2
 unfolding said-rest
-returns-2 c = let s = c .before .before .before .before .before .args .rest in
+returns-2 c =
+    let s = c .before .before .before .before .before .args .rest in
     let m = c .before .before .before .past-head in
     part-next (m .ensures) (ends-drop head-bytes (s .now)) _ (omega arith) (ap (λ (k : ℕ). drop k (drop head-bytes (s .now))) (sym (c .before .before .said-length .ensures .0))) refl refl refl
 

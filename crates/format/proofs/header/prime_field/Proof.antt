@@ -28,7 +28,7 @@ passed : (c : tie.After-two) → c .before .before .before .before .before .befo
 passed c = c .before .before .before .before .if1 .left
 
 body : (c : tie.After-two) → c .before .before .before .said-body .result .now ≡ said-body (bytes c)
-body c = c .before .before .before .said-body .ensures
+body c = c .before .before .before .said-body .ensures .bytes-are
 
 due : (c : tie.After-two) → c .before .before .before .said-body .result .now ≡ take 2 (drop head-bytes (bytes c))
 due c = body-is prime-tag prime-body (bytes c) (head c) (passed c) (body c)
@@ -69,13 +69,15 @@ refused-requires-2 c κs = search needs
 
 returns-2 : tie.Need-returns-2
 unfolding prime-said prime-field
-returns-2 c = let d = c .before .before .before in
+returns-2 c =
+    let d = c .before .before .before in
     c .refused2 .ensures
     ∙ said-refused _ _ (content-refused prime-tag prime-body _ (head d) (passed d) (body d) _ (first-fails _ _ _ (ap prime-test (sym (p-is d)) ∙ sym (c .before .before .prime-within .ensures) ∙ not-true _ (c .before .if2 .taken))) (λ e. omega arith) .refusal-is) (λ e. omega arith)
 
 returns-3 : tie.Need-returns-3
 unfolding prime-said prime-field
-returns-3 c = let d = c .before .before in
+returns-3 c =
+    let d = c .before .before in
     ap (λ (p : ℕ). record { refusal = 0; p = p; n = 0; a = 0; b = 0 }) (p-is d ∙ ap number (due d))
     ∙ said-passed _ 0 (sym (accepted (content-passed prime-tag prime-body _ (head d) (passed d) (body d) (zero-unless _ _ (ap prime-test (sym (p-is d)) ∙ sym (c .before .prime-within .ensures) ∙ not-false _ (c .if2 .left)))) (passed d))) refl
 

@@ -31,7 +31,7 @@ passed : (c : tie.After-byte-at3) → c .before .before .before .before .before 
 passed c = c .before .before .before .before .if1 .left
 
 body : (c : tie.After-byte-at3) → hand c ≡ said-body (bytes c)
-body c = c .before .before .before .said-body .ensures
+body c = c .before .before .before .said-body .ensures .bytes-are
 
 due : (c : tie.After-byte-at3) → hand c ≡ take (sizes-body .size) (drop head-bytes (bytes c))
 due c = body-is sizes-tag sizes-body (bytes c) (head c) (passed c) (body c)

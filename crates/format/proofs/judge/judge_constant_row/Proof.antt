@@ -29,14 +29,14 @@ returns-2 : tie.Need-returns-2
 unfolding constant-row
 returns-2 c =
     let a = c .before .before .before .before .before .before .before .args in
-    content-refused constant-tag (constant-body (a .p) (a .n)) (a .rest .now) (c .before .before .before .before .before .judge-head .ensures) (c .before .before .before .if1 .left) (c .before .before .said-body .ensures)
+    content-refused constant-tag (constant-body (a .p) (a .n)) (a .rest .now) (c .before .before .before .before .before .judge-head .ensures) (c .before .before .before .if1 .left) (c .before .before .said-body .ensures .bytes-are)
     _ (first-fails _ _ _ (sym (c .before .entries-below .ensures) ∙ not-true _ (c .if2 .taken))) (λ e. omega arith)
 
 returns-3 : tie.Need-returns-3
 unfolding constant-row
 returns-3 c =
     let a = c .before .before .before .before .before .before .before .args in
-    content-passed constant-tag (constant-body (a .p) (a .n)) (a .rest .now) (c .before .before .before .before .before .judge-head .ensures) (c .before .before .before .if1 .left) (c .before .before .said-body .ensures)
+    content-passed constant-tag (constant-body (a .p) (a .n)) (a .rest .now) (c .before .before .before .before .before .judge-head .ensures) (c .before .before .before .if1 .left) (c .before .before .said-body .ensures .bytes-are)
     (zero-unless _ _ (sym (c .before .entries-below .ensures) ∙ not-false _ (c .if2 .left)))
 
 pub judge-constant-row-spec : {M : Type 1} → statement M

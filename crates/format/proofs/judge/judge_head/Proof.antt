@@ -24,7 +24,8 @@ returns-2 : tie.Need-returns-2
 returns-2 c = refuses (head-undue _ _ _ (c .before .before .before .if1 .left) (sym (c .before .before .is-due .ensures) ∙ not-true _ (c .if2 .taken))) (λ z. omega arith) refl
 
 returns-3 : tie.Need-returns-3
-returns-3 c = refuses (head-cut _ _ _ (c .before .before .before .before .if1 .left) (sym (c .before .before .before .is-due .ensures) ∙ not-false _ (c .before .if2 .left))
+returns-3 c =
+    refuses (head-cut _ _ _ (c .before .before .before .before .if1 .left) (sym (c .before .before .before .is-due .ensures) ∙ not-false _ (c .before .if2 .left))
     (sym (c .before .before .has-body .ensures) ∙ not-true _ (c .if3 .taken))) (λ z. omega arith) refl
 
 sub-t8 : tie.Need-sub-t8

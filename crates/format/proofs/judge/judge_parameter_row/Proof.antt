@@ -26,7 +26,7 @@ set : (c : tie.After-of-bytes) → whole (c .of-bytes .result) ≡ number (c .be
 set c =
     let a = c .before .before .before .before .before .before .before .args in
     let b = c .before .said-body in
-    let l = body-length parameter-tag (parameter-body (a .n)) (a .rest .now) (head (c .before .before .before .before)) (c .before .before .if1 .left) (b .ensures) in
+    let l = body-length parameter-tag (parameter-body (a .n)) (a .rest .now) (head (c .before .before .before .before)) (c .before .before .if1 .left) (b .ensures .bytes-are) in
     c .of-bytes .ensures ∙ ap number (take-all set-bytes (b .result .now) (omega arith))
 
 parameter-size-requires : tie.Need-parameter-size-requires
@@ -52,14 +52,14 @@ returns-2 : tie.Need-returns-2
 unfolding parameter-row
 returns-2 c =
     let a = c .before .before .before .before .before .before .before .before .before .args in
-    content-refused parameter-tag (parameter-body (a .n)) (a .rest .now) (head (c .before .before .before .before .before .before)) (c .before .before .before .before .if1 .left) (c .before .before .before .said-body .ensures)
+    content-refused parameter-tag (parameter-body (a .n)) (a .rest .now) (head (c .before .before .before .before .before .before)) (c .before .before .before .before .if1 .left) (c .before .before .before .said-body .ensures .bytes-are)
     _ (first-fails _ _ _ (sym (ap (within (a .n)) (set (c .before .before))) ∙ sym (c .before .within .ensures) ∙ not-true _ (c .if2 .taken))) (λ e. omega arith)
 
 returns-3 : tie.Need-returns-3
 unfolding parameter-row
 returns-3 c =
     let a = c .before .before .before .before .before .before .before .before .before .args in
-    content-passed parameter-tag (parameter-body (a .n)) (a .rest .now) (head (c .before .before .before .before .before .before)) (c .before .before .before .before .if1 .left) (c .before .before .before .said-body .ensures)
+    content-passed parameter-tag (parameter-body (a .n)) (a .rest .now) (head (c .before .before .before .before .before .before)) (c .before .before .before .before .if1 .left) (c .before .before .before .said-body .ensures .bytes-are)
     (zero-unless _ _ (sym (ap (within (a .n)) (set (c .before .before))) ∙ sym (c .before .within .ensures) ∙ not-false _ (c .if2 .left)))
 
 pub judge-parameter-row-spec : {M : Type 1} → statement M

@@ -53,7 +53,8 @@ loop-less : tie.Need-loop-less Inv-loop μ-loop
 loop-less c = omega arith
 
 loop-again : tie.Need-loop-again Inv-loop μ-loop
-loop-again c = let j = c .before .before .before .before .judge-parameter-row .ensures in
+loop-again c =
+    let j = c .before .before .before .before .judge-parameter-row .ensures in
     let z = c .before .before .if1 .left in
     todo-next (c .before .before .before .before .before .before .loop .inv) (c .before .before .before .before .before .loop-test .taken) _ (accepted j z) (next-part j z (ends (c .before)))
 

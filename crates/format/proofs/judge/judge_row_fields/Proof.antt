@@ -59,7 +59,8 @@ judge-parameter-rows-requires c κs = search needs
 
 returns-2 : tie.Need-returns-2
 unfolding row-fields
-returns-2 c = let a = c .before .before .before .before .before .before .before .before .before .args in
+returns-2 c =
+    let a = c .before .before .before .before .before .before .before .before .before .args in
     let t = rest (c .before .before .before .before) in
     seq-passed (constants (a .p) (a .n) (a .a)) (λ _. behind (a .n) (a .b)) _ _ (accepted (c .before .before .before .before .before .before .before .judge-constant-rows .ensures) (c .before .before .before .before .before .if1 .left))
     (seq-refused (parameters (a .n) (a .b)) (λ _. end-field) _ _ (c .before .before .judge-parameter-rows .ensures .refusal-is ∙ ap (λ (u : List ℕ). first-refusal (parameters (a .n) (a .b) .tests u)) t) (c .if2 .taken))
@@ -81,7 +82,8 @@ judge-end-requires c κs = search needs
 
 returns-3 : tie.Need-returns-3
 unfolding row-fields
-returns-3 c = let a = c .before .before .before .before .before .before .before .before .before .before .before .before .args in
+returns-3 c =
+    let a = c .before .before .before .before .before .before .before .before .before .before .before .before .args in
     let t = rest (c .before .before .before .before .before .before .before) in
     let j = c .before .before .before .before .before .judge-parameter-rows .ensures in
     let z = c .before .before .before .if2 .left in

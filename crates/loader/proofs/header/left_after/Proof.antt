@@ -28,7 +28,8 @@ loop-less : tie.Need-loop-less Inv-loop μ-loop
 loop-less c = omega arith
 
 loop-again : tie.Need-loop-again Inv-loop μ-loop
-loop-again c = let l = c .before .before .loop in
+loop-again c =
+    let l = c .before .before .loop in
     l .inv ∙ rests-next (l .todo) (l .rest .now) (c .before .loop-test .taken) ∙ ap (said-rests (l .todo - 1)) (sym (c .said-rest .ensures .bytes-are))
 
 returns : tie.Need-returns Inv-loop μ-loop

@@ -33,7 +33,8 @@ slice-aggregate-result : tie.Need-slice-aggregate-result
 slice-aggregate-result c = search needs
 
 returns : tie.Need-returns
-returns c = let z = lookup-none _ _ _ (c .before .before .judge-row .ensures) (c .before .if1 .taken) in
+returns c =
+    let z = lookup-none _ _ _ (c .before .before .judge-row .ensures) (c .before .if1 .taken) in
     (lookup-part _ _ 0 0 (z .0) (z .1), refl, omega (arith, z .0), sym (z .1))
 
 add-left-after : tie.Need-add-left-after
@@ -73,7 +74,8 @@ part-result-end : tie.Need-part-result-end
 part-result-end c = omega (arith, place c)
 
 returns-2 : tie.Need-returns-2
-returns-2 c = let l = place (c .before) in
+returns-2 c =
+    let l = place (c .before) in
     let a = c .before .before .before .before .before .before .before .args in
     let at = length (a .file .now) - c .before .before .before .left-after .result in
     let size = c .before .said-length .result in

@@ -24,12 +24,12 @@ abbrev μ-loop : tie.MeasureT-loop
 -- while rows are left, the area has room for the next one
 room : (c : tie.In-loop Inv-loop μ-loop) → let l = c .before .loop in
     (l .at + length (entries (said-body (l .rest .now))) ≤ length (l .out)) × (length (entries (said-body (l .rest .now))) ≤ length (take (length (l .out) - l .at) (drop (l .at) (l .out))))
-room c = let l = c .before .loop in room-left (entries (said-body (l .rest .now))) _ (l .inv) (constants-next (l .todo) (l .rest .now) (c .loop-test .taken))
+room c = let l = c .before .loop in room-left (entries (said-body (l .rest .now))) _ (l .inv) (constants-next (l .todo) (l .rest .now) (omega arith))
 
 -- its constants are put there
 read : (c : tie.After-read-entries Inv-loop μ-loop) → let l = c .before .before .before .before .loop in
     Put (entries (said-body (l .rest .now))) (take (length (l .out) - l .at) (drop (l .at) (l .out))) (c .read-entries .last .0) (c .read-entries .result)
-read c = rw (c .before .said-body .ensures) at (c .read-entries .ensures)
+read c = rw (c .before .said-body .ensures .bytes-are) at (c .read-entries .ensures)
 
 loop-holds : tie.Need-loop-holds Inv-loop μ-loop
 loop-holds c = wrote-none _ _ (c .before .before .pre)
@@ -50,7 +50,7 @@ said-body-requires : tie.Need-said-body-requires Inv-loop μ-loop
 said-body-requires c κs = search needs
 
 read-entries-requires : tie.Need-read-entries-requires Inv-loop μ-loop
-read-entries-requires c κs = rw (c .said-body .ensures) (room (c .before .before) .1)
+read-entries-requires c κs = rw (c .said-body .ensures .bytes-are) (room (c .before .before) .1)
 
 add-at : tie.Need-add-at Inv-loop μ-loop
 add-at c = let k = read (c .before .before) .many-is in omega (arith, room (c .before .before .before .before .before), c .before .before .before .before .before .before .before .before .before .good)
@@ -65,9 +65,10 @@ loop-less : tie.Need-loop-less Inv-loop μ-loop
 loop-less c = omega arith
 
 loop-again : tie.Need-loop-again Inv-loop μ-loop
-loop-again c = let l = c .before .before .before .before .before .before .before .loop in
+loop-again c =
+    let l = c .before .before .before .before .before .before .before .loop in
     let r = l .rest .now in
-    wrote-put (entries (said-body r)) _ _ (l .inv) (constants-next (l .todo) r (c .before .before .before .before .before .before .loop-test .taken) ∙ ap (λ (s : List ℕ). entries (said-body r) ++ constants-said (l .todo - 1) s) (sym (c .said-rest .ensures .bytes-are))) (read (c .before .before .before))
+    wrote-put (entries (said-body r)) _ _ (l .inv) (constants-next (l .todo) r (omega arith) ∙ ap (λ (s : List ℕ). entries (said-body r) ++ constants-said (l .todo - 1) s) (sym (c .said-rest .ensures .bytes-are))) (read (c .before .before .before))
 
 same-length : tie.Need-same-length Inv-loop μ-loop
 same-length c = c .before .loop .inv .same

@@ -63,7 +63,8 @@ loop-less : tie.Need-loop-less Inv-loop μ-loop
 loop-less c = simp (length-take, length-drop) (omega arith)
 
 loop-again : tie.Need-loop-again Inv-loop μ-loop
-loop-again c = let l = c .before .before .before .before .before .loop in
+loop-again c =
+    let l = c .before .before .before .before .before .loop in
     let r = l .rest .now in
     wrote-set (c .before .two .result) _ (l .inv)
     (entries-next r (c .before .before .before .before .loop-test .taken) ∙ ap (λ (x : ℕ). x ∷ entries (drop 2 r)) (sym (c .before .two .ensures .0)) ∙ ap (λ (s : List ℕ). c .before .two .result ∷ entries s) (sym (tail-part 2 r)))

@@ -1,7 +1,6 @@
 -- `calls::wundreska_mixed` meets its contract, by what the mixed call on the file and the writing of its answer ensure. Assumes nothing.
-use mathlib.Core.Path.{refl, sym, _∙_}
+use mathlib.Core.Path.{sym, _∙_}
 use borrow.Author.Needs.{needs}
-use Rattle.format.specs.Refusals.{first-refusal}
 use Rattle.format.specs.RefusalLaws.{then-zero}
 use Rattle.format.specs.File.Piece.{closed}
 use Rattle.format.specs.File.Format.{fields}
