@@ -1,18 +1,17 @@
 -- The laws of the tests of `Solve`: how the code comes to them, and what they say. Assumes nothing.
-use Prim.Native.Nat.{ℕ, _+_, _*_, _≤_, _<_}
+use Prim.Native.Nat.{ℕ, _*_, _≤_, _<_}
 use mathlib.Core.Path.{_≡_, refl}
 use mathlib.Core.Logic.{_⊎_, inl, inr}
-use mathlib.Core.Bool.{Bool, true, false, _&&_}
+use mathlib.Core.Bool.{true, false, _&&_}
 use mathlib.Core.List.{List}
 use native.Mathlib.Omega.{arith}
-use native.Mathlib.Decide.{decLt}
 use lib.ListN.{length, getD}
 use lib.Dec.{leb, ltb}
 use borrow.Author.Tests.{leb-true, lt-ltb, ltb-true}
 use Rattle.limits.specs.Limits.{most-columns, most-rows}
 use Rattle.residue.specs.Arithmetic.{is-prime}
 use Rattle.counting.specs.Bools.{iff-eq, and-left, and-right}
-use Rattle.counting.specs.Sets.{Some, all}
+use Rattle.counting.specs.Sets.{Some}
 use Rattle.counting.specs.Counts.{all-iff}
 use Rattle.columns.specs.Columns.{within}
 use Rattle.exchange.specs.Solve.{all-below, fitting, admissible}

@@ -1,4 +1,5 @@
 // One line for a model: its name, and what the layered rank call answers.
+use columns::ColumnSet;
 use layered::Answer;
 use limits::MOST_COLUMNS;
 use limits::MOST_ROWS;
@@ -9,7 +10,7 @@ pub fn number(n: u64) {
     io::print_decimal(1, n);
 }
 
-fn each_column(set: u64) {
+fn each_column(set: ColumnSet) {
     for x in 0..MOST_COLUMNS {
         if columns::contains(set, x) {
             number(x as u64);
@@ -18,7 +19,7 @@ fn each_column(set: u64) {
 }
 
 // The columns of a set, in braces.
-fn braces(set: u64) {
+fn braces(set: ColumnSet) {
     io::write_all(1, b" {");
     each_column(set);
     io::write_all(1, b" }");

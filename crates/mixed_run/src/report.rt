@@ -1,4 +1,5 @@
 // One line for a model: its name, and what the mixed rank call answers.
+use columns::ColumnSet;
 use limits::MOST_COLUMNS;
 use mixed::MixedAnswer;
 
@@ -7,7 +8,7 @@ pub fn number(n: u64) {
     io::print_decimal(1, n);
 }
 
-fn each_column(set: u64) {
+fn each_column(set: ColumnSet) {
     for x in 0..MOST_COLUMNS {
         if columns::contains(set, x) {
             number(x as u64);
@@ -16,7 +17,7 @@ fn each_column(set: u64) {
 }
 
 // The columns of a set, in braces.
-fn braces(set: u64) {
+fn braces(set: ColumnSet) {
     io::write_all(1, b" {");
     each_column(set);
     io::write_all(1, b" }");

@@ -1,10 +1,10 @@
 -- `columns::below` meets its contract. Assumes nothing.
-use Prim.Native.Nat.{ℕ, _-_, _^_, _<_, _≤_}
-use mathlib.Core.Path.{_≡_, _∙_, ap}
+use Prim.Native.Nat.{ℕ, _-_}
+use mathlib.Core.Path.{_∙_, ap}
 use native.Mathlib.Omega.{arith}
 use lib.Pow.{pow-pos}
 use borrow.Author.Needs.{needs}
-use Rattle.columns.specs.Columns.{width, members, upto}
+use Rattle.columns.specs.Columns.{width, members}
 use Rattle.columns.specs.Words.Bits.{shl-one}
 use Rattle.columns.specs.Words.Operations.{members-upto, upto-wide}
 use Rattle.columns.specs.ColumnSets.{whole}

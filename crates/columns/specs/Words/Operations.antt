@@ -1,20 +1,20 @@
 -- Each of the machine's operations on words, as the operation on sets of columns that it is. Assumes nothing.
-use mathlib.Core.Path.{_≡_, refl, sym, ap, ap₂, _∙_, subst, fun-ext}
+use mathlib.Core.Path.{_≡_, refl, sym, ap, ap₂, _∙_, fun-ext}
 use mathlib.Core.Bool.{Bool, true, false, not, _&&_, _||_, cond, true≢false}
 use mathlib.Core.Logic.{_≢_, _↔_, ⊎-elim}
 use Prim.Native.Nat.{ℕ, zero, suc, _+_, _-_, _*_, _/_, _%_, _^_, _≤_, _<_, min, max}
-use native.Mathlib.Nat.{mod-lt, mod-le, mod-eq-of-lt, div-eq-of-lt, div-lt-iff-lt-mul, zero-min, pow-suc, mul-div-cancel, mul-mod-left, mul-assoc, not-suc-le-zero, le-of-suc-le-suc}
-use native.Mathlib.Numerals.{add-one, one-add}
+use native.Mathlib.Nat.{mod-lt, mod-le, mod-eq-of-lt, div-eq-of-lt, div-lt-iff-lt-mul, zero-min, pow-suc, mul-div-cancel, mul-mod-left, mul-assoc}
+use native.Mathlib.Numerals.{one-add}
 use native.Mathlib.Decide.{ℕ-discrete, decLt}
 use native.Mathlib.Omega.{arith}
 use lib.Arith.{lt-one}
 use lib.Dec.{lit<, eqb, leb, ltb}
-use lib.Pow.{pow-pos, pow-mono, pow-add, pow-lt, mod-pow-add, shr-shr}
+use lib.Pow.{pow-pos, pow-mono, pow-add, mod-pow-add, shr-shr}
 use lib.Bits.{bitAnd, bitOr}
 use lib.Count.{ones, ones-cat, trailingZeros, under}
 use borrow.Author.Tests.{le-leb, lt-leb, eq-eqb, ne-eqb, eqb-true, lt-ltb, le-ltb, ltb-true}
-use Rattle.counting.specs.Bools.{true?, not-true, iff-eq, implies, implied}
-use Rattle.counting.specs.Sets.{Set, _∈_, _∩_, _∪_, ∁, indicator, #, all}
+use Rattle.counting.specs.Bools.{not-true, iff-eq, implies, implied}
+use Rattle.counting.specs.Sets.{Set, _∈_, _∩_, _∪_, ∁, indicator, #}
 use Rattle.counting.specs.Counts.{all-iff, #-⊖}
 use Rattle.columns.specs.Columns.{width, bit, members, none, upto, inserted, removed, moved-up, moved-down, least, word-of, within}
 use Rattle.columns.specs.Words.Bits.{bit-lt, two-cases, bit-suc, bit-zero, bit-and, bit-or, bit-not, bit-pow-same, bit-pow-other, bit-of-zero, bit-mod, bits-ext}

@@ -1,13 +1,12 @@
 -- The laws of the set operations that the contracts of `columns` cite: what loops over a set, and sets that grow, go by. Assumes nothing.
-use Prim.Native.Nat.{ℕ, suc, _+_, _≤_, _<_}
+use Prim.Native.Nat.{ℕ, _≤_, _<_}
 use mathlib.Core.Path.{_≡_, refl}
 use mathlib.Core.Bool.{not, _&&_}
 use mathlib.Core.Logic.{_≢_, _⊎_, inl, inr}
 use native.Mathlib.Omega.{arith}
-use native.Mathlib.Decide.{ℕ-discrete, decLt}
 use lib.Dec.{eqb, ltb}
 use borrow.Author.Tests.{eq-eqb, ne-eqb, eqb-true, lt-ltb, ltb-true}
-use Rattle.counting.specs.Bools.{true?, and-in, and-left, and-right, or-left, or-right, or-split, not-in, in-not, not-of, not-both}
+use Rattle.counting.specs.Bools.{and-in, and-left, and-right, or-left, or-right, or-split, in-not, not-both}
 use Rattle.counting.specs.Sets.{Set, _∈_, _⊆_, _∩_, _∪_, ∁, #, Some}
 use Rattle.counting.specs.Counts.{#-⊖, #-pick}
 use Rattle.counting.specs.Injections.{#-strict}

@@ -3,7 +3,7 @@ use Prim.Native.Nat.{ℕ, _^_, _<_}
 use mathlib.Core.Path.{_≡_, refl, ap, _∙_}
 use Rattle.counting.specs.Sets.{_∈_}
 use Rattle.columns.specs.Columns.{width, members, none}
-use Rattle.columns.specs.ColumnSets.{whole, set-of, empty-set, Fits}
+use Rattle.columns.specs.ColumnSets.{whole, empty-set, Fits}
 use Rattle.columns.specs.Words.Operations.{members-zero, members-below}
 use Rattle.columns.specs.declared.ColumnSet.{ColumnSet}
 
@@ -14,10 +14,6 @@ whole-below s f = f
 -- a set has no column that it has no room for
 pub columns-below : (s : ColumnSet) (x : ℕ) → Fits s → x ∈ members (whole s) → x < width
 columns-below s x f e = members-below (whole s) x (whole-below s f) e
-
-pub whole-set-of : (w : ℕ) → whole (set-of w) ≡ w
-unfolding whole set-of
-whole-set-of w = refl
 
 -- ---- the empty set
 

@@ -1,25 +1,24 @@
 -- The answer, read off the arrays when all columns have been offered. Assumes nothing.
 use Prim.Native.Nat.{ℕ, zero, suc, _+_, _-_, _≤_, _<_}
-use mathlib.Core.Path.{_≡_, refl, sym, ap, _∙_, fun-ext}
-use mathlib.Core.Logic.{_≢_, _↔_, _⊎_, inl, inr}
-use mathlib.Core.Bool.{Bool, true, false, not, cond, _&&_, true≢false, false≢true}
+use mathlib.Core.Path.{_≡_, sym, ap, _∙_, fun-ext}
+use mathlib.Core.Logic.{_≢_, _↔_, inl, inr}
+use mathlib.Core.Bool.{false, not, cond, true≢false, false≢true}
 use mathlib.Core.List.{List}
 use native.Mathlib.Omega.{arith}
 use native.Mathlib.Decide.{ℕ-discrete, decLt}
 use lib.ListN.{getD}
 use lib.Dec.{ltb}
 use borrow.Author.Tests.{lt-ltb, le-ltb}
-use Rattle.limits.specs.Limits.{most-columns, most-rows, no-column}
+use Rattle.limits.specs.Limits.{most-rows, no-column}
 use Rattle.counting.specs.Bools.{true?, not-true, iff-eq, and-in, and-left, and-right, not-of, not-both}
 use Rattle.counting.specs.Sets.{Set, _∈_, _∩_, ∁, Some, #}
 use Rattle.counting.specs.Counts.{some?, #-ext, #-none}
 use Rattle.counting.specs.Blocks.{#-plus}
 use Rattle.columns.specs.Columns.{width, none, inserted}
 use Rattle.columns.specs.Words.SetLaws.{inserted-same, inserted-old, inserted-split}
-use Rattle.rank.specs.Graph.States.{State, Placed, placed-of, placed-iff, Terminal}
-use Rattle.rank.specs.Graph.Closed.{Closed}
-use Rattle.rank.specs.Graph.Layers.{grow, grow-old, grow-arc, grow-split, layer, layer-start, layer-next, unplaced, unplaced-iff}
-use Rattle.rank.specs.Layered.Model.{Model, Seat, out, constant, row, Assignment, is-placed, is-constant, placing, constants, Legal}
+use Rattle.rank.specs.Graph.States.{State, Placed, placed-of, placed-iff}
+use Rattle.rank.specs.Graph.Layers.{grow-old, grow-arc, grow-split, layer, layer-start, layer-next, unplaced-iff}
+use Rattle.rank.specs.Layered.Model.{Model, Seat, out, constant, is-placed, is-constant, placing, constants}
 use Rattle.rank.specs.Layered.Rank.{rank, placed, short}
 use Rattle.rank.specs.Layered.Meaning.{seat-cases}
 use Rattle.rank.specs.Layered.Assignments.{row-seat-low, row-seat-high, assignment, assignment-owned, assignment-places, constant-owner, row-owner}
@@ -29,7 +28,7 @@ use Rattle.rank.specs.Layered.Offers.{finished, StateAnswers, state-answers}
 use Rattle.exchange.specs.Solution.{shown-row, shown, ShowsRow, Solved}
 use Rattle.exchange.specs.Code.Scanning.{owned}
 use Rattle.exchange.specs.Code.Searching.{Ended, Final, Searched, in-last}
-use Rattle.exchange.specs.Code.Held.{Given, model-of, Held}
+use Rattle.exchange.specs.Code.Held.{Given, model-of}
 use Rattle.exchange.specs.Code.Offering.{Offered-all}
 
 -- ---- the constant side

@@ -28,7 +28,7 @@ use Rattle.rank.specs.Layered.Valid.{touch, touch-constant, touch-row, Valid, s
 use Rattle.rank.specs.Layered.Seating.{Good, good-valid, freed, moved-valid, moved}
 use Rattle.rank.specs.Layered.Assignments.{offered-owner}
 use Rattle.exchange.specs.Sizes.{stride, lines}
-use Rattle.exchange.specs.Code.Cells.{cell, Below, cleared, cleared-is, Pivoted}
+use Rattle.exchange.specs.Code.Cells.{cell, Below, cleared-is, Pivoted}
 use Rattle.exchange.specs.Code.Scanning.{Arrays, touched, touched-constant, touched-parameter, owned}
 use Rattle.exchange.specs.Code.Searching.{Shows}
 

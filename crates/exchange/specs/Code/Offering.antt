@@ -2,19 +2,19 @@
 use Prim.Native.Nat.{ℕ, zero, suc, _+_, _-_, _≤_, _<_}
 use mathlib.Core.Path.{_≡_, refl, sym, ap, _∙_}
 use mathlib.Core.Logic.{_≢_, _↔_, inl, inr}
-use mathlib.Core.Bool.{Bool, true, false, true≢false, false≢true}
+use mathlib.Core.Bool.{Bool, true, false, false≢true}
 use mathlib.Core.List.{List}
 use lib.ListN.{getD}
 use native.Mathlib.Omega.{arith}
-use native.Mathlib.Decide.{ℕ-discrete, decLt}
-use Rattle.counting.specs.Bools.{not-true, iff-eq}
+use native.Mathlib.Decide.{ℕ-discrete}
+use Rattle.counting.specs.Bools.{not-true}
 use Rattle.counting.specs.Sets.{Set, _∈_, set}
 use Rattle.counting.specs.Counts.{set-same, set-other}
 use Rattle.columns.specs.Columns.{width, members, none, inserted, removed}
 use Rattle.columns.specs.Words.SetLaws.{inserted-same, inserted-old, inserted-split, removed-old, removed-gone, removed-other}
-use Rattle.rank.specs.Graph.States.{State, Placed, SamePlaced, placed-of, placed-iff}
+use Rattle.rank.specs.Graph.States.{Placed, SamePlaced, placed-of, placed-iff}
 use Rattle.rank.specs.Layered.Model.{Model, Assignment, placing, Legal}
-use Rattle.rank.specs.Layered.Rank.{taken, placeable}
+use Rattle.rank.specs.Layered.Rank.{taken}
 use Rattle.rank.specs.Layered.Meaning.{placeable-iff}
 use Rattle.rank.specs.Layered.Augmenting.{StateOf, OneMore}
 use Rattle.rank.specs.Layered.ColumnOrder.{taken-no}

@@ -1,7 +1,7 @@
 -- Placing one column: search, seat, search again; what each turn does to the state that is held. Assumes nothing.
-use Prim.Native.Nat.{ℕ, zero, suc, _+_, _-_, _≤_, _<_}
-use mathlib.Core.Path.{_≡_, refl, sym, ap, _∙_, fun-ext}
-use mathlib.Core.Logic.{_⊎_, inl, inr}
+use Prim.Native.Nat.{ℕ, suc, _+_, _-_, _≤_, _<_}
+use mathlib.Core.Path.{_≡_, _∙_, fun-ext}
+use mathlib.Core.Logic.{inl, inr}
 use mathlib.Core.Bool.{Bool, true, false, false≢true}
 use mathlib.Core.List.{List}
 use native.Mathlib.Omega.{arith}
@@ -11,14 +11,14 @@ use Rattle.counting.specs.Sets.{Set, _∈_}
 use Rattle.columns.specs.Columns.{width, members, none, inserted}
 use Rattle.columns.specs.ColumnSets.{whole}
 use Rattle.columns.specs.Words.SetLaws.{inserted-same, inserted-split}
-use Rattle.rank.specs.Graph.States.{State, Placed, Terminal, Moved, SamePlaced, moved-placed, Entered}
+use Rattle.rank.specs.Graph.States.{State, Placed, Terminal, SamePlaced, moved-placed}
 use Rattle.rank.specs.Graph.Closed.{Closed}
 use Rattle.rank.specs.Graph.Layers.{layer, layer-start, layer-placed}
 use Rattle.rank.specs.Graph.Search.{Hit, fall}
 use Rattle.rank.specs.Layered.Augmenting.{only, only-iff, OneMore, entered-more}
 use Rattle.exchange.specs.declared.search.Found.{Found}
 use Rattle.exchange.specs.Code.Scanning.{Arrays, touched, owned}
-use Rattle.exchange.specs.Code.Searching.{Shows, Ended, Final, Searched, in-last}
+use Rattle.exchange.specs.Code.Searching.{Shows, Ended, Searched, in-last}
 use Rattle.exchange.specs.Code.Held.{Given, Held, held-shows, Sat, Seated, seat-held}
 
 -- the set of column j alone, as the code makes it

@@ -1,9 +1,9 @@
 -- The exchange graph as the code reads it off its arrays: which rows touch a column and who owns them; and what reading a set of columns says.
 -- Assumes nothing.
-use Prim.Native.Nat.{ℕ, suc, _+_, _-_, _≤_, _<_}
+use Prim.Native.Nat.{ℕ, _+_, _-_, _≤_, _<_}
 use mathlib.Core.Path.{_≡_, sym, ap}
-use mathlib.Core.Logic.{_⊎_, inl, inr}
-use mathlib.Core.Bool.{Bool, true, false, not, cond, false≢true}
+use mathlib.Core.Logic.{inl, inr}
+use mathlib.Core.Bool.{Bool, true, not, cond, false≢true}
 use mathlib.Core.List.{List}
 use native.Mathlib.Omega.{arith}
 use native.Mathlib.Decide.{ℕ-discrete}
@@ -11,7 +11,7 @@ use lib.ListN.{length, getD}
 use lib.Dec.{eqb, ltb}
 use borrow.Author.Tests.{lt-ltb, le-ltb}
 use Rattle.counting.specs.Sets.{Set, _∈_, _⊆_}
-use Rattle.columns.specs.Columns.{width, members, none, inserted}
+use Rattle.columns.specs.Columns.{members, none, inserted}
 use Rattle.columns.specs.Words.SetLaws.{inserted-split}
 use Rattle.limits.specs.Limits.{most-columns, most-rows}
 use Rattle.residue.specs.Arithmetic.{is-prime}

@@ -1,12 +1,12 @@
 -- What the search, layer by layer, says of the state that the code's arrays show. Assumes nothing.
 use Prim.Native.Nat.{ℕ, zero, suc, _+_, _-_, _≤_, _<_}
-use mathlib.Core.Path.{_≡_, refl, sym, ap, _∙_}
+use mathlib.Core.Path.{_≡_, sym, ap, _∙_}
 use mathlib.Core.Logic.{_↔_, _⊎_, inl, inr}
-use mathlib.Core.Bool.{Bool, true, not, _&&_}
+use mathlib.Core.Bool.{Bool, true, not}
 use native.Mathlib.Omega.{arith}
 use native.Mathlib.Decide.{ℕ-discrete, decLe}
 use native.Mathlib.Numerals.{add-one}
-use Rattle.counting.specs.Bools.{true?, and-in, and-left, and-right, or-left, or-right, or-split, not-of}
+use Rattle.counting.specs.Bools.{true?, and-in, and-left, or-left, or-right, or-split, not-of}
 use Rattle.counting.specs.Sets.{Set, _∈_, _∩_, _∪_, ∁, #, Some}
 use Rattle.columns.specs.Columns.{width}
 use Rattle.columns.specs.Words.SetLaws.{nothing-in}
@@ -14,7 +14,7 @@ use Rattle.rank.specs.Graph.States.{State, Terminal, Arc}
 use Rattle.rank.specs.Graph.Closed.{Closed}
 use Rattle.rank.specs.Graph.Layers.{ArcClosed, layer, layer-start, layer-next, grow, grow-old, grow-arc, grow-split, stable}
 use Rattle.rank.specs.Graph.Search.{Hit}
-use Rattle.exchange.specs.Code.Scanning.{RowsRead, Owner, Owners, Scanned}
+use Rattle.exchange.specs.Code.Scanning.{Owner, Scanned}
 
 -- the arrays show s: they touch offered columns as s does, and have its owners, which are offered
 pub record Shows {n N : ℕ} (E : Set) (s : State n N) (tch : ℕ → ℕ → Bool) (own : ℕ → ℕ) : Type 0 where

@@ -2,6 +2,7 @@
 use mathlib.Core.Path.{refl, sym, _∙_}
 use mathlib.Core.List.{[]}
 use borrow.Author.Needs.{needs}
+use Rattle.columns.specs.ColumnSets.{row-numbers}
 use Rattle.format.specs.Refusals.{first-refusal, model-tests, refusal}
 use Rattle.rank.specs.ListedModel.{listed-model}
 use Rattle.host.specs.AnswerBytes.{answer-length, answer-bytes, AnswerWritten}
@@ -16,7 +17,7 @@ returns : tie.Need-returns
 unfolding refusal
 returns c =
     let a = c .before .before .before .before .before .before .args in
-    refused-before (model-tests (a .p) (a .n) (a .a) (a .b) (a .constants .now) (a .parameters .now)) [] answer-length (AnswerWritten (listed-model (a .p) (a .n) (a .a) (a .b) (a .constants .now) (a .parameters .now))) (a .answer .now) _ (c .before .before .layered-rank .ensures .is-refusal) (c .if1 .taken)
+    refused-before (model-tests (a .p) (a .n) (a .a) (a .b) (a .constants .now) (row-numbers (a .parameters .now))) [] answer-length (AnswerWritten (listed-model (a .p) (a .n) (a .a) (a .b) (a .constants .now) (row-numbers (a .parameters .now)))) (a .answer .now) _ (c .before .before .layered-rank .ensures .is-refusal) (c .if1 .taken)
 
 put-answer-requires : tie.Need-put-answer-requires
 put-answer-requires c κs = search needs
@@ -31,7 +32,7 @@ returns-2 c =
     let a = at-else .before .before .before .before .before .before .args in
     let h = at-else .before .before .layered-rank .ensures in
     let ok = sym (h .is-refusal) ∙ at-else .if1 .left in
-    answer-put answer-bytes (model-tests (a .p) (a .n) (a .a) (a .b) (a .constants .now) (a .parameters .now)) [] _ (h .if-accepted ok) ok refl (c .before .before .put-answer .ensures)
+    answer-put answer-bytes (model-tests (a .p) (a .n) (a .a) (a .b) (a .constants .now) (row-numbers (a .parameters .now))) [] _ (h .if-accepted ok) ok refl (c .before .before .put-answer .ensures)
 
 pub harness-layered-spec : {M : Type 1} → statement M
 harness-layered-spec = tie.close (tie.spec layered-rank-requires returns put-answer-requires same-length returns-2)

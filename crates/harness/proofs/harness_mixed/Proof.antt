@@ -2,6 +2,7 @@
 use mathlib.Core.Path.{refl, sym, _∙_}
 use mathlib.Core.List.{[]}
 use borrow.Author.Needs.{needs}
+use Rattle.columns.specs.ColumnSets.{row-numbers}
 use Rattle.format.specs.Refusals.{first-refusal, mixed-tests, mixed-refusal}
 use Rattle.mixed_models.specs.Mixed.{mixed}
 use Rattle.host.specs.AnswerBytes.{mixed-length, mixed-bytes, MixedWritten}
@@ -16,7 +17,7 @@ returns : tie.Need-returns
 unfolding mixed-refusal
 returns c =
     let a = c .before .before .before .before .before .before .args in
-    refused-before (mixed-tests (a .p) (a .n) (a .a) (a .b) (a .constants .now) (a .parameters .now)) [] mixed-length (MixedWritten (mixed (a .p) (a .a) (a .n) (a .constants .now) (a .parameters .now))) (a .answer .now) _ (c .before .before .mixed-rank .ensures .is-refusal) (c .if1 .taken)
+    refused-before (mixed-tests (a .p) (a .n) (a .a) (a .b) (a .constants .now) (row-numbers (a .parameters .now))) [] mixed-length (MixedWritten (mixed (a .p) (a .a) (a .n) (a .constants .now) (row-numbers (a .parameters .now)))) (a .answer .now) _ (c .before .before .mixed-rank .ensures .is-refusal) (c .if1 .taken)
 
 put-mixed-requires : tie.Need-put-mixed-requires
 put-mixed-requires c κs = search needs
@@ -31,7 +32,7 @@ returns-2 c =
     let a = at-else .before .before .before .before .before .before .args in
     let h = at-else .before .before .mixed-rank .ensures in
     let ok = sym (h .is-refusal) ∙ at-else .if1 .left in
-    answer-put mixed-bytes (mixed-tests (a .p) (a .n) (a .a) (a .b) (a .constants .now) (a .parameters .now)) [] _ (h .if-accepted ok) ok refl (c .before .before .put-mixed .ensures)
+    answer-put mixed-bytes (mixed-tests (a .p) (a .n) (a .a) (a .b) (a .constants .now) (row-numbers (a .parameters .now))) [] _ (h .if-accepted ok) ok refl (c .before .before .put-mixed .ensures)
 
 pub harness-mixed-spec : {M : Type 1} → statement M
 harness-mixed-spec = tie.close (tie.spec mixed-rank-requires returns put-mixed-requires same-length returns-2)

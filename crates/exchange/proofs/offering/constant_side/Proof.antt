@@ -1,5 +1,5 @@
 -- `exchange::offering::constant_side` meets its contract. The invariant: the set has the owners of the rows below q. The measure is what is left. Assumes nothing.
-use Prim.Native.Nat.{ℕ, _+_, _-_, _*_, _<_, _≤_}
+use Prim.Native.Nat.{_-_, _≤_}
 use mathlib.Core.Path.{_≡_, _∙_, ap}
 use mathlib.Core.Logic.{⊎-elim}
 use Rattle.columns.specs.Columns.{members, inserted}

@@ -1,12 +1,11 @@
 -- `exchange::offering::offer_all` meets its contract. The invariant: the offered columns below some column have been offered. The measure is the number
 -- of those that are left. Assumes nothing.
-use Prim.Native.Nat.{ℕ, _+_, _-_, _*_, _<_, _≤_}
-use mathlib.Core.Path.{_≡_, sym, _∙_, subst}
+use Prim.Native.Nat.{ℕ, _-_, _<_, _≤_}
+use mathlib.Core.Path.{_≡_, sym, _∙_}
 use mathlib.Core.Logic.{_≢_}
-use mathlib.Core.Bool.{Bool}
 use borrow.Author.Tests.{eqb-true, eqb-false, not-false}
 use Rattle.counting.specs.Bools.{not-in}
-use Rattle.counting.specs.Sets.{Set, _∈_, #}
+use Rattle.counting.specs.Sets.{_∈_, #}
 use Rattle.columns.specs.Columns.{width, members}
 use Rattle.columns.specs.ColumnSets.{whole, row-numbers}
 use Rattle.columns.specs.Words.Sets.{empty-none}

@@ -1,5 +1,5 @@
 -- `exchange::offering::row_columns` meets its contract. The invariant: the rows below r show their columns, the others none. The measure is what is left. Assumes nothing.
-use Prim.Native.Nat.{ℕ, _+_, _-_, _*_, _<_, _≤_}
+use Prim.Native.Nat.{_+_, _-_, _<_, _≤_}
 use mathlib.Core.Path.{_≡_, refl, _∙_}
 use borrow.Author.Count.{below-more}
 use lib.ListN.{length, getD, set, getD-replicate}

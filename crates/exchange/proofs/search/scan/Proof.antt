@@ -1,18 +1,18 @@
 -- `exchange::search::scan` meets its contract. The outer invariant: of the set, the columns that are left have not been read, of the others all rows have
 -- been. The inner one: of the column x the rows from q on have been read. The measures are the size of what is left, and q. Assumes nothing.
-use Prim.Native.Nat.{ℕ, _+_, _-_, _*_, _<_, _≤_}
-use mathlib.Core.Path.{_≡_, refl, sym, ap, _∙_, subst}
+use Prim.Native.Nat.{ℕ, _+_, _-_, _<_, _≤_}
+use mathlib.Core.Path.{_≡_, refl, sym, ap, _∙_}
 use mathlib.Core.Logic.{_≢_, _⊎_, inl, inr, ⊎-elim}
-use mathlib.Core.Bool.{true, true≢false}
+use mathlib.Core.Bool.{true≢false}
 use native.Mathlib.Decide.{ℕ-discrete}
 use borrow.Author.Tests.{eqb-true, eqb-false, not-false}
 use Rattle.counting.specs.Bools.{not-in}
 use Rattle.counting.specs.Sets.{Set, _∈_, _⊆_, #}
-use Rattle.columns.specs.Columns.{width, members, none, inserted, removed}
+use Rattle.columns.specs.Columns.{width, members, inserted}
 use Rattle.columns.specs.ColumnSets.{whole, row-numbers}
 use Rattle.columns.specs.Words.Sets.{columns-below, empty-none}
 use Rattle.columns.specs.Words.SetLaws.{inserted-same, inserted-old, removed-old, removed-other, removed-less, least-there, nothing-in}
-use Rattle.exchange.specs.Code.Scanning.{touched, owned, RowsRead, rows-kept, rows-down, Owners, owners-none, owners-more, Scanned}
+use Rattle.exchange.specs.Code.Scanning.{touched, owned, RowsRead, rows-kept, rows-down, Owners, owners-none, owners-more}
 use borrow.Author.Needs.{needs}
 use native.Mathlib.Omega.{arith}
 use Rattle.exchange.proofs.search.scan.Statement.{statement}

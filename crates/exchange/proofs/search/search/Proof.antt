@@ -1,10 +1,10 @@
 -- `exchange::search::search` meets its contract. The invariant: the search is in layer `depth`, and each layer has brought a column. The measure is the
 -- number of columns that are not reached. Assumes nothing.
-use Prim.Native.Nat.{ℕ, _+_, _-_, _*_, _<_, _≤_}
+use Prim.Native.Nat.{ℕ, _-_, _<_, _≤_}
 use mathlib.Core.Path.{_≡_, sym, ap, _∙_}
 use mathlib.Core.Logic.{_≢_}
 use borrow.Author.Tests.{eqb-true, eqb-false}
-use Rattle.counting.specs.Sets.{Set, _∈_, _∩_, _∪_, ∁, #}
+use Rattle.counting.specs.Sets.{Set, _∈_, _∩_, ∁, #}
 use Rattle.counting.specs.Counts.{#-le}
 use Rattle.columns.specs.Columns.{width, members}
 use Rattle.columns.specs.ColumnSets.{whole, row-numbers}

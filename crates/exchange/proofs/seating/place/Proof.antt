@@ -1,15 +1,13 @@
 -- `exchange::seating::place` meets its contract. The invariant: what the last search found, and that the state that is held places what the first did.
 -- The measure is the depth at which it was found. Assumes nothing.
-use Prim.Native.Nat.{ℕ, _+_, _-_, _*_, _<_, _≤_}
-use mathlib.Core.Path.{_≡_, ap, _∙_, subst}
+use Prim.Native.Nat.{ℕ, _+_, _-_, _<_}
+use mathlib.Core.Path.{_≡_, ap, _∙_}
 use mathlib.Core.Bool.{true≢false, false≢true}
 use mathlib.Core.List.{List}
 use Rattle.counting.specs.Sets.{Set}
 use Rattle.columns.specs.Columns.{members, none, inserted}
 use Rattle.columns.specs.ColumnSets.{whole, row-numbers}
 use Rattle.columns.specs.Words.Sets.{empty-none}
-use Rattle.rank.specs.Graph.Closed.{Closed}
-use Rattle.rank.specs.Graph.Layers.{layer}
 use Rattle.exchange.specs.Code.Cells.{Below}
 use Rattle.exchange.specs.Code.Scanning.{Lengths, Arrays}
 use Rattle.exchange.specs.Code.Held.{held-shows}

@@ -1,9 +1,7 @@
 -- `exchange::seating::seat` meets its contract, by what `vacate` and `pivot` ensure. Assumes nothing.
 use borrow.Author.Needs.{needs}
 use native.Mathlib.Omega.{arith}
-use mathlib.Core.Path.{_≡_, sym, _∙_, refl}
-use lib.ListN.{length, length-set}
-use Rattle.exchange.specs.Code.Held.{Sat}
+use mathlib.Core.Path.{refl}
 use Rattle.exchange.proofs.seating.seat.Statement.{statement}
 use Rattle.exchange.proofs.seating.seat.Tie as tie
 

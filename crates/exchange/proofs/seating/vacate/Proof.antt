@@ -1,9 +1,7 @@
 -- `exchange::seating::vacate` meets its contract. Assumes nothing.
 use borrow.Author.Needs.{needs}
-use native.Mathlib.Omega.{arith}
-use mathlib.Core.Path.{_≡_, sym, _∙_, refl}
+use mathlib.Core.Path.{refl}
 use mathlib.Core.Logic.{inl, inr}
-use lib.ListN.{length, length-set}
 use Rattle.exchange.proofs.seating.vacate.Statement.{statement}
 use Rattle.exchange.proofs.seating.vacate.Tie as tie
 
