@@ -18,13 +18,24 @@ unfoldable pub shown-row : (b : ℕ) (rows : List ℕ) (x : ℕ) → Dec (Some b
 shown-row b rows x (yes w) = row (w .0)
 shown-row b rows x (no nw) = out
 
--- the assignment that an answer shows: a column of the constant side is there, a row's column is on that row
-unfoldable pub shown : (n b : ℕ) (side : Set) (rows : List ℕ) → Assignment
-shown n b side rows x = cond (ltb x n) (cond (side x) constant (shown-row b rows x (some? b (λ r. getD rows r 0 ≡ x) (λ r. ℕ-discrete (getD rows r 0) x)))) out
+-- the seat that the rows show for column x
+abbrev pub row-seat : (b : ℕ) (rows : List ℕ) (x : ℕ) → Seat
+row-seat b rows x = shown-row b rows x (some? b (λ r. getD rows r 0 ≡ x) (λ r. ℕ-discrete (getD rows r 0) x))
 
--- row r shows the column that has its seat there, or no column where none has
+-- the assignment that an answer shows: a column of the constant side is there, a row's column is on that row, and columns from n on are out
+unfoldable pub shown : (n b : ℕ) (side : Set) (rows : List ℕ) → Assignment
+shown n b side rows x = cond (ltb x n) (cond (side x) constant (row-seat b rows x)) out
+
+-- row r shows the column that has its seat there,
+abbrev pub ShowsColumn : (n b : ℕ) (side : Set) (rows : List ℕ) (r : ℕ) → Type 0
+ShowsColumn n b side rows r = (getD rows r 0 < n) × (shown n b side rows (getD rows r 0) ≡ row r)
+
+-- or no column, where none has its seat there
+abbrev pub ShowsNone : (n b : ℕ) (side : Set) (rows : List ℕ) (r : ℕ) → Type 0
+ShowsNone n b side rows r = (getD rows r 0 ≡ no-column) × ((x : ℕ) → shown n b side rows x ≢ row r)
+
 abbrev pub ShowsRow : (n b : ℕ) (side : Set) (rows : List ℕ) (r : ℕ) → Type 0
-ShowsRow n b side rows r = ((getD rows r 0 < n) × (shown n b side rows (getD rows r 0) ≡ row r)) ⊎ ((getD rows r 0 ≡ no-column) × ((x : ℕ) → shown n b side rows x ≢ row r))
+ShowsRow n b side rows r = ShowsColumn n b side rows r ⊎ ShowsNone n b side rows r
 
 -- the answer to M: rank, placed set and short set are those of the definitions. The assignment is legal and places exactly the placed set; which side
 -- and row a placed column takes is left open, and this is all that holds of it.

@@ -1,5 +1,6 @@
 pub mod Entries
 pub mod Passing
+pub mod Rows
 pub mod Parts
 pub mod Judging
 pub mod Headers

@@ -6,10 +6,10 @@ use mathlib.Core.Logic.{_≢_}
 use mathlib.Core.Bool.{true}
 use mathlib.Core.List.{List, [], _∷_, _++_, flatten}
 use native.Mathlib.Omega.{arith}
-use native.Mathlib.Nat.{mul-le-mul, zero-mul, suc-mul, le-of-eq}
+use native.Mathlib.Nat.{mul-le-mul, le-of-eq}
 use native.Mathlib.Decide.{decLt}
-use lib.ListN.{length, getD, take, drop, replicate, length-append, length-replicate, List·getD-append, List·getD-eq-default}
-use lib.Seq.{getD-append-add, getD-drop, take-append-seam}
+use lib.ListN.{length, getD, drop, replicate, length-replicate, List·getD-append, List·getD-eq-default}
+use lib.Seq.{getD-append-add, getD-drop}
 use Rattle.residue.specs.Residues.{res}
 use Rattle.columns.specs.Columns.{members, within}
 use Rattle.columns.specs.ColumnSets.{most-words, row-numbers}
@@ -19,6 +19,7 @@ use Rattle.rank.specs.Modulus.{modulus}
 use Rattle.rank.specs.ModelModulo.{model-modulo}
 use Rattle.rank.specs.Layered.Model.{Model}
 use Rattle.format.specs.Lists.{All, over}
+use Rattle.format.proofs.Rows.{over-front, flat-length, flat-all, all-second}
 use Rattle.format.specs.OverLaws.{over-length}
 use Rattle.limits.specs.Limits.{most-rows, most-constants}
 use Rattle.format.specs.Refusals.{where-accepted, model-tests, refusal}
@@ -48,35 +49,6 @@ over-zeros xs m k = elim (decLt k (length xs)) [
       ∙ getD-drop (length xs) (replicate m 0) (k - length xs) 0 ∙ zeros-default m (length xs + (k - length xs)) ∙ sym (List·getD-eq-default xs 0 (omega arith))
 ]
 
--- the front of an area is what was written over it
-over-front : (xs d : List ℕ) (k : ℕ) → length xs ≡ k → take k (over xs d) ≡ xs
-unfolding over
-over-front xs d k e = subst (λ (j : ℕ). take j (xs ++ drop (length xs) d) ≡ xs) e (take-append-seam xs (drop (length xs) d))
-
--- ---- rows one after the other
-
-all-append : {A : Type 0} (Is : A → Type 0) (xs ys : List A) → All Is xs → All Is ys → All Is (xs ++ ys)
-all-append Is [] ys h k = k
-all-append Is (x ∷ xs) ys h k = (h .0, all-append Is xs ys (h .1) k)
-
-flat-length : (p n : ℕ) (rs : List (List ℕ)) → All (λ r. (length r ≡ n) × All (λ c. c < p) r) rs → length (flatten rs) ≡ length rs * n
-unfolding flatten
-flat-length p n [] h = sym (zero-mul n)
-flat-length p n (r ∷ rs) h =
-    let e = flat-length p n rs (h .1) in
-    let l = h .0 .0 in
-    let k = length-append r (flatten rs) in
-    omega (arith, k, l, e, suc-mul (length rs) n)
-
-flat-below : (p n : ℕ) (rs : List (List ℕ)) → All (λ r. (length r ≡ n) × All (λ c. c < p) r) rs → All (λ c. c < p) (flatten rs)
-unfolding flatten
-flat-below p n [] h = tt
-flat-below p n (r ∷ rs) h = all-append (λ c. c < p) r (flatten rs) (h .0 .1) (flat-below p n rs (h .1))
-
-all-left : {A : Type 0} (Is Also : A → Type 0) (xs : List A) → All (λ x. Also x × Is x) xs → All Is xs
-all-left Is Also [] h = tt
-all-left Is Also (x ∷ xs) h = (h .0 .1, all-left Is Also xs (h .1))
-
 -- ---- a file that is accepted
 
 module _ (s : List ℕ) (bytes : AreBytes s) (ok : judge s ≡ 0) where
@@ -84,7 +56,7 @@ module _ (s : List ℕ) (bytes : AreBytes s) (ok : judge s ≡ 0) where
   valid = decoded-valid s bytes ok
 
   constants-length : length (flatten (decode s .constants)) ≡ decode s .a * decode s .n
-  constants-length = flat-length (decode s .p) (decode s .n) (decode s .constants) (valid .constants-below) ∙ ap (λ (k : ℕ). k * decode s .n) (valid .constant-rows)
+  constants-length = flat-length (λ c. c < decode s .p) (decode s .n) (decode s .constants) (valid .constants-below) ∙ ap (λ (k : ℕ). k * decode s .n) (valid .constant-rows)
 
   few-constants : decode s .a * decode s .n ≤ most-constants
   few-constants = mul-le-mul (valid .a-most) (valid .n-most)
@@ -109,9 +81,9 @@ module _ (s : List ℕ) (bytes : AreBytes s) (ok : judge s ≡ 0) where
             (
               area-reads _ _ .1 (omega (arith, over-length rows ws (omega arith))),
               (
-                constant-reads _ _ .1 (subst (All (λ c. c < decode s .p)) (sym (over-front flat cs _ len)) (flat-below _ _ _ (valid .constants-below))),
+                constant-reads _ _ .1 (subst (All (λ c. c < decode s .p)) (sym (over-front flat cs _ len)) (flat-all _ _ _ (valid .constants-below))),
                 (
-                  parameter-reads _ _ .1 (subst (All (λ w. within (decode s .n) w ≡ true)) (sym (over-front rows ws _ count)) (all-left _ _ rows (valid .parameters-within))),
+                  parameter-reads _ _ .1 (subst (All (λ w. within (decode s .n) w ≡ true)) (sym (over-front rows ws _ count)) (all-second _ _ rows (valid .parameters-within))),
                   tt,
                 ),
               ),

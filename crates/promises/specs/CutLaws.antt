@@ -16,7 +16,7 @@ use Rattle.format.specs.RefusalLaws.{then-zero, unless-zero}
 use Rattle.format.specs.TestLaws.{head-reads, body-reads, end-reads, size-reads}
 use Rattle.format.specs.File.Piece.{Body, Piece, head-tests, field, many, many-tests, many-dec, many-rest, seq, closed}
 use Rattle.format.specs.File.Format.{sizes-body, prime-body, constant-body, parameter-body, end-body, constant-row, parameter-row, end-field, row-fields}
-use Rattle.format.specs.File.Format.{prime-tag, sizes-tag, constant-tag, parameter-tag, end-tag, prime-field, sizes-field, parameter-size, size-fields, fields, judge}
+use Rattle.format.specs.File.Format.{prime-tag, sizes-tag, constant-tag, parameter-tag, end-tag, prime-field, sizes-field, size-fields, fields, judge}
 use Rattle.format.proofs.Judging.{seq-refused, seq-passed}
 
 -- ---- the front of a list

@@ -18,7 +18,7 @@ use Rattle.format.specs.File.Format.{FileModel, ValidModel, fields, judge, deco
 use Rattle.format.specs.File.Format.{handed-over, write-refusal, bytes-written, WriteCall}
 use Rattle.format.specs.File.FormatLaws.{decoded-valid, encode-decode}
 use Rattle.writer.specs.HandedLaws.{written-accepted, written-read}
-use Rattle.promises.specs.RowLaws.{over-front, flat-length, flat-all, all-second, rows-of-over, flat-of-rows}
+use Rattle.format.proofs.Rows.{over-front, flat-length, flat-all, all-second, rows-of-over, flat-of-rows}
 
 -- ---- a file in areas that hold it
 

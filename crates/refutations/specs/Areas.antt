@@ -7,7 +7,7 @@ use mathlib.Core.List.{List, [], _∷_, _++_, flatten}
 use lib.ListN.{length, drop}
 use Rattle.format.specs.Lists.{over}
 use Rattle.format.specs.Refusals.{Tests, where-accepted}
-use Rattle.format.specs.File.Format.{FileModel, fields, decode, no-model, model-read, read-refusal, ReadCall, write-refusal, bytes-written, WriteCall, lookup-refusal, lookup-length, lookup-start}
+use Rattle.format.specs.File.Format.{FileModel, decode, no-model, model-read, read-refusal, ReadCall, write-refusal, bytes-written, WriteCall, lookup-refusal, lookup-length, lookup-start}
 use Rattle.text.specs.Text.{print-refusal, printed, Prints}
 use Rattle.text.specs.declared.Printed.{Printed}
 use Rattle.host.specs.AreaCall.{AreaCall, Written}

@@ -16,7 +16,7 @@ use Rattle.rank.specs.ListedModel.{listed-model}
 use Rattle.layered.specs.Answers.{LayeredCall}
 use Rattle.layered.specs.declared.Answer.{Answer}
 use Rattle.format.specs.Lists.{all-pass, over}
-use Rattle.format.specs.Refusals.{first-refusal, head-test, body-test, due-test, prime-test, size-test, constant-test, parameter-test, area-test, end-test, row-test, model-tests, refusal}
+use Rattle.format.specs.Refusals.{first-refusal, head-test, body-test, due-test, prime-test, size-test, constant-test, parameter-test, area-test, end-test, model-tests, refusal}
 use Rattle.promises.specs.DocumentFile.{document-file}
 use Rattle.refutations.specs.Computing.{computing}
 use Rattle.format.specs.File.Piece.{head-tests, closed}

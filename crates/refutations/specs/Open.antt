@@ -3,14 +3,11 @@
 use Prim.Native.Nat.{ℕ, _<_}
 use mathlib.Core.Path.{_≡_, refl, sym, ap, _∙_}
 use mathlib.Core.Logic.{_≢_, _⊎_, inl, inr}
-use mathlib.Core.Bool.{Bool, true, false, true≢false, false≢true}
+use mathlib.Core.Bool.{true, false, false≢true}
 use mathlib.Core.List.{List}
-use native.Mathlib.Decide.{ℕ-discrete}
 use lib.ListN.{getD}
 use Rattle.counting.specs.Sets.{Set, _∈_}
-use Rattle.columns.specs.Columns.{members}
-use Rattle.rank.specs.Layered.Model.{Model, Seat, out, constant, row, is-placed, is-constant, placing, constants}
-use Rattle.rank.specs.Layered.Rank.{placed}
+use Rattle.rank.specs.Layered.Model.{Model, Seat, out, constant, row, is-placed, is-constant, constants}
 use Rattle.exchange.specs.Solution.{shown, Solved}
 use Rattle.limits.specs.Limits.{no-column}
 use Rattle.layered.specs.Answers.{LayeredCall}

@@ -125,19 +125,36 @@ size-fields p = seq sizes-field (λ z. row-fields p z)
 unfoldable pub fields : Piece (ℕ × ((ℕ × ℕ × ℕ) × Rows))
 fields = seq prime-field (λ p. size-fields p)
 
--- the model as the fields' values, and back
-abbrev pub values : FileModel → ℕ × ((ℕ × ℕ × ℕ) × Rows)
-values m = (m .p, ((m .n, m .a, m .b), (m .constants, (m .parameters, tt))))
+-- the values of the fields: p; n, a, b; the rows
+abbrev pub Values : Type 0
+Values = ℕ × ((ℕ × ℕ × ℕ) × Rows)
 
-abbrev pub of-values : ℕ × ((ℕ × ℕ × ℕ) × Rows) → FileModel
+-- the model as the fields' values,
+abbrev pub size-values : FileModel → ℕ × ℕ × ℕ
+size-values m = (m .n, m .a, m .b)
+
+abbrev pub row-values : FileModel → Rows
+row-values m = (m .constants, (m .parameters, tt))
+
+abbrev pub values : FileModel → Values
+values m = (m .p, (size-values m, row-values m))
+
+-- and back
+abbrev pub sizes-of : Values → ℕ × ℕ × ℕ
+sizes-of x = x .1 .0
+
+abbrev pub rows-in : Values → Rows
+rows-in x = x .1 .1
+
+abbrev pub of-values : Values → FileModel
 of-values x =
     record {
       p = x .0;
-      n = x .1 .0 .0;
-      a = x .1 .0 .1;
-      b = x .1 .0 .2;
-      constants = x .1 .1 .0;
-      parameters = x .1 .1 .1 .0;
+      n = sizes-of x .0;
+      a = sizes-of x .1;
+      b = sizes-of x .2;
+      constants = rows-in x .0;
+      parameters = rows-in x .1 .0;
     }
 
 -- ---- judged, read and written
