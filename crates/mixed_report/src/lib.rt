@@ -3,7 +3,7 @@ ghost use mathlib.Core.Path.{_≡_};
 ghost use Rattle.text.specs.Text.{Puts};
 ghost use Rattle.report.specs.Report.{report-text};
 ghost use Rattle.mixed_report.specs.MixedReport.{mixed-answer-text, longest-mixed-report, MixedFileReport};
-use limits::MOST_COLUMNS;
+use columns::WIDTH;
 use mixed::MixedAnswer;
 use mixed::mixed_file;
 use text::Printed;
@@ -14,7 +14,7 @@ use text::put_verdict_line;
 
 // How many bytes the longest report has at most: 47 for the five lines without their rows and columns, and 4 for each member of the
 // three sets.
-pub const LONGEST_MIXED_REPORT: usize = 47 + 3 * (4 * MOST_COLUMNS);
+pub const LONGEST_MIXED_REPORT: usize = 47 + 3 * (4 * WIDTH);
 
 fn longest_tied() -> usize
     ensures { λ r. ⌜ r ≡ longest-mixed-report ⌝ }

@@ -3,9 +3,9 @@ ghost use mathlib.Core.Path.{_≡_};
 ghost use Rattle.text.specs.Text.{ascii, line, Puts};
 ghost use Rattle.report.specs.Report.{row-item, row-items, answer-text, report-text, longest-report};
 ghost use Rattle.report.specs.FileReport.{FileReport};
+use columns::WIDTH;
 use layered::Answer;
 use layered::layered_file;
-use limits::MOST_COLUMNS;
 use limits::MOST_ROWS;
 use limits::NO_COLUMN;
 use text::Printed;
@@ -20,7 +20,7 @@ use text::put_verdict_line;
 
 // How many bytes the longest report has at most: 55 for the five lines without their columns and rows, 4 for each column of the two
 // sets, and 8 for each row with its column.
-pub const LONGEST_REPORT: usize = 55 + 2 * (4 * MOST_COLUMNS) + 8 * MOST_ROWS;
+pub const LONGEST_REPORT: usize = 55 + 2 * (4 * WIDTH) + 8 * MOST_ROWS;
 
 const LINE_FEED: u8 = 10;
 
