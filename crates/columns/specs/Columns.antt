@@ -8,8 +8,8 @@ use Rattle.counting.specs.Sets.{Set, indicator, all}
 abbrev pub width : ℕ
 width = 64
 
-abbrev pub set-bytes : ℕ
-set-bytes = width / 8
+abbrev pub room-bytes : ℕ
+room-bytes = width / 8
 
 -- bit x of the number w, 0 or 1
 abbrev pub bit : ℕ → ℕ → ℕ

@@ -6,7 +6,7 @@ ghost use lib.Dec.{eqb};
 ghost use lib.ListN.{length, getD, take};
 ghost use Rattle.counting.specs.Sets.{_∪_, _∩_, ∁, #};
 ghost use Rattle.columns.specs.Bytes.{number, bytes-of};
-ghost use Rattle.columns.specs.Columns.{width, set-bytes, members, upto, inserted, removed, moved-up, moved-down, least, within};
+ghost use Rattle.columns.specs.Columns.{width, room-bytes, members, upto, inserted, removed, moved-up, moved-down, least, within};
 ghost use Rattle.columns.specs.ColumnSets.{row-words, most-words, empty-set, whole, row-numbers, with-row};
 use limits::MOST_ROWS;
 
@@ -27,7 +27,7 @@ fn width_tied() -> usize
 }
 
 fn bytes_tied() -> usize
-    ensures { λ r. ⌜ r ≡ set-bytes ⌝ }
+    ensures { λ r. ⌜ r ≡ room-bytes ⌝ }
 {
     BYTES
 }
@@ -177,7 +177,7 @@ pub fn within(set: ColumnSet, n: usize) -> bool
 
 // The set that bytes show, the low byte first: column c is bit c mod 8 of byte c div 8. Bytes that are missing count as 0.
 pub fn of_bytes(bytes: &[u8]) -> ColumnSet
-    ensures { λ r. ⌜ whole r ≡ number (take set-bytes (now (bytes .entry))) ⌝ }
+    ensures { λ r. ⌜ whole r ≡ number (take room-bytes (now (bytes .entry))) ⌝ }
 {
     let mut word: u64 = 0;
     let mut k: usize = BYTES;
@@ -206,7 +206,7 @@ fn widened(x: u8) -> u64
 
 // Byte k of those that show the set, and 0 past the last.
 pub fn byte(set: ColumnSet, k: usize) -> u8
-    ensures { λ r. ⌜ r ≡ getD (bytes-of set-bytes (whole set)) k 0 ⌝ }
+    ensures { λ r. ⌜ r ≡ getD (bytes-of room-bytes (whole set)) k 0 ⌝ }
 {
     if k < BYTES {
         return ((set.word >> (8 * k)) % 256) as u8;

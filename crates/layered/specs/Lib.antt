@@ -1,4 +1,4 @@
--- The model in a file, what the layered rank call promises, and laws that its proof uses.
+-- The model in a file, and what the layered rank call promises.
 pub mod FileModel
 pub mod Answers
-pub mod AnswerLaws
+pub mod Beforehand

@@ -2,7 +2,7 @@
 ghost use mathlib.Core.Path.{_≡_};
 ghost use Rattle.columns.specs.ColumnSets.{row-numbers};
 ghost use Rattle.layered.specs.Answers.{verdict-number, Refused, LayeredCall, LayeredFileCall};
-ghost use Rattle.layered.specs.AnswerLaws.{beforehand};
+ghost use Rattle.layered.specs.Beforehand.{beforehand};
 use columns::ColumnSet;
 use columns::MOST_WORDS;
 use format::judge_model;

@@ -1,1 +1,3 @@
+pub mod MixedEntries
+pub mod MixedAnswerLaws
 pub mod MixedFileLaws

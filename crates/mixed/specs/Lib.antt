@@ -1,5 +1,3 @@
--- What the mixed rank call promises, the layered form as the code makes it, and the laws that the proofs use.
+-- What the mixed rank call promises, and the layered form as the code makes it.
 pub mod MixedForm
-pub mod MixedEntries
 pub mod MixedAnswers
-pub mod MixedAnswerLaws

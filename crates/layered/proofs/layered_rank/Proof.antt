@@ -10,7 +10,8 @@ use Rattle.exchange.specs.Solve.{admissible, SolvedBy}
 use Rattle.exchange.specs.SolveLaws.{admissible-reads}
 use Rattle.rank.specs.ListedModel.{listed-model}
 use Rattle.format.specs.Refusals.{refusal}
-use Rattle.layered.specs.AnswerLaws.{beforehand, accepted-beforehand, shows-model, accepted-taken, taken-accepted, rank-small, answered}
+use Rattle.layered.specs.Beforehand.{beforehand}
+use Rattle.layered.proofs.AnswerLaws.{accepted-beforehand, shows-model, accepted-taken, taken-accepted, rank-small, answered}
 use borrow.Author.Needs.{needs}
 use native.Mathlib.Omega.{arith}
 use Rattle.layered.proofs.layered_rank.Statement.{statement}

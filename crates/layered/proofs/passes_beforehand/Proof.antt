@@ -2,7 +2,7 @@
 use mathlib.Core.Path.{_≡_, refl, _∙_}
 use borrow.Author.Tests.{le-leb, lt-leb}
 use Rattle.limits.specs.Limits.{largest-prime}
-use Rattle.layered.specs.AnswerLaws.{beforehand}
+use Rattle.layered.specs.Beforehand.{beforehand}
 use borrow.Author.Needs.{needs}
 use Rattle.layered.proofs.passes_beforehand.Statement.{statement}
 use Rattle.layered.proofs.passes_beforehand.Tie as tie

@@ -4,7 +4,7 @@ use mathlib.Core.Path.{_≡_, sym}
 use native.Mathlib.Nat.{mul-le-mul}
 use native.Mathlib.Omega.{arith}
 use Rattle.limits.specs.Limits.{most-columns}
-use Rattle.mixed.specs.MixedEntries.{width-positive, entry-unit, entry-other, entry-constant, constant-inside}
+use Rattle.mixed.proofs.MixedEntries.{width-positive, entry-unit, entry-other, entry-constant, constant-inside}
 use borrow.Author.Needs.{needs}
 use Rattle.mixed.proofs.entry_of_form.Statement.{statement}
 use Rattle.mixed.proofs.entry_of_form.Tie as tie

@@ -3,7 +3,7 @@ use mathlib.Core.Path.{_≡_, sym, _∙_}
 use Rattle.counting.specs.Bools.{not-true}
 use Rattle.columns.specs.ColumnSets.{row-numbers}
 use Rattle.format.specs.TestLaws.{model-accepted}
-use Rattle.mixed.specs.MixedAnswerLaws.{at-model, at-mixed, at-none, mixed-reads}
+use Rattle.mixed.proofs.MixedAnswerLaws.{at-model, at-mixed, at-none, mixed-reads}
 use borrow.Author.Needs.{needs}
 use native.Mathlib.Omega.{arith}
 use Rattle.mixed.proofs.judge_mixed.Statement.{statement}

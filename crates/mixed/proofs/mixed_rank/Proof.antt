@@ -11,8 +11,8 @@ use Rattle.exchange.specs.Solve.{SolvedBy}
 use Rattle.format.specs.Refusals.{mixed-refusal}
 use Rattle.format.specs.TestLaws.{Accepted}
 use Rattle.mixed_models.specs.Mixed.{layered-form, mixed}
-use Rattle.layered.specs.AnswerLaws.{rank-small}
-use Rattle.mixed.specs.MixedAnswerLaws.{form-admissible, shows-form, rank-of-form, mixed-answered, mixed-accepted}
+use Rattle.layered.proofs.AnswerLaws.{rank-small}
+use Rattle.mixed.proofs.MixedAnswerLaws.{form-admissible, shows-form, rank-of-form, mixed-answered, mixed-accepted}
 use borrow.Author.Needs.{needs}
 use native.Mathlib.Omega.{arith}
 use Rattle.mixed.proofs.mixed_rank.Statement.{statement}

@@ -35,10 +35,7 @@ use Rattle.format.specs.RefusalLaws.{acceptance-reads}
 use Rattle.format.specs.TestLaws.{prime-reads, size-reads, constant-reads, area-reads, Accepted, model-accepted, constant-below}
 use Rattle.layered.specs.declared.Answer.{Answer}
 use Rattle.layered.specs.Answers.{verdict-number, Answered}
-
--- the tests that the solver does not make
-unfoldable pub beforehand : (p n b : ℕ) → List ℕ → Bool
-beforehand p n b ws = leb p largest-prime && leb 1 n && parameter-test n (take b ws)
+use Rattle.layered.specs.Beforehand.{beforehand}
 
 -- what holds of the first k elements
 all-taken : (Is : ℕ → Type 0) (k : ℕ) (xs : List ℕ) (d : ℕ) → k ≤ length xs → ((i : ℕ) → i < k → Is (getD xs i d)) → All Is (take k xs)
