@@ -17,13 +17,13 @@ static const char *reason(uint32_t refusal)
     switch (refusal) {
     case WUNDRESKA_TRUNCATED: return "the file ends within a field";
     case WUNDRESKA_UNEXPECTED: return "a tag or length is not the one due";
-    case WUNDRESKA_NOT_PRIME: return "p is not a prime up to 65521";
+    case WUNDRESKA_NOT_PRIME: return "p is not a prime, or too large";
     case WUNDRESKA_SIZES_BEYOND: return "n, a or b is beyond its limit";
     case WUNDRESKA_CONSTANT_BEYOND: return "a constant is p or more";
     case WUNDRESKA_PARAMETER_BEYOND: return "a parameter stands at column n or later";
     case WUNDRESKA_TRAILING: return "bytes follow the end field";
     case WUNDRESKA_AREA_SHORT: return "the answer area is too short";
-    case WUNDRESKA_NOT_MIXED: return "a differs from b, or a + n is above 64";
+    case WUNDRESKA_NOT_MIXED: return "a differs from b, or the mixed question has too many columns";
     default: return "a number that this host does not know";
     }
 }

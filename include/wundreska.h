@@ -1,6 +1,6 @@
 /* wundreska.h: the solvability check for layered and mixed plant models, as a C host calls it.
  *
- * A call judges a model file and, if it is sound, says whether the model determines all its unknowns: wundreska_check for a
+ * A call judges a model file and, if it is accepted, says whether the model determines all its unknowns: wundreska_check for a
  * layered model, wundreska_mixed for a mixed one. Start a solver on WUNDRESKA_DETERMINED alone.
  *
  * Words. A model has a prime p, n columns (the unknowns), a constant rows and b parameter rows. Rows and columns count
@@ -79,7 +79,7 @@ extern "C" {
 #define WUNDRESKA_CONSTANT_BEYOND 5  /* a constant is p or more */
 #define WUNDRESKA_PARAMETER_BEYOND 6 /* a parameter stands at column n or later */
 #define WUNDRESKA_TRAILING 7         /* bytes follow the end field */
-/* The calling program causes this one. Only a sound file can meet it. */
+/* The calling program causes this one. It comes after those of the file. */
 #define WUNDRESKA_AREA_SHORT 8       /* answer_len is below the size of the call's answer */
 /* The modeller with a mixed question causes this one, in wundreska_mixed alone. It comes last. */
 #define WUNDRESKA_NOT_MIXED 10       /* a differs from b, or a + n exceeds WUNDRESKA_COLUMNS_MAX */

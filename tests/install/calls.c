@@ -91,7 +91,7 @@ static void make_model(unsigned p, unsigned n, unsigned rows, unsigned share)
 
 static void make_nth_model(int nth, const Entry *entry)
 {
-    static const unsigned primes[] = {2, 1021, 65521}, shares[] = {2, 5, 40, 100};
+    static const unsigned primes[] = {2, 1021, WUNDRESKA_PRIME_MAX}, shares[] = {2, 5, 40, 100};
     make_model(primes[nth % 3], entry->columns, entry->rows, shares[nth / 3]);
 }
 
@@ -114,7 +114,7 @@ static void *call_once(void *of)
     return NULL;
 }
 
-/* How many bytes of a thread's stack the call took, by what it left of the paint. */
+/* How many bytes of a thread's stack the call took, by what it left of the bytes put there before. */
 static size_t stack_of_call(const Entry *entry)
 {
     uint8_t *stack = (uint8_t *)mmap(NULL, STACK, PROT_READ | PROT_WRITE, MAP_PRIVATE | MAP_ANONYMOUS, -1, 0);

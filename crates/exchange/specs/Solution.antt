@@ -19,12 +19,12 @@ shown-row b rows x (yes w) = row (w .0)
 shown-row b rows x (no nw) = out
 
 -- the seat that the rows show for column x
-abbrev pub row-seat : (b : ℕ) (rows : List ℕ) (x : ℕ) → Seat
-row-seat b rows x = shown-row b rows x (some? b (λ r. getD rows r 0 ≡ x) (λ r. ℕ-discrete (getD rows r 0) x))
+abbrev pub seat-by-rows : (b : ℕ) (rows : List ℕ) (x : ℕ) → Seat
+seat-by-rows b rows x = shown-row b rows x (some? b (λ r. getD rows r 0 ≡ x) (λ r. ℕ-discrete (getD rows r 0) x))
 
 -- the assignment that an answer shows: a column of the constant side is there, a row's column is on that row, and columns from n on are out
 unfoldable pub shown : (n b : ℕ) (side : Set) (rows : List ℕ) → Assignment
-shown n b side rows x = cond (ltb x n) (cond (side x) constant (row-seat b rows x)) out
+shown n b side rows x = cond (ltb x n) (cond (side x) constant (seat-by-rows b rows x)) out
 
 -- row r shows the column that has its seat there,
 abbrev pub ShowsColumn : (n b : ℕ) (side : Set) (rows : List ℕ) (r : ℕ) → Type 0

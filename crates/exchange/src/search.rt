@@ -9,7 +9,7 @@ ghost use Rattle.columns.specs.Columns.{width, members};
 ghost use Rattle.columns.specs.ColumnSets.{whole, row-numbers};
 ghost use Rattle.rank.specs.Graph.States.{State};
 ghost use Rattle.exchange.specs.Sizes.{cells};
-ghost use Rattle.exchange.specs.Code.Scanning.{Lengths, touched, owned, Scanned};
+ghost use Rattle.exchange.specs.Code.Scanning.{Lengths, touched, owner-at, Scanned};
 ghost use Rattle.exchange.specs.Code.Searching.{Shows, Searched};
 use crate::sizes::CELLS;
 use crate::sizes::LINES;
@@ -54,7 +54,7 @@ fn scan(
     front: ColumnSet,
 ) -> Met
     requires { ⌜ Lengths n a rows (now t) (now owner) ⌝ }
-    ensures { λ r. ⌜ Scanned n rows (touched a (now (t .entry)) (row-numbers (now (parameters .entry)))) (owned (now (owner .entry))) (members (whole front)) (r .column) (r .row) (members (whole (r .next))) ⌝ }
+    ensures { λ r. ⌜ Scanned n rows (touched a (now (t .entry)) (row-numbers (now (parameters .entry)))) (owner-at (now (owner .entry))) (members (whole front)) (r .column) (r .row) (members (whole (r .next))) ⌝ }
 {
     let mut rest = front;
     let mut next = columns::empty();
@@ -98,7 +98,7 @@ pub fn search(
     start: ColumnSet,
 ) -> Found
     requires { ⌜ Lengths n a rows (now t) (now owner) ⌝ }
-    ensures { λ r. ⌜ ((E : Set) (s : State n rows) → Shows E s (touched a (now (t .entry)) (row-numbers (now (parameters .entry)))) (owned (now (owner .entry))) → ((x : ℕ) → x ∈ members (whole start) → (x < n) × (x ∈ E)) → Searched s (members (whole start)) (r .column) (r .row) (r .depth) (members (whole (r .reached)))) ⌝ }
+    ensures { λ r. ⌜ ((E : Set) (s : State n rows) → Shows E s (touched a (now (t .entry)) (row-numbers (now (parameters .entry)))) (owner-at (now (owner .entry))) → ((x : ℕ) → x ∈ members (whole start) → (x < n) × (x ∈ E)) → Searched s (members (whole start)) (r .column) (r .row) (r .depth) (members (whole (r .reached)))) ⌝ }
 {
     let mut reached = start;
     let mut front = start;

@@ -8,7 +8,7 @@ ghost use Rattle.columns.specs.ColumnSets.{row-numbers};
 ghost use Rattle.rank.specs.Graph.States.{Placed};
 ghost use Rattle.exchange.specs.Sizes.{lines};
 ghost use Rattle.exchange.specs.Code.Cells.{Below};
-ghost use Rattle.exchange.specs.Code.Scanning.{Lengths, Arrays, owned};
+ghost use Rattle.exchange.specs.Code.Scanning.{Lengths, Arrays, owner-at};
 ghost use Rattle.exchange.specs.Code.Held.{Given, Held, Vacated, Sat};
 ghost use Rattle.exchange.specs.Code.Placing.{Placing};
 use crate::search;
@@ -19,7 +19,7 @@ use crate::tableau;
 // The row that the column x owns, or `rows`.
 fn row_of(owner: &[u8; LINES], rows: usize, x: usize) -> usize
     requires { ⌜ (length (now owner) ≡ lines) × (rows ≤ lines) ⌝ }
-    ensures { λ r. ⌜ (r < rows → owned (now (owner .entry)) r ≡ x) × (rows ≤ r → (q : ℕ) → q < rows → owned (now (owner .entry)) q ≡ x → ⊥) ⌝ }
+    ensures { λ r. ⌜ (r < rows → owner-at (now (owner .entry)) r ≡ x) × (rows ≤ r → (q : ℕ) → q < rows → owner-at (now (owner .entry)) q ≡ x → ⊥) ⌝ }
 {
     for q in 0..rows {
         if search::widened(owner[q]) == x {

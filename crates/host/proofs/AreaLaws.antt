@@ -10,7 +10,7 @@ use Rattle.format.specs.Lists.{over}
 use Rattle.format.specs.Refusals.{Cause, Tests, unless, _then_, first-refusal, area-short, area-test}
 use Rattle.format.specs.RefusalLaws.{then-refused, then-passed, then-zero, unless-zero}
 use Rattle.format.specs.TestLaws.{area-reads}
-use Rattle.host.specs.AreaCall.{area-refusal, AreaCall, Put, Written}
+use Rattle.host.specs.AreaCall.{area-refusal, AreaCall, PutOver, WrittenOver}
 
 -- a test that passes changes nothing
 passed-between : (ts us : Tests) (c : Cause) → first-refusal (ts then unless true c then us) ≡ first-refusal (ts then us)
@@ -46,32 +46,32 @@ area-alone : (before after : Tests) (least : ℕ) (area : List ℕ) → first-re
 unfolding area-refusal
 area-alone before after least area ok ok′ = sym (then-passed before _ _ ok refl) ∙ alone (area-test least (length area)) area-short after ok′
 
-module _ (before after : Tests) (least : ℕ) (Written : List ℕ → List ℕ → Type 0) (area : List ℕ) where
+module _ (before after : Tests) (least : ℕ) (WrittenOver : List ℕ → List ℕ → Type 0) (area : List ℕ) where
   -- refused: the area is as it was
-  refused-as : (r : ℕ) → r ≡ area-refusal before after least area → r ≢ 0 → AreaCall before after least Written area r area
+  refused-as : (r : ℕ) → r ≡ area-refusal before after least area → r ≢ 0 → AreaCall before after least WrittenOver area r area
   refused-as r e h = record { is-number = e; if-refused = λ _. refl; if-accepted = λ z. absurd (h (e ∙ z)) }
 
   -- by the tests before the area's
-  pub refused-before : (r : ℕ) → r ≡ first-refusal before → r ≢ 0 → AreaCall before after least Written area r area
+  pub refused-before : (r : ℕ) → r ≡ first-refusal before → r ≢ 0 → AreaCall before after least WrittenOver area r area
   unfolding area-refusal
   refused-before r e h = refused-as r (then-refused before _ r e h) h
 
   -- by the area's, or by those before it
-  pub refused-short : length area < least → (r : ℕ) → r ≡ first-refusal (before then unless false area-short) → AreaCall before after least Written area r area
+  pub refused-short : length area < least → (r : ℕ) → r ≡ first-refusal (before then unless false area-short) → AreaCall before after least WrittenOver area r area
   refused-short u r e = refused-as r (e ∙ sym (area-fails before after least area u)) (λ z. false≢true (unless-zero false area-short (then-zero before (unless false area-short) (sym e ∙ z) .1)))
 
   -- by the tests before or after it, where the area is long enough
-  pub refused-around : least ≤ length area → (r : ℕ) → r ≡ first-refusal (before then after) → r ≢ 0 → AreaCall before after least Written area r area
+  pub refused-around : least ≤ length area → (r : ℕ) → r ≡ first-refusal (before then after) → r ≢ 0 → AreaCall before after least WrittenOver area r area
   refused-around l r e h = refused-as r (e ∙ sym (area-passes before after least area l)) h
 
 -- ---- bytes put into an area
 
 module _ (least : ℕ) (bytes area : List ℕ) where
-  pub put-refused : length area < least → Put least bytes area 8 area
+  pub put-refused : length area < least → PutOver least bytes area 8 area
   unfolding first-refusal
   put-refused u = refused-short [] [] least (λ area area′. area′ ≡ over bytes area) area u 8 refl
 
-  pub put-done : least ≤ length area → {area′ : List ℕ} → area′ ≡ over bytes area → Put least bytes area 0 area′
+  pub put-done : least ≤ length area → {area′ : List ℕ} → area′ ≡ over bytes area → PutOver least bytes area 0 area′
   unfolding first-refusal
   put-done l w =
       let q : area-refusal [] [] least area ≡ 0 = area-passes [] [] least area l in
@@ -79,7 +79,7 @@ module _ (least : ℕ) (bytes area : List ℕ) where
 
 -- the bytes of an answer, put into the area of a call whose other tests pass
 pub answer-put : {A : Type 0} {Holds : A → Type 0} (bytes : A → List ℕ) (before after : Tests) {least : ℕ} {area : List ℕ} {number : ℕ} {area′ : List ℕ} (t : A) → Holds t
-    → first-refusal before ≡ 0 → first-refusal after ≡ 0 → Put least (bytes t) area number area′ → AreaCall before after least (Written Holds bytes) area number area′
+    → first-refusal before ≡ 0 → first-refusal after ≡ 0 → PutOver least (bytes t) area number area′ → AreaCall before after least (WrittenOver Holds bytes) area number area′
 answer-put bytes before after {least} {area} t h ok ok′ w =
     let e = area-alone before after least area ok ok′ in
     record {

@@ -10,7 +10,7 @@ use Rattle.layered.specs.declared.Answer.{Answer}
 use Rattle.layered.specs.Answers.{Answered}
 use Rattle.mixed.specs.declared.MixedAnswer.{MixedAnswer}
 use Rattle.mixed.specs.MixedAnswers.{MixedAnswered}
-use Rattle.host.specs.AreaCall.{Written}
+use Rattle.host.specs.AreaCall.{WrittenOver}
 
 -- what every answer's bytes begin with: verdict, rank and three sets
 abbrev pub front-length : ℕ
@@ -31,7 +31,7 @@ answer-bytes r = front-bytes (r .verdict) (r .rank) (whole (r .placed)) (whole (
 -- the answer written over the front of the area: its numbers, sets and rows are those of the layered rank call, with demand 3 of the rank and the
 -- short set among them (`Answered`)
 abbrev pub AnswerWritten : (M : Model) (area area′ : List ℕ) → Type 0
-AnswerWritten M = Written (Answered M) answer-bytes
+AnswerWritten M = WrittenOver (Answered M) answer-bytes
 
 -- ---- mixed models
 
@@ -44,4 +44,4 @@ mixed-bytes r = front-bytes (r .verdict) (r .rank) (whole (r .rows)) (whole (r .
 
 -- the answer written over the front of the area; which I and J it shows is as open as in `MixedAnswered`
 abbrev pub MixedWritten : (X : Mixed) (area area′ : List ℕ) → Type 0
-MixedWritten X = Written (MixedAnswered X) mixed-bytes
+MixedWritten X = WrittenOver (MixedAnswered X) mixed-bytes

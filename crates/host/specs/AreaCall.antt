@@ -13,15 +13,15 @@ unfoldable pub area-refusal : (before after : Tests) → ℕ → List ℕ → �
 area-refusal before after least area = first-refusal (before then unless (area-test least (length area)) area-short then after)
 
 -- a call that lends an area: the number; where it refuses, the area is as it was; where not, what is written
-pub record AreaCall (before after : Tests) (least : ℕ) (Written : List ℕ → List ℕ → Type 0) (area : List ℕ) (number : ℕ) (area′ : List ℕ) : Type 0 where
+pub record AreaCall (before after : Tests) (least : ℕ) (WrittenOver : List ℕ → List ℕ → Type 0) (area : List ℕ) (number : ℕ) (area′ : List ℕ) : Type 0 where
   pub is-number : number ≡ area-refusal before after least area
   pub if-refused : area-refusal before after least area ≢ 0 → area′ ≡ area
-  pub if-accepted : area-refusal before after least area ≡ 0 → Written area area′
+  pub if-accepted : area-refusal before after least area ≡ 0 → WrittenOver area area′
 
 -- bytes put over the front of an area, with no other test than that it holds them
-abbrev pub Put : (least : ℕ) (bytes area : List ℕ) (number : ℕ) (area′ : List ℕ) → Type 0
-Put least bytes = AreaCall [] [] least (λ area area′. area′ ≡ over bytes area)
+abbrev pub PutOver : (least : ℕ) (bytes area : List ℕ) (number : ℕ) (area′ : List ℕ) → Type 0
+PutOver least bytes = AreaCall [] [] least (λ area area′. area′ ≡ over bytes area)
 
 -- the bytes of an answer of which this holds, over the front of the area
-abbrev pub Written : {A : Type 0} (Holds : A → Type 0) (bytes : A → List ℕ) (area area′ : List ℕ) → Type 0
-Written Holds bytes area area′ = AnswerShown Holds (λ r. area′ ≡ over (bytes r) area)
+abbrev pub WrittenOver : {A : Type 0} (Holds : A → Type 0) (bytes : A → List ℕ) (area area′ : List ℕ) → Type 0
+WrittenOver Holds bytes area area′ = AnswerShown Holds (λ r. area′ ≡ over (bytes r) area)

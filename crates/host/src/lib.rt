@@ -6,7 +6,7 @@ ghost use lib.ListN.{length};
 ghost use Rattle.limits.specs.Limits.{most-rows};
 ghost use Rattle.columns.specs.ColumnSets.{whole};
 ghost use Rattle.format.specs.Lists.{over};
-ghost use Rattle.host.specs.AreaCall.{Put};
+ghost use Rattle.host.specs.AreaCall.{PutOver};
 ghost use Rattle.host.specs.AnswerBytes.{front-length, front-bytes, answer-length, answer-bytes, mixed-length, mixed-bytes};
 use columns::ColumnSet;
 use format::put_set;
@@ -71,7 +71,7 @@ fn put_rows(out: &mut [u8], rows: [u8; MOST_ROWS])
 
 // The bytes of an answer to a layered model: verdict, rank, placed set, constant side, short set, and the column of each parameter row.
 pub fn put_answer(out: &mut [u8], answer: Answer) -> u32
-    ensures { λ r. ⌜ Put answer-length (answer-bytes answer) (now (out .entry)) r (now (out .exit)) ⌝ }
+    ensures { λ r. ⌜ PutOver answer-length (answer-bytes answer) (now (out .entry)) r (now (out .exit)) ⌝ }
 {
     if out.len() < ANSWER_LENGTH {
         return refusals::AREA_SHORT;
@@ -91,7 +91,7 @@ pub fn put_answer(out: &mut [u8], answer: Answer) -> u32
 
 // The bytes of an answer to a mixed model: verdict, rank, the rows I and columns J shown, and the short set of the layered form.
 pub fn put_mixed(out: &mut [u8], answer: MixedAnswer) -> u32
-    ensures { λ r. ⌜ Put mixed-length (mixed-bytes answer) (now (out .entry)) r (now (out .exit)) ⌝ }
+    ensures { λ r. ⌜ PutOver mixed-length (mixed-bytes answer) (now (out .entry)) r (now (out .exit)) ⌝ }
 {
     if out.len() < MIXED_LENGTH {
         return refusals::AREA_SHORT;

@@ -17,7 +17,7 @@ most-constants = most-rows * most-columns
 abbrev pub largest-prime : ℕ
 largest-prime = 65521
 
--- how many bytes show a column set in an answer
+-- how many bytes show a column set in an answer, and at most in a file's row
 abbrev pub set-bytes : ℕ
 set-bytes = 8
 

@@ -15,7 +15,7 @@ pub const MOST_CONSTANTS: usize = MOST_ROWS * MOST_COLUMNS;
 // The largest prime that two bytes hold.
 pub const LARGEST_PRIME: u32 = 65521;
 
-// How many bytes show a column set in an answer.
+// How many bytes show a column set in an answer, and at most in a file's row.
 pub const SET_BYTES: usize = 8;
 
 // What a parameter row shows that has no column.

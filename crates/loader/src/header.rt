@@ -6,7 +6,7 @@ ghost use Rattle.format.specs.File.Piece.{said-rests};
 use format::Header;
 use format::fields::said_rest;
 
-// What a file says before its rows; all are 0 but the refusal where the file is refused.
+// What a file says before its rows; all are 0 but the refusal where the reading is refused.
 pub struct Sizes {
     pub refusal: u32,
     pub p: u32,

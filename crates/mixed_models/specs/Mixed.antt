@@ -85,7 +85,7 @@ module _ (X : Mixed) where
   abbrev pub shown-J : Assignment → Set
   shown-J A x = is-constant (A (m + x))
 
--- the mixed model of the numbers m, n, constants cs and parameter rows ws, read as `model` reads them, modulo the prime q
+-- the mixed model of the numbers m, n, constants cs and parameter rows ws, read as `listed-model` reads them, modulo the prime q
 abbrev pub mixed-at : (q : ℕ) → Prime q → (m n : ℕ) → List ℕ → List ℕ → Mixed
 mixed-at q P m n cs ws = record {
   K = residues q P;

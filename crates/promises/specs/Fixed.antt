@@ -13,9 +13,29 @@ pub record SameAnswer (r s : Answer) : Type 0 where
   pub same-placed : whole (r .placed) ≡ whole (s .placed)
   pub same-short : whole (r .short) ≡ whole (s .short)
 
+-- the same of what bytes and text show of two answers
+pub record SameShown (r s : Answer) : Type 0 where
+  pub same-verdict : r .verdict ≡ s .verdict
+  pub same-rank : r .rank ≡ s .rank
+  pub same-placed : whole (r .placed) ≡ whole (s .placed)
+  pub same-short : whole (r .short) ≡ whole (s .short)
+
 -- mixed answers; open is which rows I and columns J are shown
 pub record SameMixed (r s : MixedAnswer) : Type 0 where
   pub same-refusal : r .refusal ≡ s .refusal
   pub same-verdict : r .verdict ≡ s .verdict
   pub same-rank : r .rank ≡ s .rank
   pub same-short : whole (r .short) ≡ whole (s .short)
+
+pub record SameMixedShown (r s : MixedAnswer) : Type 0 where
+  pub same-verdict : r .verdict ≡ s .verdict
+  pub same-rank : r .rank ≡ s .rank
+  pub same-short : whole (r .short) ≡ whole (s .short)
+
+-- two results show two answers that agree so
+pub record TwoShown {A : Type 0} (Same : A → A → Type 0) (Shows Also : A → Type 0) : Type 0 where
+  pub first : A
+  pub second : A
+  pub is-same : Same first second
+  pub first-shown : Shows first
+  pub second-shown : Also second

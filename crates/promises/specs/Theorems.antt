@@ -28,7 +28,7 @@ use Rattle.promises.specs.CutCallLaws.{reading-cut, host-cut, host-mixed
 use Rattle.promises.specs.AnswerLaws.{refusal-same, mixed-refusal-same, write-same, layered-same, mixed-same}
 use Rattle.promises.specs.DocumentFile.{document-file, document-accepted, document-model}
 
--- ---- there and back
+-- ---- read and written, written and read
 
 -- A file that was read is written again as it was, whatever the areas held before.
 pub read-then-write : (s cs ws : List ℕ) → AreBytes s → (p n a b : ℕ) (cs′ ws′ : List ℕ) → ReadCall s cs ws 0 p n a b cs′ ws′
@@ -36,7 +36,7 @@ pub read-then-write : (s cs ws : List ℕ) → AreBytes s → (p n a b : ℕ) (c
     → (the-refusal ≡ 0) × (len ≡ length s) × (out′ ≡ over s out)
 read-then-write = read-then-written
 
--- A model that was written is read again as it was, into any areas that hold it; its parameter rows are 64-bit words.
+-- A model that was written is read again as it was, into any areas that hold it; the numbers of its parameter rows fit a set's room.
 pub write-then-read : (p n a b : ℕ) (cs ws : List ℕ) → ((i : ℕ) → getD ws i 0 < 2 ^ width)
     → (out : List ℕ) (len : ℕ) (out′ : List ℕ) → WriteCall p n a b cs ws out 0 len out′
     → (cs₂ ws₂ : List ℕ) → a * n ≤ length cs₂ → b ≤ length ws₂

@@ -23,19 +23,19 @@ use Rattle.format.proofs.Rows.{over-front, flat-length, flat-all, all-second, r
 -- ---- a file in areas that hold it
 
 -- the areas hold the constants and the parameter rows of a model
-pub record Fits (n a b : ℕ) (cs ws : List ℕ) : Type 0 where
+pub record AreasHold (n a b : ℕ) (cs ws : List ℕ) : Type 0 where
   pub constants-fit : a * n ≤ length cs
   pub parameters-fit : b ≤ length ws
 
 module _ (s cs ws : List ℕ) where
-  pub read-zero : read-refusal s cs ws ≡ 0 → (judge s ≡ 0) × Fits (decode s .n) (decode s .a) (decode s .b) cs ws
+  pub read-zero : read-refusal s cs ws ≡ 0 → (judge s ≡ 0) × AreasHold (decode s .n) (decode s .a) (decode s .b) cs ws
   unfolding read-refusal judge
   read-zero e =
       let z = then-zero (closed fields s) _ e in
       let v = acceptance-reads _ .0 (z .1) in
       (z .0, record { constants-fit = area-reads _ _ .0 (v .0); parameters-fit = area-reads _ _ .0 (v .1 .0) })
 
-  pub zero-read : judge s ≡ 0 → Fits (decode s .n) (decode s .a) (decode s .b) cs ws → read-refusal s cs ws ≡ 0
+  pub zero-read : judge s ≡ 0 → AreasHold (decode s .n) (decode s .a) (decode s .b) cs ws → read-refusal s cs ws ≡ 0
   unfolding read-refusal judge
   zero-read ok f =
       zero-then _ _ ok (zero-then _ _ (zero-unless _ _ (area-reads _ _ .1 (f .constants-fit))) (zero-unless _ _ (area-reads _ _ .1 (f .parameters-fit))))
@@ -46,7 +46,7 @@ module _ (s cs ws : List ℕ) where
 
 -- ---- a model of the stated form, over the front of areas that hold it
 
-module _ (m : FileModel) (v : ValidModel m) (cs ws : List ℕ) (f : Fits (m .n) (m .a) (m .b) cs ws) where
+module _ (m : FileModel) (v : ValidModel m) (cs ws : List ℕ) (f : AreasHold (m .n) (m .a) (m .b) cs ws) where
   long : length (flatten (m .constants)) ≡ m .a * m .n
   long = flat-length (λ c. c < m .p) (m .n) (m .constants) (v .constants-below) ∙ ap (λ (k : ℕ). k * m .n) (v .constant-rows)
 
@@ -146,8 +146,8 @@ module _ (p n a b : ℕ) (cs ws : List ℕ) (words : (i : ℕ) → getD ws i 0 <
       ap (take len) (w .bytes-are) ∙ over-front (bytes-written p n a b cs ws out) out len (sym (w .length-is)) ∙ whole in
       let good : judge (take len out′) ≡ 0 = ap judge file ∙ written-accepted p n a b cs ws words taken in
       let back : decode (take len out′) ≡ m = ap decode file ∙ written-read p n a b cs ws words taken in
-      let fits : Fits (decode t .n) (decode t .a) (decode t .b) cs₂ ws₂ =
-      subst (λ (x : FileModel). Fits (x .n) (x .a) (x .b) cs₂ ws₂) (sym back) (record { constants-fit = fc; parameters-fit = fw }) in
+      let fits : AreasHold (decode t .n) (decode t .a) (decode t .b) cs₂ ws₂ =
+      subst (λ (x : FileModel). AreasHold (x .n) (x .a) (x .b) cs₂ ws₂) (sym back) (record { constants-fit = fc; parameters-fit = fw }) in
       let none = zero-read t cs₂ ws₂ good fits in
       let all : model-read (take len out′) cs₂ ws₂ ≡ m = read-whole t cs₂ ws₂ none ∙ back in
       let acc = model-accepted p n a b cs ws taken in

@@ -10,7 +10,7 @@ use Rattle.format.specs.Refusals.{Tests, where-accepted}
 use Rattle.format.specs.File.Format.{FileModel, decode, no-model, model-read, read-refusal, ReadCall, write-refusal, bytes-written, WriteCall, lookup-refusal, lookup-length, lookup-start}
 use Rattle.text.specs.Text.{print-refusal, printed, Prints}
 use Rattle.text.specs.declared.Printed.{Printed}
-use Rattle.host.specs.AreaCall.{AreaCall, Written}
+use Rattle.host.specs.AreaCall.{AreaCall, WrittenOver}
 use Rattle.solvability.specs.Host.{HostAnswer, HostMixedAnswer}
 
 where-refused : {A : Type 0} (k : ℕ) (x o : A) → k ≢ 0 → where-accepted k x o ≡ o
@@ -93,7 +93,7 @@ pub host-mixed-refused : (file area : List ℕ) (k : ℕ) (area′ : List ℕ) �
 host-mixed-refused file area = area-refused _ _ _ _ area
 
 -- the bytes behind an answer are as they were
-pub written-surplus : {A : Type 0} (Holds : A → Type 0) (bytes : A → List ℕ) (area area′ : List ℕ) (w : Written Holds bytes area area′)
+pub written-surplus : {A : Type 0} (Holds : A → Type 0) (bytes : A → List ℕ) (area area′ : List ℕ) (w : WrittenOver Holds bytes area area′)
     → drop (length (bytes (w .answer))) area′ ≡ drop (length (bytes (w .answer))) area
 written-surplus Holds bytes area area′ w = ap (drop (length (bytes (w .answer)))) (w .is-shown) ∙ surplus (bytes (w .answer)) area
 

@@ -70,8 +70,8 @@ pub open-rank-0 : (r : Answer) → LayeredCall 2 2 1 0 (1 ∷ 1 ∷ []) [] r →
 open-rank-0 r x o z = let e = x .if-accepted equal-accepted .solved .is-rank in let f = equal-rank in omega arith
 
 -- 6: it refuses
-pub refuses : (r : Answer) → LayeredCall 2 2 1 0 (1 ∷ 1 ∷ []) [] r → r .refusal ≢ 0 → ⊥
-refuses r x h = h (x .is-refusal ∙ equal-accepted)
+pub refuses-a-model : (r : Answer) → LayeredCall 2 2 1 0 (1 ∷ 1 ∷ []) [] r → r .refusal ≢ 0 → ⊥
+refuses-a-model r x h = h (x .is-refusal ∙ equal-accepted)
 
 stored : over (flatten (model-read document-file (7 ∷ 7 ∷ 7 ∷ []) (9 ∷ []) .constants)) (7 ∷ 7 ∷ 7 ∷ []) ≡ 1 ∷ 0 ∷ 7 ∷ []
 unfolding file-run document-file
@@ -81,7 +81,7 @@ stored = refl
 pub stores-nothing : (k p n a b : ℕ) (ws′ : List ℕ) → ReadCall document-file (7 ∷ 7 ∷ 7 ∷ []) (9 ∷ []) k p n a b (7 ∷ 7 ∷ 7 ∷ []) ws′ → ⊥
 stores-nothing k p n a b ws′ x = let e : _≡_ {A = ℕ} 7 1 = ap (λ (l : List ℕ). getD l 0 0) (x .constants-are ∙ stored) in omega arith
 
--- and it writes past a × n
+-- and a read that writes past a × n
 pub writes-surplus : (k p n a b : ℕ) (ws′ : List ℕ) → ReadCall document-file (7 ∷ 7 ∷ 7 ∷ []) (9 ∷ []) k p n a b (1 ∷ 0 ∷ 0 ∷ []) ws′ → ⊥
 writes-surplus k p n a b ws′ x = let e : _≡_ {A = ℕ} 0 7 = ap (λ (l : List ℕ). getD l 2 0) (x .constants-are ∙ stored) in omega arith
 

@@ -10,12 +10,22 @@ use Rattle.counting.specs.Sets.{Set, _∈_}
 use Rattle.rank.specs.Layered.Model.{Model, Seat, out, constant, row, is-placed, is-constant, constants}
 use Rattle.exchange.specs.Solution.{shown, Solved}
 use Rattle.limits.specs.Limits.{no-column}
-use Rattle.layered.specs.Answers.{LayeredCall}
+use Rattle.layered.specs.Answers.{Answered, AnswerShown, LayeredCall}
+use Rattle.layered.specs.FileModel.{file-model}
 use Rattle.layered.specs.declared.Answer.{Answer}
 use Rattle.format.specs.Refusals.{refusal, mixed-refusal}
-use Rattle.mixed.specs.MixedAnswers.{MixedCall}
+use Rattle.mixed_models.specs.Mixed.{Mixed}
+use Rattle.mixed.specs.MixedAnswers.{MixedAnswered, MixedCall, file-mixed}
+use Rattle.host.specs.AnswerBytes.{answer-bytes, mixed-bytes}
+use Rattle.solvability.specs.Host.{HostAnswer, HostMixedAnswer}
+use Rattle.text.specs.Text.{Prints}
+use Rattle.text.specs.declared.Printed.{Printed}
+use Rattle.report.specs.Report.{answer-text}
+use Rattle.report.specs.FileReport.{FileReport}
+use Rattle.format.specs.Lists.{over}
+use Rattle.format.specs.File.Format.{judge}
 use Rattle.mixed.specs.declared.MixedAnswer.{MixedAnswer}
-use Rattle.promises.specs.Fixed.{SameAnswer, SameMixed}
+use Rattle.promises.specs.Fixed.{SameAnswer, SameShown, SameMixed, SameMixedShown, TwoShown}
 use Rattle.promises.specs.AnswerLaws.{layered-same, mixed-same}
 
 -- ---- two results of one call
@@ -40,12 +50,56 @@ module _ (p n a b : ℕ) (cs ws : List ℕ) where
       → (r .rows ≡ s .rows) × (r .columns ≡ s .columns)
   mixed-refused-fixed x y ne = (x .if-refused ne .no-rows ∙ sym (y .if-refused ne .no-rows), x .if-refused ne .no-columns ∙ sym (y .if-refused ne .no-columns))
 
+-- ---- two results of one call on a file
+
+answered-fixed : (M : Model) {r s : Answer} → Answered M r → Answered M s → SameShown r s
+answered-fixed M x y = record {
+  same-verdict = x .is-verdict ∙ sym (y .is-verdict);
+  same-rank = x .solved .is-rank ∙ sym (y .solved .is-rank);
+  same-placed = x .placed-number ∙ sym (y .placed-number);
+  same-short = x .short-number ∙ sym (y .short-number);
+}
+
+mixed-answered-fixed : (X : Mixed) {r s : MixedAnswer} → MixedAnswered X r → MixedAnswered X s → SameMixedShown r s
+mixed-answered-fixed X x y = record {
+  same-verdict = x .is-verdict ∙ sym (y .is-verdict);
+  same-rank = x .is-rank ∙ sym (y .is-rank);
+  same-short = x .short-number ∙ sym (y .short-number);
+}
+
+two-shown : {A : Type 0} {Holds Shows Also : A → Type 0} {Same : A → A → Type 0} → ((r s : A) → Holds r → Holds s → Same r s)
+    → AnswerShown Holds Shows → AnswerShown Holds Also → TwoShown Same Shows Also
+two-shown same x y = record {
+  first = x .answer;
+  second = y .answer;
+  is-same = same (x .answer) (y .answer) (x .is-answer) (y .is-answer);
+  first-shown = x .is-shown;
+  second-shown = y .is-shown;
+}
+
+module _ (file area : List ℕ) where
+  -- the C calls: the bytes are those of two answers that agree,
+  pub host-fixed : (k j : ℕ) (area′ area″ : List ℕ) → HostAnswer file area k area′ → HostAnswer file area j area″ → k ≡ 0
+      → TwoShown SameShown (λ r. area′ ≡ over (answer-bytes r) area) (λ r. area″ ≡ over (answer-bytes r) area)
+  host-fixed k j area′ area″ x y z =
+      let e = sym (x .is-number) ∙ z in two-shown (λ r s. answered-fixed (file-model file)) (x .if-accepted e) (y .if-accepted e)
+
+  pub host-mixed-fixed : (k j : ℕ) (area′ area″ : List ℕ) → HostMixedAnswer file area k area′ → HostMixedAnswer file area j area″ → k ≡ 0
+      → TwoShown SameMixedShown (λ r. area′ ≡ over (mixed-bytes r) area) (λ r. area″ ≡ over (mixed-bytes r) area)
+  host-mixed-fixed k j area′ area″ x y z =
+      let e = sym (x .is-number) ∙ z in two-shown (λ r s. mixed-answered-fixed (file-mixed file)) (x .if-accepted e) (y .if-accepted e)
+
+  -- and so is the text of a report
+  pub report-fixed : (r s : Printed) (area′ area″ : List ℕ) → FileReport file area r area′ → FileReport file area s area″ → judge file ≡ 0
+      → TwoShown SameShown (λ t. Prints (answer-text t) area r area′) (λ t. Prints (answer-text t) area s area″)
+  report-fixed r s area′ area″ x y e = two-shown (λ t u. answered-fixed (file-model file)) (x .if-accepted e) (y .if-accepted e)
+
 -- ---- what holds of the side and the rows that an answer shows
 
-abbrev number-of : Seat → ℕ
-number-of out = 0
-number-of constant = 0
-number-of (row r) = r
+abbrev row-number : Seat → ℕ
+row-number out = 0
+row-number constant = 0
+row-number (row r) = r
 
 constant-is-placed : (s : Seat) → is-constant s ≡ true → is-placed s ≡ true
 constant-is-placed out e = absurd (false≢true e)
@@ -67,7 +121,7 @@ module _ (M : Model) (the-rank : ℕ) (pl sd sh : Set) (rows : List ℕ) (s : So
   -- no column stands in two rows
   pub no-two-rows : (q t : ℕ) → q < M .b → t < M .b → getD rows q 0 ≢ no-column → getD rows q 0 ≡ getD rows t 0 → q ≡ t
   no-two-rows q t l m h e =
-      ap number-of (sym (sits q l h .1) ∙ ap (shown (M .n) (M .b) sd rows) e ∙ sits t m (λ d. h (e ∙ d)) .1)
+      ap row-number (sym (sits q l h .1) ∙ ap (shown (M .n) (M .b) sd rows) e ∙ sits t m (λ d. h (e ∙ d)) .1)
 
   -- no column is on the side and in a row
   pub not-both : (q : ℕ) → q < M .b → getD rows q 0 ≢ no-column → sd (getD rows q 0) ≡ false

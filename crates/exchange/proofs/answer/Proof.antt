@@ -8,7 +8,7 @@ use Rattle.columns.specs.ColumnSets.{whole, row-numbers}
 use Rattle.columns.specs.Words.Operations.{within-iff}
 use Rattle.columns.specs.Words.Sets.{columns-below}
 use Rattle.exchange.specs.Sizes.{lines}
-use Rattle.exchange.specs.Code.Scanning.{owned}
+use Rattle.exchange.specs.Code.Scanning.{owner-at}
 use Rattle.exchange.specs.Code.Held.{held-shows}
 use Rattle.exchange.specs.Code.Offering.{offers-start, offers-some}
 use Rattle.exchange.specs.Code.Answer.{missing-below, solved}
@@ -18,7 +18,7 @@ use Rattle.exchange.proofs.answer.Statement.{statement}
 use Rattle.exchange.proofs.answer.Tie as tie
 
 -- every row is free at first
-none-owned : (n N : ℕ) → N ≤ lines → (q : ℕ) → q < N → owned (replicate lines n) q ≡ n
+none-owned : (n N : ℕ) → N ≤ lines → (q : ℕ) → q < N → owner-at (replicate lines n) q ≡ n
 none-owned n N h q l = getD-replicate lines q n 0 (omega arith)
 
 cast-owner : tie.Need-cast-owner

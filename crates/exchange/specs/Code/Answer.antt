@@ -26,7 +26,7 @@ use Rattle.rank.specs.Layered.Optimal.{open-columns, open-columns-iff, reach-op
 use Rattle.rank.specs.Layered.ColumnOrder.{placed-below}
 use Rattle.rank.specs.Layered.Offers.{finished, StateAnswers, state-answers}
 use Rattle.exchange.specs.Solution.{shown-row, shown, ShowsRow, Solved}
-use Rattle.exchange.specs.Code.Scanning.{owned}
+use Rattle.exchange.specs.Code.Scanning.{owner-at}
 use Rattle.exchange.specs.Code.Searching.{Ended, Final, Searched, in-last}
 use Rattle.exchange.specs.Code.Held.{Given, model-of}
 use Rattle.exchange.specs.Code.Offering.{Offered-all}
@@ -35,28 +35,28 @@ use Rattle.exchange.specs.Code.Offering.{Offered-all}
 
 -- the columns that own the first m rows
 abbrev pub Side : (n m : ℕ) (o : List ℕ) → Set → Type 0
-Side n m o side = (x : ℕ) → (x ∈ side) ↔ ((x < n) × Some m (λ q. owned o q ≡ x))
+Side n m o side = (x : ℕ) → (x ∈ side) ↔ ((x < n) × Some m (λ q. owner-at o q ≡ x))
 
 pub side-none : (n : ℕ) (o : List ℕ) → Side n 0 o none
 side-none n o x = ((λ e. absurd (false≢true e)), λ w. absurd (omega (arith, w .1 .1)))
 
 module _ (n m : ℕ) (o : List ℕ) (side : Set) (h : Side n m o side) where
-  old-owner : (x : ℕ) → x ∈ side → (x < n) × Some (m + 1) (λ q. owned o q ≡ x)
-  old-owner x e = let w : (x < n) × Some m (λ q. owned o q ≡ x) = h x .0 e in (w .0, (w .1 .0, omega (arith, w .1 .1), w .1 .2))
+  old-owner : (x : ℕ) → x ∈ side → (x < n) × Some (m + 1) (λ q. owner-at o q ≡ x)
+  old-owner x e = let w : (x < n) × Some m (λ q. owner-at o q ≡ x) = h x .0 e in (w .0, (w .1 .0, omega (arith, w .1 .1), w .1 .2))
 
-  from-owner : (x : ℕ) → x ≢ owned o m → x < n → Some (m + 1) (λ q. owned o q ≡ x) → x ∈ side
-  from-owner x ne l w = h x .1 (l, (w .0, elim (ℕ-discrete (w .0) m) [ yes z ↦ absurd (ne (sym (sym (ap (owned o) z) ∙ w .2))) | no nz ↦ omega (arith, w .1) ], w .2))
+  from-owner : (x : ℕ) → x ≢ owner-at o m → x < n → Some (m + 1) (λ q. owner-at o q ≡ x) → x ∈ side
+  from-owner x ne l w = h x .1 (l, (w .0, elim (ℕ-discrete (w .0) m) [ yes z ↦ absurd (ne (sym (sym (ap (owner-at o) z) ∙ w .2))) | no nz ↦ omega (arith, w .1) ], w .2))
 
-  pub side-more : n ≤ width → owned o m < n → Side n (m + 1) o (inserted side (owned o m))
+  pub side-more : n ≤ width → owner-at o m < n → Side n (m + 1) o (inserted side (owner-at o m))
   side-more hn l x = (
-    (λ e. elim (inserted-split side (owned o m) x e) [ inl z ↦ (rw z l, (m, omega arith, sym z)) | inr k ↦ old-owner x k ]),
-    λ w. elim (ℕ-discrete x (owned o m)) [
-      | yes z ↦ rw z (inserted-same side (owned o m) (omega arith))
-      | no nz ↦ inserted-old side (owned o m) x (from-owner x nz (w .0) (w .1))
+    (λ e. elim (inserted-split side (owner-at o m) x e) [ inl z ↦ (rw z l, (m, omega arith, sym z)) | inr k ↦ old-owner x k ]),
+    λ w. elim (ℕ-discrete x (owner-at o m)) [
+      | yes z ↦ rw z (inserted-same side (owner-at o m) (omega arith))
+      | no nz ↦ inserted-old side (owner-at o m) x (from-owner x nz (w .0) (w .1))
     ],
   )
 
-  pub side-skip : n ≤ owned o m → Side n (m + 1) o side
+  pub side-skip : n ≤ owner-at o m → Side n (m + 1) o side
   side-skip l x = (old-owner x, λ w. from-owner x (λ z. omega (arith, w .0)) (w .0) (w .1))
 
 -- ---- the rows
@@ -67,7 +67,7 @@ shown-column n y = cond (ltb y n) y no-column
 
 -- the first b rows show the columns that own them, the others none
 pub record RowsShown (n a b : ℕ) (o rows : List ℕ) : Type 0 where
-  pub owners : (r : ℕ) → r < b → getD rows r 0 ≡ shown-column n (owned o (a + r))
+  pub owners : (r : ℕ) → r < b → getD rows r 0 ≡ shown-column n (owner-at o (a + r))
   pub past : (r : ℕ) → b ≤ r → r < most-rows → getD rows r 0 ≡ no-column
 
 pub shown-low : (n y : ℕ) → y < n → shown-column n y ≡ y
@@ -166,10 +166,10 @@ module _ (p n a b : ℕ) (ws : List ℕ) (G : Given p n b ws) (t o : List ℕ) (
     -- the assignment shown is that of the state
     module _ (side : Set) (rows : List ℕ) (hn : n ≤ width) (constant-side : Side n a o side) (row-columns : RowsShown n a b o rows) where
       owner-row : (x r : ℕ) → x < n → r < b → (getD rows r 0 ≡ x) ↔ (s .owner (a + r) ≡ x)
-      owner-row x r lx lr = elim (decLt (owned o (a + r)) n) [
-        | yes l ↦ let e : getD rows r 0 ≡ s .owner (a + r) = row-columns .owners r lr ∙ shown-low n (owned o (a + r)) l ∙ d .held .owners (a + r) (omega arith) in
+      owner-row x r lx lr = elim (decLt (owner-at o (a + r)) n) [
+        | yes l ↦ let e : getD rows r 0 ≡ s .owner (a + r) = row-columns .owners r lr ∙ shown-low n (owner-at o (a + r)) l ∙ d .held .owners (a + r) (omega arith) in
             ((λ z. sym e ∙ z), λ z. e ∙ z)
-        | no nl ↦ let e : getD rows r 0 ≡ no-column = row-columns .owners r lr ∙ shown-high n (owned o (a + r)) (omega arith) in
+        | no nl ↦ let e : getD rows r 0 ≡ no-column = row-columns .owners r lr ∙ shown-high n (owner-at o (a + r)) (omega arith) in
             ((λ z. absurd (omega arith)), λ z. absurd (omega (arith, d .held .owners (a + r) (omega arith))))
       ]
 
@@ -182,7 +182,7 @@ module _ (p n a b : ℕ) (ws : List ℕ) (G : Given p n b ws) (t o : List ℕ) (
           (λ z. absurd (omega (arith, the-answer .is-legal .offered x (ap is-placed z) .0)))
           (λ r z. absurd (omega (arith, the-answer .is-legal .offered x (ap is-placed z) .0)))
 
-      row-is : (x : ℕ) → x < n → (Some a (λ q. owned o q ≡ x) → ⊥) → (q : Dec (Some b (λ r. getD rows r 0 ≡ x))) → shown-row b rows x q ≡ assignment M s x
+      row-is : (x : ℕ) → x < n → (Some a (λ q. owner-at o q ≡ x) → ⊥) → (q : Dec (Some b (λ r. getD rows r 0 ≡ x))) → shown-row b rows x q ≡ assignment M s x
       unfolding shown-row
       row-is x l nc (yes v) = sym (assignment-owned M s x (a + v .0) l (omega (arith, v .1)) (owner-row x (v .0) l (v .1) .0 (v .2)) ∙ row-seat-high M (v .0))
       row-is x l nc (no nv) = sym (not-placed x l (λ k. elim (decLt (k .0) a) [
@@ -196,7 +196,7 @@ module _ (p n a b : ℕ) (ws : List ℕ) (G : Given p n b ws) (t o : List ℕ) (
 
       inside : (x : ℕ) → x < n → cond (side x) constant (found x) ≡ assignment M s x
       inside x l = elim (true? (side x)) [
-        | yes e ↦ let k : (x < n) × Some a (λ q. owned o q ≡ x) = constant-side x .0 e in
+        | yes e ↦ let k : (x < n) × Some a (λ q. owner-at o q ≡ x) = constant-side x .0 e in
             let q : ℕ = k .1 .0 in
             ap (λ t. cond t constant (found x)) e ∙ sym (assignment-owned M s x q l (omega (arith, k .1 .1)) (sym (d .held .owners q (omega (arith, k .1 .1))) ∙ k .1 .2) ∙ row-seat-low M q (k .1 .1))
         | no ne ↦ ap (λ t. cond t constant (found x)) (not-true (side x) ne) ∙ row-is x l (λ k. ne (constant-side x .1 (l, k))) _
@@ -211,18 +211,18 @@ module _ (p n a b : ℕ) (ws : List ℕ) (G : Given p n b ws) (t o : List ℕ) (
 
       side-at : (x : ℕ) → side x ≡ constants (assignment M s) x
       side-at x = iff-eq (side x) (constants (assignment M s) x)
-          (λ e. let k : (x < n) × Some a (λ q. owned o q ≡ x) = constant-side x .0 e in
+          (λ e. let k : (x < n) × Some a (λ q. owner-at o q ≡ x) = constant-side x .0 e in
           ap is-constant (assignment-owned M s x (k .1 .0) (k .0) (omega (arith, k .1 .1)) (sym (d .held .owners (k .1 .0) (omega (arith, k .1 .1))) ∙ k .1 .2) ∙ row-seat-low M (k .1 .0) (k .1 .1)))
           (λ e. let k : (x < n) × Some a (λ q. s .owner q ≡ x) = constant-owner M s x e in
           constant-side x .1 (k .0, (k .1 .0, k .1 .1, d .held .owners (k .1 .0) (omega (arith, k .1 .1)) ∙ k .1 .2)))
 
       rows-at : (r : ℕ) → r < b → ShowsRow n b side rows r
-      rows-at r lr = elim (decLt (owned o (a + r)) n) [
+      rows-at r lr = elim (decLt (owner-at o (a + r)) n) [
         | yes l ↦
-            let e : getD rows r 0 ≡ owned o (a + r) = row-columns .owners r lr ∙ shown-low n (owned o (a + r)) l in
+            let e : getD rows r 0 ≡ owner-at o (a + r) = row-columns .owners r lr ∙ shown-low n (owner-at o (a + r)) l in
             inl (rw e l, ap (λ f. f (getD rows r 0)) shown-is ∙ assignment-owned M s (getD rows r 0) (a + r) (rw e l) (omega arith) (sym (d .held .owners (a + r) (omega arith)) ∙ sym e) ∙ row-seat-high M r)
         | no nl ↦ inr (
-          row-columns .owners r lr ∙ shown-high n (owned o (a + r)) (omega arith),
+          row-columns .owners r lr ∙ shown-high n (owner-at o (a + r)) (omega arith),
           λ x z. let k : (x < n) × (r < b) × (s .owner (a + r) ≡ x) = row-owner M s x r (sym (ap (λ f. f x) shown-is) ∙ z) in
               absurd (omega (arith, d .held .owners (a + r) (omega arith), k .0, k .2)),
         )

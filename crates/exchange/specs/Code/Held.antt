@@ -29,12 +29,12 @@ use Rattle.rank.specs.Layered.Seating.{Good, good-valid, freed, moved-valid, mo
 use Rattle.rank.specs.Layered.Assignments.{offered-owner}
 use Rattle.exchange.specs.Sizes.{stride, lines}
 use Rattle.exchange.specs.Code.Cells.{cell, Below, cleared-is, Pivoted}
-use Rattle.exchange.specs.Code.Scanning.{Arrays, touched, touched-constant, touched-parameter, owned}
+use Rattle.exchange.specs.Code.Scanning.{Arrays, touched, touched-constant, touched-parameter, owner-at}
 use Rattle.exchange.specs.Code.Searching.{Shows}
 
 -- the row of x is free: o′ has n there
 abbrev pub Vacated : (n N x : ℕ) → List ℕ → List ℕ → Type 0
-Vacated n N x o o′ = ((r : ℕ) × (r < N) × (owned o r ≡ x) × (o′ ≡ ListN.set o r n)) ⊎ (((r : ℕ) → r < N → owned o r ≢ x) × (o′ ≡ o))
+Vacated n N x o o′ = ((r : ℕ) × (r < N) × (owner-at o r ≡ x) × (o′ ≡ ListN.set o r n)) ⊎ (((r : ℕ) → r < N → owner-at o r ≢ x) × (o′ ≡ o))
 
 -- column x is seated at row q
 pub record Sat (p n a N x q : ℕ) (t o t′ o′ : List ℕ) : Type 0 where
@@ -67,7 +67,7 @@ module _ (p n a b : ℕ) (ws : List ℕ) (G : Given p n b ws) where
     pub s : State n (a + b)
     pub good : Good (model-of p n a b ws G) s
     pub cells : (r c : ℕ) → r < a → c < n → residue-of p (cell t r c) ≡ good .P r c
-    pub owners : (q : ℕ) → q < a + b → owned o q ≡ s .owner q
+    pub owners : (q : ℕ) → q < a + b → owner-at o q ≡ s .owner q
 
   module _ (prime : is-prime p ≡ true) where
     open Field (field-of p) using (inv, _+_ as _⊕_, _·_ as _⊙_)
@@ -78,7 +78,7 @@ module _ (p n a b : ℕ) (ws : List ℕ) (G : Given p n b ws) where
       λ nz. ap not (ne-eqb v 0 (λ z. nz (residue-zero p prime v l .1 z))),
     )
 
-    shows : (t o : List ℕ) → Below p t → (h : Held t o) → Shows (G .E) (h .s) (touched a t ws) (owned o)
+    shows : (t o : List ℕ) → Below p t → (h : Held t o) → Shows (G .E) (h .s) (touched a t ws) (owner-at o)
     shows t o bt h = record {
       touch = λ q x l m e. at q x l m e ∙ sym (h .good .reads q x);
       owner = h .owners;
@@ -123,11 +123,11 @@ module _ (p n a b : ℕ) (ws : List ℕ) (G : Given p n b ws) where
       | no nl ↦ ap (λ v. residue-of p (cell v r c)) (k (omega arith)) ∙ e r c lr lc ∙ sym (ap (λ f. f r c) (seated-row M P q x (omega arith)))
     ]
 
-  pub held-shows : (t o : List ℕ) → Arrays p n a b t o → (h : Held t o) → Shows (G .E) (h .s) (touched a t ws) (owned o)
+  pub held-shows : (t o : List ℕ) → Arrays p n a b t o → (h : Held t o) → Shows (G .E) (h .s) (touched a t ws) (owner-at o)
   held-shows t o w h = shows (w .prime) t o (w .below) h
 
   -- a store to the owners
-  stored : (o : List ℕ) (f : ℕ → ℕ) (q v : ℕ) → length o ≡ lines → a + b ≤ lines → q < a + b → ((r : ℕ) → r < a + b → owned o r ≡ f r) → (r : ℕ) → r < a + b → owned (ListN.set o q v) r ≡ set f q v r
+  stored : (o : List ℕ) (f : ℕ → ℕ) (q v : ℕ) → length o ≡ lines → a + b ≤ lines → q < a + b → ((r : ℕ) → r < a + b → owner-at o r ≡ f r) → (r : ℕ) → r < a + b → owner-at (ListN.set o q v) r ≡ set f q v r
   stored o f q v lo lab lq e r lr = elim (ℕ-discrete r q) [
     | yes d ↦ rw (d, set-same) (getD-set-same o q v 0 (omega arith))
     | no nd ↦ getD-set-other o q r v 0 nd ∙ e r lr ∙ sym (set-other f q v r nd)
@@ -139,7 +139,7 @@ module _ (p n a b : ℕ) (ws : List ℕ) (G : Given p n b ws) where
 
   module _ (t o t′ o′ : List ℕ) (x q : ℕ) (w : Arrays p n a b t o) (h : Held t o)
       (lx : x < n) (lq : q < a + b) (fq : n ≤ h .s .owner q) (tq : h .s .touch q x ≡ true) (d : Sat p n a (a + b) x q t o t′ o′) where
-    moving : (q′ : ℕ) → q′ < a + b → owned o q′ ≡ x → d .middle ≡ ListN.set o q′ n → Seated t o t′ o′ x q h
+    moving : (q′ : ℕ) → q′ < a + b → owner-at o q′ ≡ x → d .middle ≡ ListN.set o q′ n → Seated t o t′ o′ x q h
     unfolding state freed
     moving q′ lq′ e m =
         let so : h .s .owner q′ ≡ x = sym (h .owners q′ lq′) ∙ e in
@@ -148,13 +148,13 @@ module _ (p n a b : ℕ) (ws : List ℕ) (G : Given p n b ws) where
             s = state M (seated M (h .good .P) q x) (set (set (h .s .owner) q′ n) q x) w0;
             good = record { P = seated M (h .good .P) q x; reads = λ r z. refl; kernel = w0 .kernel; tableau = w0 .tableau };
             cells = seated-cells (w .prime) t t′ (h .good .P) q x (w .below) (h .cells) lx (d .pivoted) (d .kept);
-            owners = λ r lr. ap (λ l. owned l r) (d .owners ∙ ap (λ l. ListN.set l q x) m)
+            owners = λ r lr. ap (λ l. owner-at l r) (d .owners ∙ ap (λ l. ListN.set l q x) m)
                 ∙ stored (ListN.set o q′ n) (set (h .s .owner) q′ n) q x (length-set o q′ n ∙ w .lengths .owners) (w .lengths .all-rows) lq (stored o (h .s .owner) q′ n (w .lengths .owners) (w .lengths .all-rows) lq′ (h .owners)) r lr;
           },
           inl (q′, moved M (h .s) (h .good) x q q′ lx lq fq tq lq′ so),
         )
 
-    entering : ((r : ℕ) → r < a + b → owned o r ≢ x) → d .middle ≡ o → Seated t o t′ o′ x q h
+    entering : ((r : ℕ) → r < a + b → owner-at o r ≢ x) → d .middle ≡ o → Seated t o t′ o′ x q h
     unfolding state
     entering new m =
         let none : (r : ℕ) → r < a + b → h .s .owner r ≢ x = λ r lr e. new r lr (h .owners r lr ∙ e) in
@@ -164,7 +164,7 @@ module _ (p n a b : ℕ) (ws : List ℕ) (G : Given p n b ws) where
             s = state M (seated M (h .good .P) q x) (set (h .s .owner) q x) w0;
             good = record { P = seated M (h .good .P) q x; reads = λ r z. refl; kernel = w0 .kernel; tableau = w0 .tableau };
             cells = seated-cells (w .prime) t t′ (h .good .P) q x (w .below) (h .cells) lx (d .pivoted) (d .kept);
-            owners = λ r lr. ap (λ l. owned l r) (d .owners ∙ ap (λ l. ListN.set l q x) m) ∙ stored o (h .s .owner) q x (w .lengths .owners) (w .lengths .all-rows) lq (h .owners) r lr;
+            owners = λ r lr. ap (λ l. owner-at l r) (d .owners ∙ ap (λ l. ListN.set l q x) m) ∙ stored o (h .s .owner) q x (w .lengths .owners) (w .lengths .all-rows) lq (h .owners) r lr;
           },
           inr (
             λ v. none (v .0) (v .1) (v .2),

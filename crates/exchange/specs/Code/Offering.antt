@@ -23,7 +23,7 @@ use Rattle.rank.specs.Modulus.{residue-of}
 use Rattle.rank.specs.Layered.Valid.{state}
 use Rattle.rank.specs.Layered.Seating.{empty-valid}
 use Rattle.exchange.specs.Code.Cells.{cell}
-use Rattle.exchange.specs.Code.Scanning.{owned}
+use Rattle.exchange.specs.Code.Scanning.{owner-at}
 use Rattle.exchange.specs.Code.Held.{Given, model-of, ShowsConstants, Held}
 use Rattle.exchange.specs.Code.Placing.{Placing}
 
@@ -157,7 +157,7 @@ module _ {p n a b : ℕ} {ws : List ℕ} {G : Given p n b ws} where
 
 -- ---- nothing is placed at first
 
-module _ (p n a b : ℕ) (ws : List ℕ) (t o : List ℕ) (free : (q : ℕ) → q < a + b → owned o q ≡ n) where
+module _ (p n a b : ℕ) (ws : List ℕ) (t o : List ℕ) (free : (q : ℕ) → q < a + b → owner-at o q ≡ n) where
   pub offers-start : (offered : Set) (G : Given p n b ws) → ShowsConstants p n a b ws G t → ((x : ℕ) → (x ∈ offered) ↔ ((x < n) × (x ∈ G .E))) → Offers p n a b ws offered t o G
   unfolding state
   offers-start offered G h m =

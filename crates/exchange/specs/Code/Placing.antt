@@ -17,7 +17,7 @@ use Rattle.rank.specs.Graph.Layers.{layer, layer-start, layer-placed}
 use Rattle.rank.specs.Graph.Search.{Hit, fall}
 use Rattle.rank.specs.Layered.Augmenting.{only, only-iff, OneMore, entered-more}
 use Rattle.exchange.specs.declared.search.Found.{Found}
-use Rattle.exchange.specs.Code.Scanning.{Arrays, touched, owned}
+use Rattle.exchange.specs.Code.Scanning.{Arrays, touched, owner-at}
 use Rattle.exchange.specs.Code.Searching.{Shows, Ended, Searched, in-last}
 use Rattle.exchange.specs.Code.Held.{Given, Held, held-shows, Sat, Seated, seat-held}
 
@@ -78,10 +78,10 @@ first-is s j x q depth l d =
 
 -- what a search from j says of every state that the arrays show
 pub record Seeks (n a b : ℕ) (ws : List ℕ) (j : ℕ) (t o : List ℕ) (f : Found) : Type 0 where
-  pub says : (E : Set) (s : State n (a + b)) → Shows E s (touched a t ws) (owned o) → j ∈ E → Searched s (only j) (f .column) (f .row) (f .depth) (members (whole (f .reached)))
+  pub says : (E : Set) (s : State n (a + b)) → Shows E s (touched a t ws) (owner-at o) → j ∈ E → Searched s (only j) (f .column) (f .row) (f .depth) (members (whole (f .reached)))
 
 pub seeks : {n a b : ℕ} {ws : List ℕ} {j : ℕ} {t o : List ℕ} (f : Found) (start : Set) → j < n → n ≤ width → start ≡ inserted none j
-    → ((E : Set) (s : State n (a + b)) → Shows E s (touched a t ws) (owned o) → ((y : ℕ) → y ∈ start → (y < n) × (y ∈ E)) → Searched s start (f .column) (f .row) (f .depth) (members (whole (f .reached))))
+    → ((E : Set) (s : State n (a + b)) → Shows E s (touched a t ws) (owner-at o) → ((y : ℕ) → y ∈ start → (y < n) × (y ∈ E)) → Searched s start (f .column) (f .row) (f .depth) (members (whole (f .reached))))
     → Seeks n a b ws j t o f
 seeks {j = j} f start l w e found = record {
   says = λ E s h i.
@@ -92,7 +92,7 @@ seeks {j = j} f start l w e found = record {
 -- it has found a column with a free row
 pub record Finds (n a b : ℕ) (ws : List ℕ) (j : ℕ) (t o : List ℕ) (f : Found) : Type 0 where
   pub at-row : f .row < a + b
-  pub ended : (E : Set) (s : State n (a + b)) → Shows E s (touched a t ws) (owned o) → j ∈ E → Ended s (only j) (f .column) (f .row) (f .depth)
+  pub ended : (E : Set) (s : State n (a + b)) → Shows E s (touched a t ws) (owner-at o) → j ∈ E → Ended s (only j) (f .column) (f .row) (f .depth)
 
 pub finds : {n a b : ℕ} {ws : List ℕ} {j : ℕ} {t o : List ℕ} {f : Found} → f .row < a + b → Seeks n a b ws j t o f → Finds n a b ws j t o f
 finds l R = record { at-row = l; ended = λ E s h e. R .says E s h e .0 l }

@@ -49,8 +49,8 @@ unfolding touched
 touched-parameter a t ws q x l = ap (λ b. cond b (not (eqb (cell t q x) 0)) (members (getD ws (q - a) 0) x)) (le-ltb q a l)
 
 -- the owner of row q
-abbrev pub owned : List ℕ → ℕ → ℕ
-owned o q = getD o q 0
+abbrev pub owner-at : List ℕ → ℕ → ℕ
+owner-at o q = getD o q 0
 
 module _ (n N : ℕ) (tch : ℕ → ℕ → Bool) (own : ℕ → ℕ) where
   -- row q, where it touches x, has an owner, and the owner is in next

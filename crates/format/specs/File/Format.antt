@@ -140,21 +140,21 @@ abbrev pub values : FileModel → Values
 values m = (m .p, (size-values m, row-values m))
 
 -- and back
-abbrev pub sizes-of : Values → ℕ × ℕ × ℕ
-sizes-of x = x .1 .0
+abbrev pub sizes-of-values : Values → ℕ × ℕ × ℕ
+sizes-of-values x = x .1 .0
 
-abbrev pub rows-in : Values → Rows
-rows-in x = x .1 .1
+abbrev pub rows-of-values : Values → Rows
+rows-of-values x = x .1 .1
 
 abbrev pub of-values : Values → FileModel
 of-values x =
     record {
       p = x .0;
-      n = sizes-of x .0;
-      a = sizes-of x .1;
-      b = sizes-of x .2;
-      constants = rows-in x .0;
-      parameters = rows-in x .1 .0;
+      n = sizes-of-values x .0;
+      a = sizes-of-values x .1;
+      b = sizes-of-values x .2;
+      constants = rows-of-values x .0;
+      parameters = rows-of-values x .1 .0;
     }
 
 -- ---- judged, read and written

@@ -8,8 +8,8 @@ use native.Mathlib.Decide.{ℕ-discrete, decLe, decLt}
 use Rattle.counting.specs.Sets.{all, Set, _∩_, ∁, #, touching}
 use Rattle.rank.specs.Linear.Kernels.{hits}
 use Rattle.rank.specs.Layered.Model.{Model, Seat, out, constant, row, Assignment, placing, same-row, size}
-use Rattle.mixed_models.specs.Starred.Lists.{among, seats, within}
-use Rattle.mixed_models.specs.Starred.Pivots.{Pivots, pivoted, owners, proper, owns}
+use Rattle.mixed_models.specs.Starred.Lists.{among, seats, all-below-n}
+use Rattle.mixed_models.specs.Starred.Pivots.{Pivots, pivoted-tableau, owners, proper, owns}
 
 -- seats, and pivots that show that the constant side is independent
 pub record Evidence : Type 0 where
@@ -51,12 +51,12 @@ module _ (M : Model) where
 
   -- the seats are a legal assignment
   unfoldable pub sound : Evidence → Bool
-  sound e = (within (e .its-seats) n && proper K a (e .its-pivots) Q)
+  sound e = (all-below-n (e .its-seats) n && proper K a (e .its-pivots) Q)
       && (all n (λ x. sits (owns a (owners K (e .its-pivots) (λ h. n))) x (seats (e .its-seats) x)) && apart (seats (e .its-seats)))
 
   -- the rows that touch J after the pivots l
   unfoldable pub rows-left : Pivots → Set → ℕ
-  rows-left l J = # a (touching n (hits K (pivoted K l Q)) J) + # b (touching n T J)
+  rows-left l J = # a (touching n (hits K (pivoted-tableau K l Q)) J) + # b (touching n T J)
 
   -- e places r columns and not x
   unfoldable pub spares : ℕ → ℕ → Evidence → Bool

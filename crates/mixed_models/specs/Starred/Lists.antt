@@ -20,13 +20,13 @@ seats (s ∷ l) zero = s
 seats (s ∷ l) (suc x) = seats l x
 
 -- the list is no longer than n
-unfoldable pub within : List Seat → ℕ → Bool
-within [] n = true
-within (s ∷ l) zero = false
-within (s ∷ l) (suc n) = within l n
+unfoldable pub all-below-n : List Seat → ℕ → Bool
+all-below-n [] n = true
+all-below-n (s ∷ l) zero = false
+all-below-n (s ∷ l) (suc n) = all-below-n l n
 
-pub seats-beyond : (l : List Seat) (n x : ℕ) → within l n ≡ true → n ≤ x → seats l x ≡ out
-unfolding seats within
+pub seats-beyond : (l : List Seat) (n x : ℕ) → all-below-n l n ≡ true → n ≤ x → seats l x ≡ out
+unfolding seats all-below-n
 seats-beyond [] n x e h = refl
 seats-beyond (s ∷ l) zero x e h = absurd (false≢true e)
 seats-beyond (s ∷ l) (suc n) zero e h = absurd (omega arith)

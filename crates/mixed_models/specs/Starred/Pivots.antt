@@ -19,9 +19,9 @@ module _ (K : Field) where
   open Field K using (F, 𝟘)
 
   -- the matrix after the pivots
-  unfoldable pub pivoted : Pivots → (ℕ → ℕ → F) → ℕ → ℕ → F
-  pivoted [] P = P
-  pivoted (p ∷ l) P = pivoted l (pivot K P (p .0) (p .1))
+  unfoldable pub pivoted-tableau : Pivots → (ℕ → ℕ → F) → ℕ → ℕ → F
+  pivoted-tableau [] P = P
+  pivoted-tableau (p ∷ l) P = pivoted-tableau l (pivot K P (p .0) (p .1))
 
   -- the owners of the rows after the pivots
   unfoldable pub owners : Pivots → (ℕ → ℕ) → ℕ → ℕ
@@ -33,16 +33,16 @@ module _ (K : Field) where
   proper a [] P = true
   proper a (p ∷ l) P = (decide (decLt (p .0) a) && hits K P (p .0) (p .1)) && proper a l (pivot K P (p .0) (p .1))
 
-  pub proper-same : (a n : ℕ) (l : Pivots) (P : ℕ → ℕ → F) → proper a l P ≡ true → Same K a n P (pivoted l P)
-  unfolding pivoted proper
+  pub proper-same : (a n : ℕ) (l : Pivots) (P : ℕ → ℕ → F) → proper a l P ≡ true → Same K a n P (pivoted-tableau l P)
+  unfolding pivoted-tableau proper
   proper-same a n [] P e = same-refl
   proper-same a n (p ∷ l) P e =
       let f : (decide (decLt (p .0) a) && hits K P (p .0) (p .1)) ≡ true = and-left (decide (decLt (p .0) a) && hits K P (p .0) (p .1)) (proper a l (pivot K P (p .0) (p .1))) e in
       same-trans (pivot-same P (p .0) (p .1) (decide-iff (decLt (p .0) a) .0 (and-left (decide (decLt (p .0) a)) (hits K P (p .0) (p .1)) f)) (hits-iff K P (p .0) (p .1) .0 (and-right (decide (decLt (p .0) a)) (hits K P (p .0) (p .1)) f)))
       (proper-same a n l (pivot K P (p .0) (p .1)) (and-right (decide (decLt (p .0) a) && hits K P (p .0) (p .1)) (proper a l (pivot K P (p .0) (p .1))) e))
 
-  pub proper-tableau : (a n : ℕ) (l : Pivots) (P : ℕ → ℕ → F) (o : ℕ → ℕ) → Tableau K a n P o → proper a l P ≡ true → Tableau K a n (pivoted l P) (owners l o)
-  unfolding pivoted owners proper
+  pub proper-tableau : (a n : ℕ) (l : Pivots) (P : ℕ → ℕ → F) (o : ℕ → ℕ) → Tableau K a n P o → proper a l P ≡ true → Tableau K a n (pivoted-tableau l P) (owners l o)
+  unfolding pivoted-tableau owners proper
   proper-tableau a n [] P o t e = t
   proper-tableau a n (p ∷ l) P o t e =
       let f : (decide (decLt (p .0) a) && hits K P (p .0) (p .1)) ≡ true = and-left (decide (decLt (p .0) a) && hits K P (p .0) (p .1)) (proper a l (pivot K P (p .0) (p .1))) e in

@@ -18,8 +18,8 @@ use Rattle.rank.specs.Layered.Rank.{constant-rank}
 use Rattle.rank.specs.Layered.Meaning.{true-legal, legal-from}
 use Rattle.rank.specs.Layered.Restricting.{constant-placed}
 use Rattle.rank.specs.Layered.RankRows.{constant-rank-rows}
-use Rattle.mixed_models.specs.Starred.Lists.{among, seats, within, seats-beyond}
-use Rattle.mixed_models.specs.Starred.Pivots.{Pivots, pivoted, owners, proper, proper-same, proper-tableau, owns, owns-owned}
+use Rattle.mixed_models.specs.Starred.Lists.{among, seats, all-below-n, seats-beyond}
+use Rattle.mixed_models.specs.Starred.Pivots.{Pivots, pivoted-tableau, owners, proper, proper-same, proper-tableau, owns, owns-owned}
 use Rattle.mixed_models.specs.Starred.Claims.{Evidence, Refusal, earlier, sits, apart, sound, rows-left, spares, spared, within-set, refuses, refused-by, below-all}
 
 module _ (M : Model) where
@@ -44,17 +44,17 @@ module _ (M : Model) where
       o : ℕ → ℕ
       o = owners K (e .its-pivots) (λ h. n)
 
-      first : (within (e .its-seats) n && proper K a (e .its-pivots) Q) ≡ true
-      first = and-left (within (e .its-seats) n && proper K a (e .its-pivots) Q) (all n (λ x. sits M (owns a o) x (A x)) && apart M A) t
+      first : (all-below-n (e .its-seats) n && proper K a (e .its-pivots) Q) ≡ true
+      first = and-left (all-below-n (e .its-seats) n && proper K a (e .its-pivots) Q) (all n (λ x. sits M (owns a o) x (A x)) && apart M A) t
 
       second : (all n (λ x. sits M (owns a o) x (A x)) && apart M A) ≡ true
-      second = and-right (within (e .its-seats) n && proper K a (e .its-pivots) Q) (all n (λ x. sits M (owns a o) x (A x)) && apart M A) t
+      second = and-right (all-below-n (e .its-seats) n && proper K a (e .its-pivots) Q) (all n (λ x. sits M (owns a o) x (A x)) && apart M A) t
 
       proper-there : proper K a (e .its-pivots) Q ≡ true
-      proper-there = and-right (within (e .its-seats) n) (proper K a (e .its-pivots) Q) first
+      proper-there = and-right (all-below-n (e .its-seats) n) (proper K a (e .its-pivots) Q) first
 
       low : (x : ℕ) → x ∈ placing A → x < n
-      low x p = elim (decLt x n) [ yes l ↦ l | no nl ↦ absurd (true≢false (sym p ∙ ap is-placed (seats-beyond (e .its-seats) n x (and-left (within (e .its-seats) n) (proper K a (e .its-pivots) Q) first) (omega arith)))) ]
+      low x p = elim (decLt x n) [ yes l ↦ l | no nl ↦ absurd (true≢false (sym p ∙ ap is-placed (seats-beyond (e .its-seats) n x (and-left (all-below-n (e .its-seats) n) (proper K a (e .its-pivots) Q) first) (omega arith)))) ]
 
       at : (x : ℕ) → x < n → (x ∈ placing A → x ∈ E) × (x ∈ constants A → x ∈ owns a o) × ((r : ℕ) → A x ≡ row r → (r < b) × (T r x ≡ true))
       at x l = sits-iff (owns a o) x (A x) (all-iff n (λ x. sits M (owns a o) x (A x)) .0 (and-left (all n (λ x. sits M (owns a o) x (A x))) (apart M A) second) x l)
@@ -69,7 +69,7 @@ module _ (M : Model) where
 
   pub rows-left-bound : (l : Pivots) → proper K a l Q ≡ true → (J : Set) → constant-rank M J + # b (touching n T J) ≤ rows-left M l J
   unfolding rows-left
-  rows-left-bound l f J = omega (arith, constant-rank-rows M (pivoted K l Q) (proper-same K a n l Q f) J)
+  rows-left-bound l f J = omega (arith, constant-rank-rows M (pivoted-tableau K l Q) (proper-same K a n l Q f) J)
 
   -- a legal assignment of r columns without column x
   abbrev pub Spare : ℕ → ℕ → Type 0

@@ -21,8 +21,8 @@ use Rattle.rank.specs.Layered.Rank.{rank, placed, short, verdict}
 use Rattle.rank.specs.ListedModel.{listed-modulo}
 use Rattle.mixed_models.specs.Mixed.{Mixed, mixed-at, unit, mixed-rank, mixed-verdict, layered-form}
 use Rattle.mixed_models.specs.MixedTheorem.{form-rank}
-use Rattle.mixed_models.specs.Starred.Lists.{among, seats, within}
-use Rattle.mixed_models.specs.Starred.Pivots.{pivoted, owners, proper, owns}
+use Rattle.mixed_models.specs.Starred.Lists.{among, seats, all-below-n}
+use Rattle.mixed_models.specs.Starred.Pivots.{pivoted-tableau, owners, proper, owns}
 use Rattle.mixed_models.specs.Starred.Claims.{Claim, earlier, sits, apart, sound, rows-left, spares, spared, within-set, refuses, refused-by, places-all, below-all, passes}
 use Rattle.mixed_models.specs.Starred.Checked.{claimed}
 use Rattle.mixed_models.specs.Starred.Models.{S1, S2, S3, S4, S5, S6, S7, S8, S9, S10, S11}
@@ -77,7 +77,7 @@ mixed-answers X c v r e s f =
 
 -- all that has to be opened to test the evidence
 unfoldable run : ℕ
-unfolding residues res mk plus times inv-of last members # indicator any all set choose touching beside unit pivot hits same-row among seats within pivoted owners proper owns sits apart sound rows-left spares spared earlier within-set refuses refused-by places-all below-all passes decide Dec·not ℕ-discrete decLe decLt
+unfolding residues res mk plus times inv-of last members # indicator any all set choose touching beside unit pivot hits same-row among seats all-below-n pivoted-tableau owners proper owns sits apart sound rows-left spares spared earlier within-set refuses refused-by places-all below-all passes decide Dec·not ℕ-discrete decLe decLt
 run = 0
 
 -- each claim passes its test: at 1,021, and S5 at 3

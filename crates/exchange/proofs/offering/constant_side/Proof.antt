@@ -5,7 +5,7 @@ use mathlib.Core.Logic.{⊎-elim}
 use Rattle.columns.specs.Columns.{members, inserted}
 use Rattle.columns.specs.ColumnSets.{whole}
 use Rattle.columns.specs.Words.Sets.{empty-none}
-use Rattle.exchange.specs.Code.Scanning.{owned}
+use Rattle.exchange.specs.Code.Scanning.{owner-at}
 use Rattle.exchange.specs.Code.Answer.{Side, side-none, side-more, side-skip}
 use borrow.Author.Needs.{needs}
 use native.Mathlib.Omega.{arith}
@@ -44,7 +44,7 @@ loop-again c =
     let l = c .before .before .before .before .loop in
     let a = c .before .before .before .before .before .before .args in
     let y = c .before .widened .result in
-    let ey : y ≡ owned (a .owner .now) (l .q) = c .before .widened .ensures .0 in (
+    let ey : y ≡ owner-at (a .owner .now) (l .q) = c .before .widened .ensures .0 in (
       search needs,
       ⊎-elim
           (λ w. rw (w .2, w .1 .ensures ∙ ap (inserted (members (whole (l .side)))) ey) (side-more (a .n) (l .q) (a .owner .now) (members (whole (l .side))) (l .inv .1) (omega arith) (rw ey at (w .0 .taken))))

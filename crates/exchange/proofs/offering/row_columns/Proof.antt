@@ -5,7 +5,7 @@ use borrow.Author.Count.{below-more}
 use lib.ListN.{length, getD, set, getD-replicate}
 use lib.Seq.{getD-set-same, getD-set-other}
 use Rattle.limits.specs.Limits.{most-rows, no-column}
-use Rattle.exchange.specs.Code.Scanning.{owned}
+use Rattle.exchange.specs.Code.Scanning.{owner-at}
 use Rattle.exchange.specs.Code.Answer.{shown-column, RowsShown}
 use borrow.Author.Needs.{needs}
 use native.Mathlib.Omega.{arith}
@@ -48,7 +48,7 @@ loop-again c =
       search needs,
       search needs,
       record {
-        owners = below-more (λ k. getD (set (l .rows) (l .r) v) k 0 ≡ shown-column (a .n) (owned (a .owner .now) (a .a + k))) (l .r)
+        owners = below-more (λ k. getD (set (l .rows) (l .r) v) k 0 ≡ shown-column (a .n) (owner-at (a .owner .now) (a .a + k))) (l .r)
             (λ k m. getD-set-other (l .rows) (l .r) k v 0 (λ z. omega arith) ∙ l .inv .2 .owners k m)
             (getD-set-same (l .rows) (l .r) v 0 inside ∙ c .column-shown .ensures);
         past = λ k m h. getD-set-other (l .rows) (l .r) k v 0 (λ z. omega arith) ∙ l .inv .2 .past k (omega arith) h;

@@ -12,20 +12,20 @@ use Rattle.columns.specs.Columns.{width, members, inserted}
 use Rattle.columns.specs.ColumnSets.{whole, row-numbers}
 use Rattle.columns.specs.Words.Sets.{columns-below, empty-none}
 use Rattle.columns.specs.Words.SetLaws.{inserted-same, inserted-old, removed-old, removed-other, removed-less, least-there, nothing-in}
-use Rattle.exchange.specs.Code.Scanning.{touched, owned, RowsRead, rows-kept, rows-down, Owners, owners-none, owners-more}
+use Rattle.exchange.specs.Code.Scanning.{touched, owner-at, RowsRead, rows-kept, rows-down, Owners, owners-none, owners-more}
 use borrow.Author.Needs.{needs}
 use native.Mathlib.Omega.{arith}
 use Rattle.exchange.proofs.search.scan.Statement.{statement}
 use Rattle.exchange.proofs.search.scan.Tie as tie
 
 abbrev Inv-loop : tie.InvT-loop
-Inv-loop t owner parameters n a rows rest next₀ column₀ row₀ x q₀ next column row q = (q ≤ rows) × (row ≡ rows) × (members (whole next₀) ⊆ members (whole next)) × RowsRead n rows (touched a t (row-numbers parameters)) (owned owner) (members (whole next)) x q × ((F : Set) → x ∈ F → Owners n rows (touched a t (row-numbers parameters)) (owned owner) F (members (whole next₀)) → Owners n rows (touched a t (row-numbers parameters)) (owned owner) F (members (whole next)))
+Inv-loop t owner parameters n a rows rest next₀ column₀ row₀ x q₀ next column row q = (q ≤ rows) × (row ≡ rows) × (members (whole next₀) ⊆ members (whole next)) × RowsRead n rows (touched a t (row-numbers parameters)) (owner-at owner) (members (whole next)) x q × ((F : Set) → x ∈ F → Owners n rows (touched a t (row-numbers parameters)) (owner-at owner) F (members (whole next₀)) → Owners n rows (touched a t (row-numbers parameters)) (owner-at owner) F (members (whole next)))
 
 abbrev μ-loop : tie.MeasureT-loop
 μ-loop t owner parameters n a rows rest next₀ column₀ row₀ x q₀ next column row q = q
 
 abbrev Inv-search : tie.InvT-search
-Inv-search t owner parameters n a rows rest₀ next₀ column₀ row₀ rest next column row = (row ≡ rows) × (members (whole rest) ⊆ members (whole rest₀)) × ((y : ℕ) → y ∈ members (whole rest₀) → (y ∈ members (whole rest)) ⊎ RowsRead n rows (touched a t (row-numbers parameters)) (owned owner) (members (whole next)) y 0) × Owners n rows (touched a t (row-numbers parameters)) (owned owner) (members (whole rest₀)) (members (whole next))
+Inv-search t owner parameters n a rows rest₀ next₀ column₀ row₀ rest next column row = (row ≡ rows) × (members (whole rest) ⊆ members (whole rest₀)) × ((y : ℕ) → y ∈ members (whole rest₀) → (y ∈ members (whole rest)) ⊎ RowsRead n rows (touched a t (row-numbers parameters)) (owner-at owner) (members (whole next)) y 0) × Owners n rows (touched a t (row-numbers parameters)) (owner-at owner) (members (whole rest₀)) (members (whole next))
 
 abbrev μ-search : tie.MeasureT-search
 μ-search t owner parameters n a rows rest₀ next₀ column₀ row₀ rest next column row = # width (members (whole rest))
@@ -80,7 +80,7 @@ loop-again c =
     let s = c .before .before .before .before .before .before .before .before in
     let a = s .before .before .before .before .before .before .args in
     let T = touched (a .a) (a .t .now) (row-numbers (a .parameters .now)) in
-    let o = owned (a .owner .now) in
+    let o = owner-at (a .owner .now) in
     let q = l .q - 1 in
     let y = c .before .before .widened .result in
     let ey : y ≡ o q = c .before .before .widened .ensures .0 in
@@ -105,7 +105,7 @@ loop-again-2 c =
     let s = c .before .before .before .before in
     let a = s .before .before .before .before .before .before .args in
     let T = touched (a .a) (a .t .now) (row-numbers (a .parameters .now)) in
-    let o = owned (a .owner .now) in
+    let o = owner-at (a .owner .now) in
     let q = l .q - 1 in
     let up : q + 1 ≡ l .q = omega arith in (
       search needs,
@@ -131,7 +131,7 @@ search-again c =
     let k = s .before .before .before .search in
     let a = s .before .before .before .before .before .before .args in
     let T = touched (a .a) (a .t .now) (row-numbers (a .parameters .now)) in
-    let o = owned (a .owner .now) in
+    let o = owner-at (a .owner .now) in
     let x = s .first .result in
     let R = members (whole (k .rest)) in
     rw (c .without .ensures) (

@@ -10,7 +10,7 @@ use Rattle.columns.specs.Columns.{width, members}
 use Rattle.columns.specs.ColumnSets.{whole, row-numbers}
 use Rattle.columns.specs.Words.SetLaws.{union-more}
 use Rattle.rank.specs.Graph.States.{State}
-use Rattle.exchange.specs.Code.Scanning.{touched, owned}
+use Rattle.exchange.specs.Code.Scanning.{touched, owner-at}
 use Rattle.exchange.specs.Code.Searching.{Shows, Reaching, reaching-start, reaching-more, ended, final}
 use borrow.Author.Needs.{needs}
 use native.Mathlib.Omega.{arith}
@@ -18,7 +18,7 @@ use Rattle.exchange.proofs.search.search.Statement.{statement}
 use Rattle.exchange.proofs.search.search.Tie as tie
 
 abbrev Inv-loop : tie.InvT-loop
-Inv-loop t owner parameters n a rows reached₀ front₀ depth₀ reached front depth = (depth ≤ # width (members (whole reached))) × ((E : Set) (s : State n rows) → Shows E s (touched a t (row-numbers parameters)) (owned owner) → ((x : ℕ) → x ∈ members (whole reached₀) → (x < n) × (x ∈ E)) → Reaching s (members (whole reached₀)) E (members (whole reached)) (members (whole front)) depth)
+Inv-loop t owner parameters n a rows reached₀ front₀ depth₀ reached front depth = (depth ≤ # width (members (whole reached))) × ((E : Set) (s : State n rows) → Shows E s (touched a t (row-numbers parameters)) (owner-at owner) → ((x : ℕ) → x ∈ members (whole reached₀) → (x < n) × (x ∈ E)) → Reaching s (members (whole reached₀)) E (members (whole reached)) (members (whole front)) depth)
 
 abbrev μ-loop : tie.MeasureT-loop
 μ-loop t owner parameters n a rows reached₀ front₀ depth₀ reached front depth = width - # width (members (whole reached))

@@ -4,12 +4,12 @@ use native.Mathlib.Omega.{arith}
 use mathlib.Core.Path.{_≡_, sym, _∙_}
 use Prim.Native.Nat.{ℕ, _-_, _<_, _≤_}
 use borrow.Author.Count.{below-more}
-use Rattle.exchange.specs.Code.Scanning.{owned}
+use Rattle.exchange.specs.Code.Scanning.{owner-at}
 use Rattle.exchange.proofs.seating.row_of.Statement.{statement}
 use Rattle.exchange.proofs.seating.row_of.Tie as tie
 
 abbrev Inv-loop : tie.InvT-loop
-Inv-loop owner rows x q₀ q = (q ≤ rows) × ((k : ℕ) → k < q → owned owner k ≡ x → ⊥)
+Inv-loop owner rows x q₀ q = (q ≤ rows) × ((k : ℕ) → k < q → owner-at owner k ≡ x → ⊥)
 
 abbrev μ-loop : tie.MeasureT-loop
 μ-loop owner rows x q₀ q = rows - q
@@ -35,7 +35,7 @@ loop-less c = search needs
 loop-again : tie.Need-loop-again Inv-loop μ-loop
 loop-again c =
     let q = c .before .before .before .before in
-    (search needs, below-more (λ k. owned (q .before .args .owner .now) k ≡ q .before .args .x → ⊥) (q .loop .q) (q .loop .inv .1) (λ e. c .if1 .left (c .before .widened .ensures .0 ∙ e)))
+    (search needs, below-more (λ k. owner-at (q .before .args .owner .now) k ≡ q .before .args .x → ⊥) (q .loop .q) (q .loop .inv .1) (λ e. c .if1 .left (c .before .widened .ensures .0 ∙ e)))
 
 returns-2 : tie.Need-returns-2 Inv-loop μ-loop
 returns-2 c = ((λ l. absurd (omega arith)), λ l k lk. c .before .loop .inv .1 k (omega arith))
