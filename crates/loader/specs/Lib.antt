@@ -1,2 +1,3 @@
--- A row that is looked up is that row of the model; the definitions are those of crate format.
+-- What reading promises, and that a row that is looked up is that row of the model; the other definitions are those of crate format.
 pub mod LookupLaws
+pub mod FileRead

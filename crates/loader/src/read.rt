@@ -4,8 +4,9 @@ ghost use Prim.Native.Nat.{_≤_};
 ghost use lib.ListN.{length};
 ghost use Rattle.columns.specs.ColumnSets.{row-numbers};
 ghost use Rattle.format.specs.Lists.{over};
-ghost use Rattle.format.specs.File.Format.{entries, ReadCall};
+ghost use Rattle.format.specs.File.Format.{entries};
 ghost use Rattle.format.specs.File.Steps.{constants-said, parameters-said, Put};
+ghost use Rattle.loader.specs.FileRead.{FileRead};
 use crate::header::Sizes;
 use crate::header::left_after;
 use crate::header::no_sizes;
@@ -18,7 +19,7 @@ use format::two;
 
 // The model of a file: its constants row after row over the front of their area, its parameter rows over the front of theirs.
 pub fn read_file(file: &[u8], constants: &mut [u16], parameters: &mut [u64]) -> Sizes
-    ensures { λ r. ⌜ ReadCall (now (file .entry)) (now (constants .entry)) (row-numbers (now (parameters .entry))) (r .refusal) (r .p) (r .n) (r .a) (r .b) (now (constants .exit)) (row-numbers (now (parameters .exit))) ⌝ }
+    ensures { λ r. ⌜ FileRead (now (file .entry)) (now (constants .entry)) (row-numbers (now (parameters .entry))) r (now (constants .exit)) (row-numbers (now (parameters .exit))) ⌝ }
 {
     let header = read_header(file);
     let sizes = sizes_of(header);

@@ -1,6 +1,6 @@
 -- What is proved over the promises of the calls, one theorem after another. Assumes nothing.
 use Prim.Native.Nat.{ℕ, _+_, _*_, _^_, _≤_, _<_}
-use mathlib.Core.Path.{_≡_, sym}
+use mathlib.Core.Path.{_≡_, sym, subst}
 use mathlib.Core.List.{List}
 use native.Mathlib.Omega.{arith}
 use lib.ListN.{length, getD, take}
@@ -12,6 +12,10 @@ use Rattle.format.specs.Lists.{over}
 use Rattle.limits.specs.Limits.{longest-file}
 use Rattle.format.specs.Refusals.{refusal, mixed-refusal}
 use Rattle.format.specs.File.Format.{judge, ReadCall, WriteCall}
+use Rattle.loader.specs.FileRead.{FileRead}
+use Rattle.loader.specs.declared.header.Sizes.{Sizes}
+use Rattle.writer.specs.FileWritten.{FileWritten}
+use Rattle.writer.specs.declared.Written.{Written}
 use Rattle.layered.specs.Answers.{LayeredCall}
 use Rattle.layered.specs.declared.Answer.{Answer}
 use Rattle.layered.specs.FileModel.{file-model}
@@ -31,18 +35,22 @@ use Rattle.promises.specs.DocumentFile.{document-file, document-accepted
 -- ---- read and written, written and read
 
 -- A file that was read is written again as it was, whatever the areas held before.
-pub read-then-write : (s cs ws : List ℕ) → AreBytes s → (p n a b : ℕ) (cs′ ws′ : List ℕ) → ReadCall s cs ws 0 p n a b cs′ ws′
-    → (out : List ℕ) → length s ≤ length out → (the-refusal len : ℕ) (out′ : List ℕ) → WriteCall p n a b cs′ ws′ out the-refusal len out′
-    → (the-refusal ≡ 0) × (len ≡ length s) × (out′ ≡ over s out)
-read-then-write = read-then-written
+pub read-then-write : (s cs ws : List ℕ) → AreBytes s → (r : Sizes) (cs′ ws′ : List ℕ) → FileRead s cs ws r cs′ ws′ → r .refusal ≡ 0
+    → (out : List ℕ) → length s ≤ length out → (w : Written) (out′ : List ℕ) → FileWritten (r .p) (r .n) (r .a) (r .b) cs′ ws′ out w out′
+    → (w .refusal ≡ 0) × (w .length ≡ length s) × (out′ ≡ over s out)
+read-then-write s cs ws bytes r cs′ ws′ h z out l w out′ k =
+    read-then-written s cs ws bytes (r .p) (r .n) (r .a) (r .b) cs′ ws′ (subst (λ (j : ℕ). ReadCall s cs ws j (r .p) (r .n) (r .a) (r .b) cs′ ws′) z h) out l
+    (w .refusal) (w .length) out′ k
 
 -- A model that was written is read again as it was, into any areas that hold it; the numbers of its parameter rows fit a set's room.
 pub write-then-read : (p n a b : ℕ) (cs ws : List ℕ) → ((i : ℕ) → getD ws i 0 < 2 ^ width)
-    → (out : List ℕ) (len : ℕ) (out′ : List ℕ) → WriteCall p n a b cs ws out 0 len out′
+    → (out : List ℕ) (w : Written) (out′ : List ℕ) → FileWritten p n a b cs ws out w out′ → w .refusal ≡ 0
     → (cs₂ ws₂ : List ℕ) → a * n ≤ length cs₂ → b ≤ length ws₂
-    → (k p′ n′ a′ b′ : ℕ) (cs₂′ ws₂′ : List ℕ) → ReadCall (take len out′) cs₂ ws₂ k p′ n′ a′ b′ cs₂′ ws₂′
-    → (k ≡ 0) × (p′ ≡ p) × (n′ ≡ n) × (a′ ≡ a) × (b′ ≡ b) × (take (a * n) cs₂′ ≡ take (a * n) cs) × (take b ws₂′ ≡ take b ws)
-write-then-read = written-then-read
+    → (r : Sizes) (cs₂′ ws₂′ : List ℕ) → FileRead (take (w .length) out′) cs₂ ws₂ r cs₂′ ws₂′
+    → (r .refusal ≡ 0) × (r .p ≡ p) × (r .n ≡ n) × (r .a ≡ a) × (r .b ≡ b) × (take (a * n) cs₂′ ≡ take (a * n) cs) × (take b ws₂′ ≡ take b ws)
+write-then-read p n a b cs ws words out w out′ h z cs₂ ws₂ fc fw r cs₂′ ws₂′ k =
+    written-then-read p n a b cs ws words out (w .length) out′ (subst (λ (j : ℕ). WriteCall p n a b cs ws out j (w .length) out′) z h) cs₂ ws₂ fc fw
+    (r .refusal) (r .p) (r .n) (r .a) (r .b) cs₂′ ws₂′ k
 
 -- ---- input cut off
 

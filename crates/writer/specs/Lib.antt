@@ -1,2 +1,3 @@
--- What is known of a model handed over to be written; the definitions are those of crate format.
+-- What writing promises, and what is known of a model handed over to be written; the other definitions are those of crate format.
 pub mod HandedLaws
+pub mod FileWritten

@@ -10,7 +10,8 @@ ghost use Rattle.format.specs.Lists.{over, rows-of};
 ghost use Rattle.limits.specs.Limits.{most-columns, most-rows};
 ghost use Rattle.format.specs.Refusals.{head-bytes};
 ghost use Rattle.format.specs.File.Piece.{field-bytes};
-ghost use Rattle.format.specs.File.Format.{prime-tag, sizes-tag, end-tag, entry-bytes, encode, handed-over, WriteCall};
+ghost use Rattle.format.specs.File.Format.{prime-tag, sizes-tag, end-tag, entry-bytes, encode, handed-over};
+ghost use Rattle.writer.specs.FileWritten.{FileWritten};
 ghost use Rattle.format.specs.File.Steps.{constant-bytes, parameter-bytes, Put};
 use columns::ColumnSet;
 use format::fields::CONSTANT_TAG;
@@ -42,7 +43,7 @@ pub fn write_file(
     parameters: &[u64],
     out: &mut [u8],
 ) -> Written
-    ensures { λ r. ⌜ WriteCall p n a b (now (constants .entry)) (row-numbers (now (parameters .entry))) (now (out .entry)) (r .refusal) (r .length) (now (out .exit)) ⌝ }
+    ensures { λ r. ⌜ FileWritten p n a b (now (constants .entry)) (row-numbers (now (parameters .entry))) (now (out .entry)) r (now (out .exit)) ⌝ }
 {
     let r = judge_model(p, n, a, b, constants, parameters);
     if r != 0 {
