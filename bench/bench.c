@@ -1,5 +1,5 @@
 /* Times the library's layered call, the same in plain Rust, and FLINT's ranks, on the same models in one process.
- * Prints a Markdown table: microseconds a call, and the library's time as a ratio of each other one. */
+ * Prints a line for each kind of model: its name, then microseconds a call of each method, parted by '|'. */
 #define _POSIX_C_SOURCE 200809L
 #include "harness.h"
 #include "model.h"
@@ -168,29 +168,21 @@ static void measure(const char *kind, Model (*make)(void))
     const Model *m = &works[0].model;
     int only_constants = m->b == 0;
     time_all(methods, only_constants ? 4 : 3, works, t);
-    printf("| %s %zu/%zu/%zu, p %u |", kind, m->n, m->a, m->b, (unsigned)m->p);
-    printf(" %.2f | %.2f | %.2f | %.2f | %.3f |", t[0], t[1], t[2], t[0] / t[1], t[0] / t[2]);
+    printf("%s %zu/%zu/%zu, p %u|%f|%f|%f", kind, m->n, m->a, m->b, (unsigned)m->p, t[0], t[1], t[2]);
     if (only_constants)
-        printf(" %.2f | %.2f |\n", t[3], t[0] / t[3]);
-    else
-        printf(" | |\n");
+        printf("|%f", t[3]);
+    printf("\n");
     fflush(stdout);
     clear_works(works);
 }
 
 int main(void)
 {
-    printf("| model (n/a/b) | library | plain Rust | FLINT, substituted | library / plain Rust | library / FLINT, substituted | "
-           "FLINT, constants mod p | library / FLINT, constants |\n|---|---|---|---|---|---|---|---|\n");
     measure("dense", dense_1021);
     measure("dense", dense_largest);
     measure("plant-like", plant_like);
     measure("dense", constants_1021);
     measure("dense", constants_largest);
     measure("tiny", tiny);
-    printf("\nMicroseconds a call: the least of %d rounds over %d models, the methods in turn. The answer area is cleared before "
-           "each call, within the time; caches are not, so all methods run warm. FLINT's matrices are filled beforehand: only "
-           "nmod_mat_rank is timed, which copies its matrix.\n",
-           ROUNDS, MODELS);
     return 0;
 }
