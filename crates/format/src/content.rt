@@ -1,13 +1,23 @@
 // The contents of a model, from a file or handed over: a test of each kind.
 ghost use mathlib.Core.Path.{_≡_};
 ghost use Prim.Native.Nat.{_+_, _*_, _<_};
-ghost use lib.ListN.{take};
+ghost use lib.ListN.{take, getD};
 ghost use Rattle.columns.specs.ColumnSets.{row-numbers};
 ghost use Rattle.format.specs.Refusals.{prime-test, size-test, constant-test, parameter-test};
 ghost use Rattle.format.specs.File.Format.{entries};
 use limits::LARGEST_PRIME;
 use limits::MOST_COLUMNS;
 use limits::MOST_ROWS;
+
+// The byte at that place, or 0 where there is none.
+pub fn byte_at(bytes: &[u8], i: usize) -> u8
+    ensures { λ r. ⌜ r ≡ getD (now (bytes .entry)) i 0 ⌝ }
+{
+    if i < bytes.len() {
+        return bytes[i];
+    }
+    0
+}
 
 // Two bytes as a number, the low one first.
 pub fn two(lo: u8, hi: u8) -> u32

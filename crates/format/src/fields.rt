@@ -2,10 +2,11 @@
 // accepted is walked by these alone.
 ghost use mathlib.Core.Path.{_≡_};
 ghost use Prim.Native.Nat.{_-_, _<_};
-ghost use lib.ListN.{length, getD, drop};
+ghost use lib.ListN.{length, drop};
 ghost use Rattle.format.specs.Refusals.{head-bytes, said-length};
 ghost use Rattle.format.specs.File.Piece.{said-body, said-rest, PartAt, LastPart};
 ghost use Rattle.format.specs.File.Format.{parameter-size};
+use crate::content::byte_at;
 use crate::content::two;
 
 // How many bytes a field's head has: a tag, and the length of the body in two.
@@ -31,16 +32,6 @@ pub fn parameter_size(n: usize) -> usize
     ensures { λ r. ⌜ r ≡ parameter-size n ⌝ }
 {
     8
-}
-
-// The byte at that place, or 0 where there is none.
-pub fn byte_at(bytes: &[u8], i: usize) -> u8
-    ensures { λ r. ⌜ r ≡ getD (now (bytes .entry)) i 0 ⌝ }
-{
-    if i < bytes.len() {
-        return bytes[i];
-    }
-    0
 }
 
 // The length that the head of the field in front says.

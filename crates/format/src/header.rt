@@ -2,6 +2,7 @@
 ghost use mathlib.Core.Path.{_≡_};
 ghost use Rattle.format.specs.File.Format.{refused-header};
 ghost use Rattle.format.specs.File.Steps.{prime-said, sizes-said, rows-said, next-said};
+use crate::content::byte_at;
 use crate::content::prime_within;
 use crate::content::sizes_within;
 use crate::content::two;
@@ -9,7 +10,6 @@ use crate::fields::PRIME_BYTES;
 use crate::fields::PRIME_TAG;
 use crate::fields::SIZES_BYTES;
 use crate::fields::SIZES_TAG;
-use crate::fields::byte_at;
 use crate::fields::said_body;
 use crate::judge::judge_head;
 use crate::judge::judge_row_fields;

@@ -1,9 +1,9 @@
--- `fields::byte_at` meets its contract. Assumes nothing.
+-- `content::byte_at` meets its contract. Assumes nothing.
 use borrow.Author.Needs.{needs}
 use mathlib.Core.Path.{sym}
 use lib.ListN.{List·getD-eq-default}
-use Rattle.format.proofs.fields.byte_at.Statement.{statement}
-use Rattle.format.proofs.fields.byte_at.Tie as tie
+use Rattle.format.proofs.content.byte_at.Statement.{statement}
+use Rattle.format.proofs.content.byte_at.Tie as tie
 
 shared-slice-read-result : tie.Need-shared-slice-read-result
 shared-slice-read-result c = search needs
