@@ -33,6 +33,17 @@ count() {
     rm -f "$log"
 }
 
+# The same of a command that writes files with their numbers to its last argument; tools/model must judge each of them alike.
+count_numbered() {
+    local judged
+    judged=$(mktemp)
+    count "$@" >(tests/tools/judge > "$judged" 2>&1)
+    wait $!
+    echo "tools/model judge, on the same files:"
+    count cat "$judged"
+    rm -f "$judged"
+}
+
 # Prints the last line; fails where a case did.
 conclude() {
     echo "$passed passed, $failed failed"

@@ -1,12 +1,11 @@
 /* Compares the compiled library with the reference and with the definitions, on models and files from a fixed seed.
  *
- * Run: compare MODELS, where MODELS is the folder of the bench models. Prints the cases of each category and, as its last
- * line, 'N passed, M failed' over all cases.
- * Or:  compare FOLDER COUNT, which compares nothing, but writes so many files and prints the library's numbers. */
+ * Run: compare MODELS [FILES], where MODELS is the folder of the bench models. Prints the cases of each category and, as its last
+ * line, 'N passed, M failed' over all cases. Every file goes to FILES too, with the number of its refusal. */
 #include "compare.h"
+#include "numbers.h"
 
 #include <stdio.h>
-#include <stdlib.h>
 
 static int compare_all(const char *models)
 {
@@ -16,6 +15,7 @@ static int compare_all(const char *models)
     compare_random_models();
     compare_files();
     compare_damaged_files();
+    compare_wrong_contents();
     compare_primes();
     compare_sizes();
     compare_mixed_sizes();
@@ -26,10 +26,13 @@ static int compare_all(const char *models)
 
 int main(int count, char **words)
 {
-    if (count == 2)
-        return compare_all(words[1]);
-    if (count == 3)
-        return write_numbered_files(words[1], atoi(words[2])) > 0;
-    fprintf(stderr, "usage: compare MODELS, or compare FOLDER COUNT\n");
-    return 2;
+    if (count < 2 || count > 3) {
+        fprintf(stderr, "usage: compare MODELS [FILES]\n");
+        return 2;
+    }
+    if (count == 3 && !write_numbers_to(words[2])) {
+        perror(words[2]);
+        return 2;
+    }
+    return compare_all(words[1]);
 }

@@ -48,17 +48,12 @@ void compare_with_definitions(void);
 void compare_random_models(void);
 void compare_files(void); /* compare_files.c */
 void compare_damaged_files(void);
+void compare_wrong_contents(void);
 void compare_primes(void);
 void compare_sizes(void);
 void compare_mixed_files(void); /* compare_mixed.c */
 void compare_edges(void); /* compare_refusals.c */
 void compare_mixed_sizes(void);
 void compare_spoilt_models(void);
-
-/* ---- numbers.c ---- */
-
-/* Writes so many files, most of them damaged, into a folder as 0.model, 1.model, ..; prints the library's number for each.
- * How many could not be written. */
-int write_numbered_files(const char *folder, int count);
 
 #endif

@@ -1,5 +1,6 @@
 /* Files: written, checked, damaged; every prime and size. */
 #include "compare.h"
+#include "numbers.h"
 
 #include <string.h>
 
@@ -76,6 +77,33 @@ void compare_damaged_files(void)
     }
 }
 
+/* The content alone is wrong: a constant of p or more, or a parameter past the last column. */
+static Model draw_wrong_content(void)
+{
+    Model m;
+    do
+        m = draw_model(all_primes, COUNT(all_primes), one_in(20) ? WUNDRESKA_COLUMNS_MAX : 8, 6);
+    while (m.a == 0 && (m.b == 0 || m.n == WUNDRESKA_COLUMNS_MAX));
+    int constant = m.a > 0, parameter = m.b > 0 && m.n < WUNDRESKA_COLUMNS_MAX;
+    if (constant && (!parameter || one_in(2)))
+        m.constants[draw(m.a * m.n)] = m.p + draw(UINT16_MAX + 1 - m.p);
+    if (parameter && (!constant || one_in(2)))
+        m.parameters[draw(m.b)] |= just(m.n);
+    return m;
+}
+
+void compare_wrong_contents(void)
+{
+    static uint8_t file[WUNDRESKA_FILE_MAX + DAMAGE_ROOM];
+    begin_category("files with constants of p and more, and parameters past the last column; damaged besides");
+    for (int i = 0; i < 3000; i++) {
+        Model m = draw_wrong_content();
+        size_t length = write_file(&m, file);
+        try_file(&layered_question, file, length);
+        try_file(&layered_question, file, damage_file(file, length));
+    }
+}
+
 /* ---- primes and sizes ---- */
 
 void compare_primes(void)
@@ -85,8 +113,10 @@ void compare_primes(void)
     for (uint32_t p = 0; p <= UINT16_MAX; p++) {
         Model m = {.p = p, .n = 1}, judged;
         size_t length = write_file(&m, file);
+        uint32_t refusal = judge_file(file, length, &judged);
         Called c = call_file(wundreska_check, file, length, WUNDRESKA_ANSWER_SIZE, WUNDRESKA_ANSWER_SIZE);
-        count_case(refusal_complaint(&c, judge_file(file, length, &judged)), &m);
+        write_number(file, length, refusal);
+        count_case(refusal_complaint(&c, refusal), &m);
     }
     begin_category("p up to 70,000 and larger ones, handed over");
     for (uint32_t p = 0, i = 0; i < 75000; i++) {

@@ -1,5 +1,6 @@
 /* Models handed over that must be refused, and with which number. */
 #include "compare.h"
+#include "numbers.h"
 
 #include <string.h>
 
@@ -8,6 +9,7 @@
 static void expect_file(const uint8_t *file, size_t length, const Model *m, uint32_t refusal)
 {
     Called c = call_file(wundreska_check, file, length, WUNDRESKA_ANSWER_SIZE, WUNDRESKA_ANSWER_SIZE);
+    write_number(file, length, refusal);
     count_case(refusal_complaint(&c, refusal), m);
 }
 

@@ -1,5 +1,6 @@
 /* A file, an area for the answer, and a question: judged in the order of the header, the answer held against the reference. */
 #include "compare.h"
+#include "numbers.h"
 
 static uint32_t judge_nothing(const Model *m)
 {
@@ -19,6 +20,7 @@ const Question mixed_question = {wundreska_mixed, WUNDRESKA_MIXED_SIZE, judge_mi
 const char *file_complaint(const Question *q, const uint8_t *file, size_t length, size_t answer_length, Model *m)
 {
     uint32_t refusal = judge_file(file, length, m);
+    write_number(file, length, refusal);
     if (refusal == 0 && answer_length < q->size)
         refusal = 8;
     if (refusal == 0)

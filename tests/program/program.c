@@ -1,9 +1,10 @@
 /* Runs a program that reports on a model file, on some thousands of inputs, and holds what it writes against the reference.
  *
- * Run: program layered PROGRAM MODELS, or program mixed PROGRAM MODELS, where MODELS is the folder of stored models. Prints the
- * cases of each category and, as its last line, 'N passed, M failed' over all cases. What the rules fix is compared to the
- * byte; where they leave a choice, the one shown is tested. */
+ * Run: program layered|mixed PROGRAM MODELS [FILES], where MODELS is the folder of stored models. Prints the cases of each category
+ * and, as its last line, 'N passed, M failed' over all cases. What the rules fix is compared to the byte; where they leave a
+ * choice, the one shown is tested. Every input goes to FILES too, with the number of its refusal as a file. */
 #include "child.h"
+#include "numbers.h"
 #include "tally.h"
 #include "text.h"
 
@@ -68,6 +69,7 @@ static void try_in_pieces(size_t length, size_t piece)
     static Model m;
     m = (Model){0};
     uint32_t refusal = judge_file(input, length, &m);
+    write_number(input, length, refusal);
     if (!refusal && mixed)
         refusal = judge_mixed(&m);
     Output output = run_program(program, input, length, piece);
@@ -211,8 +213,12 @@ static int compare_all(const char *models)
 
 int main(int count, char **words)
 {
-    if (count != 4 || (strcmp(words[1], "layered") && strcmp(words[1], "mixed"))) {
-        fprintf(stderr, "usage: program layered|mixed PROGRAM MODELS\n");
+    if (count < 4 || count > 5 || (strcmp(words[1], "layered") && strcmp(words[1], "mixed"))) {
+        fprintf(stderr, "usage: program layered|mixed PROGRAM MODELS [FILES]\n");
+        return 2;
+    }
+    if (count == 5 && !write_numbers_to(words[4])) {
+        perror(words[4]);
         return 2;
     }
     mixed = strcmp(words[1], "mixed") == 0;
