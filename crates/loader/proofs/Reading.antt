@@ -80,7 +80,7 @@ rows-length n Is (r ∷ rs) v =
     let m : suc (length rs) * n ≡ length rs * n + n = suc-mul (length rs) n in
     rw length-append (omega arith)
 
-pub constants-count : (s : List ℕ) → AreBytes s → judge s ≡ 0 → length (constants-said (decode s .a) (rows-part s)) ≡ decode s .a * decode s .n
+constants-count : (s : List ℕ) → AreBytes s → judge s ≡ 0 → length (constants-said (decode s .a) (rows-part s)) ≡ decode s .a * decode s .n
 constants-count s h e =
     let v = decoded-valid s h e in
     ap length (constants-decoded s e) ∙ rows-length (decode s .n) _ (decode s .constants) (v .constants-below) ∙ ap (λ (k : ℕ). k * decode s .n) (v .constant-rows)
@@ -110,6 +110,10 @@ numbers-accepted {s} x e =
       a-is = x .a-is ∙ ap (λ (h : Header). h .a) h;
       b-is = x .b-is ∙ ap (λ (h : Header). h .b) h;
     }
+
+-- an area that holds a rows of n constants holds those of the file
+pub constants-fit : {s : List ℕ} {p n a b : ℕ} → AreBytes s → judge s ≡ 0 → Sizes-are s p n a b → (k : ℕ) → a * n ≤ k → length (constants-said a (rows-part s)) ≤ k
+constants-fit {s} h e x k l = rw (x .a-is, constants-count s h e) (rw (x .a-is, x .n-is) at l)
 
 -- ---- read into areas
 

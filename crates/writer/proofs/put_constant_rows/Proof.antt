@@ -21,21 +21,34 @@ Inv-loop out₀ constants n a rest₀ at₀ todo₀ out rest at todo = Wrote (fl
 abbrev μ-loop : tie.MeasureT-loop
 μ-loop out₀ constants n a rest₀ at₀ todo₀ out rest at todo = todo
 
--- while rows are left, the constants hold the next one, and the area has room for it
-left : (c : tie.In-loop Inv-loop μ-loop) → let l = c .before .loop in let n = c .before .before .before .before .args .n in (n ≤ length (l .rest .now)) × ((l .todo - 1) * n ≤ length (l .rest .now) - n)
-left c = let l = c .before .loop in rows-left (c .before .before .before .before .args .n) (l .todo) (length (l .rest .now)) (c .loop-test .taken) (l .inv .1)
+-- the places of a turn: where its row is put, and where it began
 
-room : (c : tie.In-loop Inv-loop μ-loop) → let l = c .before .loop in let row = constant-bytes (c .before .before .before .before .args .n) (take (c .before .before .before .before .args .n) (l .rest .now)) in
-    (l .at + length row ≤ length (l .out)) × (length row ≤ length (take (length (l .out) - l .at) (drop (l .at) (l .out))))
-room c =
-    let l = c .before .loop in
-    let n = c .before .before .before .before .args .n in
-    room-left (constant-bytes n (take n (l .rest .now))) _ (l .inv .0) (constant-rows-next n (l .todo) (l .rest .now) (c .loop-test .taken))
+abbrev put : tie.After-slice-known2 Inv-loop μ-loop → tie.After-put-constant-row Inv-loop μ-loop
+put c = c .before .before
+
+abbrev turn : tie.After-put-constant-row Inv-loop μ-loop → tie.In-loop Inv-loop μ-loop
+turn c = c .before .before .before
+
+-- the call's n, and the bytes of the turn's row
+
+abbrev columns : tie.At-loop Inv-loop μ-loop → ℕ
+columns k = k .before .before .before .args .n
+
+abbrev row-bytes : tie.In-loop Inv-loop μ-loop → List ℕ
+row-bytes c = let n = columns (c .before) in constant-bytes n (take n (c .before .loop .rest .now))
+
+-- while rows are left, the constants hold the next one, and the area has room for it
+left : (c : tie.In-loop Inv-loop μ-loop) → let l = c .before .loop in let n = columns (c .before) in (n ≤ length (l .rest .now)) × ((l .todo - 1) * n ≤ length (l .rest .now) - n)
+left c = let l = c .before .loop in rows-left (columns (c .before)) (l .todo) (length (l .rest .now)) (c .loop-test .taken) (l .inv .1)
+
+room : (c : tie.In-loop Inv-loop μ-loop) → let l = c .before .loop in
+    (l .at + length (row-bytes c) ≤ length (l .out)) × (length (row-bytes c) ≤ length (take (length (l .out) - l .at) (drop (l .at) (l .out))))
+room c = let l = c .before .loop in room-left (row-bytes c) _ (l .inv .0) (constant-rows-next (columns (c .before)) (l .todo) (l .rest .now) (c .loop-test .taken))
 
 -- the row is put there
-written : (c : tie.After-put-constant-row Inv-loop μ-loop) → let l = c .before .before .before .before .loop in let n = c .before .before .before .before .before .before .before .args .n in
-    Put (constant-bytes n (take n (l .rest .now))) (take (length (l .out) - l .at) (drop (l .at) (l .out))) (c .put-constant-row .last .0) (c .put-constant-row .result)
-written c = let l = c .before .before .before .before .loop in rw (constant-bytes-cut (c .before .before .before .before .before .before .before .args .n) (l .rest .now) (left (c .before .before .before) .0)) at (c .put-constant-row .ensures)
+written : (c : tie.After-put-constant-row Inv-loop μ-loop) → let l = turn c .before .loop in
+    Put (row-bytes (turn c)) (take (length (l .out) - l .at) (drop (l .at) (l .out))) (c .put-constant-row .last .0) (c .put-constant-row .result)
+written c = let k = turn c in rw (constant-bytes-cut (columns (k .before)) (k .before .loop .rest .now) (left k .0)) at (c .put-constant-row .ensures)
 
 loop-holds : tie.Need-loop-holds Inv-loop μ-loop
 loop-holds c = let h = c .before .before .pre in (wrote-none _ _ (h .2), h .1)
@@ -54,25 +67,26 @@ slice-aggregate-put-constant-row c = sym (length-take-le _ _ (left (c .before .b
 
 put-constant-row-requires : tie.Need-put-constant-row-requires Inv-loop μ-loop
 put-constant-row-requires c κs =
-    let l = c .before .before .before .loop in
-    let n = c .before .before .before .before .before .before .args .n in
-    let f = left (c .before .before) in
-    (rw (length-take-le n (l .rest .now) (f .0)) (omega arith), rw (constant-bytes-cut n (l .rest .now) (f .0)) (room (c .before .before) .1))
+    let k = c .before .before in
+    let n = columns (k .before) in
+    let r = k .before .loop .rest .now in
+    let f = left k .0 in
+    (rw (length-take-le n r f) (omega arith), rw (constant-bytes-cut n r f) (room k .1))
 
 add-at : tie.Need-add-at Inv-loop μ-loop
-add-at c = let k = written (c .before .before) .many-is in omega (arith, room (c .before .before .before .before .before))
+add-at c = let k = written (put c) .many-is in omega (arith, room (turn (put c)))
 
 mul-rest : tie.Need-mul-rest Inv-loop μ-loop
 mul-rest c = omega arith
 
 sub-rest : tie.Need-sub-rest Inv-loop μ-loop
-sub-rest c = omega (arith, left (c .before .before .before .before .before))
+sub-rest c = omega (arith, left (turn (put c)))
 
 part-rest-start : tie.Need-part-rest-start Inv-loop μ-loop
-part-rest-start c = omega (arith, left (c .before .before .before .before .before))
+part-rest-start c = omega (arith, left (turn (put c)))
 
 part-rest-end : tie.Need-part-rest-end Inv-loop μ-loop
-part-rest-end c = omega (arith, left (c .before .before .before .before .before))
+part-rest-end c = omega (arith, left (turn (put c)))
 
 sub-todo : tie.Need-sub-todo Inv-loop μ-loop
 sub-todo c = omega arith
@@ -82,13 +96,13 @@ loop-less c = omega arith
 
 loop-again : tie.Need-loop-again Inv-loop μ-loop
 loop-again c =
-    let l = c .before .before .before .before .before .before .before .loop in
-    let n = c .before .before .before .before .before .before .before .before .before .before .args .n in
-    let r = l .rest .now in
-    let row = constant-bytes n (take n r) in
-    let t = tail-part n r in
-    let next = constant-rows-next n (l .todo) r (c .before .before .before .before .before .before .loop-test .taken) ∙ ap (λ (s : List ℕ). row ++ flatMap (constant-bytes n) (rows-of n (l .todo - 1) s)) (sym t) in
-    (wrote-put row _ _ (l .inv .0) next (written (c .before .before .before)), rw (t, length-drop) (left (c .before .before .before .before .before .before) .1))
+    let d = put (c .before) in
+    let k = turn d in
+    let l = k .before .loop in
+    let n = columns (k .before) in
+    let t = tail-part n (l .rest .now) in
+    let next = constant-rows-next n (l .todo) (l .rest .now) (k .loop-test .taken) ∙ ap (λ (s : List ℕ). row-bytes k ++ flatMap (constant-bytes n) (rows-of n (l .todo - 1) s)) (sym t) in
+    (wrote-put (row-bytes k) _ _ (l .inv .0) next (written d), rw (t, length-drop) (left k .1))
 
 same-length : tie.Need-same-length Inv-loop μ-loop
 same-length c = c .before .loop .inv .0 .same

@@ -19,9 +19,21 @@ Inv-loop out₀ row rest₀ at₀ out rest at = Wrote (entry-bytes row) (entry-b
 abbrev μ-loop : tie.MeasureT-loop
 μ-loop out₀ row rest₀ at₀ out rest at = length rest
 
+-- the places of a turn: where its entry is put, and where it began
+
+abbrev put : tie.After-slice-known2 Inv-loop μ-loop → tie.After-put-two Inv-loop μ-loop
+put c = c .before .before
+
+abbrev turn : tie.After-put-two Inv-loop μ-loop → tie.In-loop Inv-loop μ-loop
+turn c = c .before .before .before
+
+-- the bytes of the first entry
+abbrev first : List ℕ → List ℕ
+first r = getD r 0 0 % 256 ∷ getD r 0 0 / 256 ∷ []
+
 -- while entries are left, there is room for the next one
 room : (c : tie.In-loop Inv-loop μ-loop) → let l = c .before .loop in (l .at + 2 ≤ length (l .out)) × (2 ≤ length (take (length (l .out) - l .at) (drop (l .at) (l .out))))
-room c = let l = c .before .loop in room-left (getD (l .rest .now) 0 0 % 256 ∷ getD (l .rest .now) 0 0 / 256 ∷ []) _ (l .inv) (entry-bytes-next (l .rest .now) (c .loop-test .taken))
+room c = let l = c .before .loop in room-left (first (l .rest .now)) _ (l .inv) (entry-bytes-next (l .rest .now) (c .loop-test .taken))
 
 loop-holds : tie.Need-loop-holds Inv-loop μ-loop
 loop-holds c = wrote-none _ _ (c .before .before .pre)
@@ -42,7 +54,7 @@ put-two-requires : tie.Need-put-two-requires Inv-loop μ-loop
 put-two-requires c κs = room (c .before .before) .1
 
 add-at : tie.Need-add-at Inv-loop μ-loop
-add-at c = let k = c .before .before .put-two .ensures .many-is in omega (arith, room (c .before .before .before .before .before))
+add-at c = let k = put c .put-two .ensures .many-is in omega (arith, room (turn (put c)))
 
 sub-rest : tie.Need-sub-rest Inv-loop μ-loop
 sub-rest c = omega arith
@@ -58,10 +70,10 @@ loop-less c = simp (length-take, length-drop) (omega arith)
 
 loop-again : tie.Need-loop-again Inv-loop μ-loop
 loop-again c =
-    let l = c .before .before .before .before .before .before .before .loop in
+    let d = put (c .before) in
+    let l = turn d .before .loop in
     let r = l .rest .now in
-    wrote-put (getD r 0 0 % 256 ∷ getD r 0 0 / 256 ∷ []) _ _ (l .inv)
-    (entry-bytes-next r (c .before .before .before .before .before .before .loop-test .taken) ∙ ap (λ (s : List ℕ). (getD r 0 0 % 256 ∷ getD r 0 0 / 256 ∷ []) ++ entry-bytes s) (sym (tail-part 1 r))) (c .before .before .before .put-two .ensures)
+    wrote-put (first r) _ _ (l .inv) (entry-bytes-next r (turn d .loop-test .taken) ∙ ap (λ (s : List ℕ). first r ++ entry-bytes s) (sym (tail-part 1 r))) (d .put-two .ensures)
 
 same-length : tie.Need-same-length Inv-loop μ-loop
 same-length c = c .before .loop .inv .same

@@ -3,9 +3,8 @@ use borrow.Author.Needs.{needs}
 use native.Mathlib.Omega.{arith}
 use Prim.Native.Nat.{ℕ, _+_, _-_, _≤_}
 use mathlib.Core.List.{List, [], _∷_, _++_, flatMap}
-use mathlib.Core.Path.{refl, sym, ap, _∙_}
+use mathlib.Core.Path.{_≡_, refl, ap, _∙_}
 use lib.ListN.{length, take, drop, length-append}
-use lib.Seq.{length-take-le}
 use Rattle.columns.specs.ColumnSets.{row-numbers}
 use Rattle.columns.specs.Bytes.{bytes-of}
 use Rattle.format.specs.Lists.{rows-of}
@@ -18,26 +17,88 @@ use Rattle.writer.proofs.Rows.{handed-over-fields}
 use Rattle.writer.proofs.put_file.Statement.{statement}
 use Rattle.writer.proofs.put_file.Tie as tie
 
--- the bytes of the fields
-abbrev prime : ℕ → List ℕ
-prime p = field-bytes prime-tag 2 (bytes-of 2 p)
+-- the places: where the call began, where each field is put, and where each was still to be put
 
-abbrev sizes : ℕ → ℕ → ℕ → List ℕ
-sizes n a b = field-bytes sizes-tag 3 (n ∷ a ∷ b ∷ [])
+abbrev entry : tie.After-shared-slice-known2 → tie.Start
+entry c = c .before .before .before
 
-abbrev rows : ℕ → ℕ → List ℕ → List ℕ
-rows n a cs = flatMap (constant-bytes n) (rows-of n a cs)
+abbrev prime-put : tie.After-slice-known2 → tie.After-put-prime
+prime-put c = c .before .before
 
-abbrev parameters : ℕ → ℕ → List ℕ → List ℕ
-parameters n b ws = flatMap (parameter-bytes n) (take b ws)
+abbrev sizes-put : tie.After-slice-known3 → tie.After-put-sizes
+sizes-put c = c .before .before
+
+abbrev before-sizes : tie.After-slice-known3 → tie.After-slice-known2
+before-sizes c = sizes-put c .before .before
+
+abbrev rows-put : tie.After-slice-known4 → tie.After-put-constant-rows
+rows-put c = c .before .before
+
+abbrev before-rows : tie.After-slice-known4 → tie.After-slice-known3
+before-rows c = rows-put c .before .before
+
+abbrev parameters-put : tie.After-slice-known5 → tie.After-put-parameter-rows
+parameters-put c = c .before .before
+
+abbrev before-parameters : tie.After-slice-known5 → tie.After-slice-known4
+before-parameters c = parameters-put c .before .before
+
+abbrev end-put : tie.After-slice-known6 → tie.After-put-head
+end-put c = c .before .before
+
+abbrev before-end : tie.After-slice-known6 → tie.After-slice-known5
+before-end c = end-put c .before .before
+
+-- where the call began, from behind each field
+
+abbrev entry₁ : tie.After-slice-known2 → tie.Start
+entry₁ c = entry (prime-put c .before .before)
+
+abbrev entry₂ : tie.After-slice-known3 → tie.Start
+entry₂ c = entry₁ (before-sizes c)
+
+abbrev entry₃ : tie.After-slice-known4 → tie.Start
+entry₃ c = entry₂ (before-rows c)
+
+abbrev entry₄ : tie.After-slice-known5 → tie.Start
+entry₄ c = entry₃ (before-parameters c)
+
+-- the file of a call, and the bytes of its fields
+
+abbrev file : tie.Start → List ℕ
+file s = let a = s .args in encode (handed-over (a .p) (a .n) (a .a) (a .b) (a .constants .now) (row-numbers (a .parameters .now)))
+
+abbrev prime : tie.Start → List ℕ
+prime s = field-bytes prime-tag 2 (bytes-of 2 (s .args .p))
+
+abbrev sizes : tie.Start → List ℕ
+sizes s = field-bytes sizes-tag 3 (s .args .n ∷ s .args .a ∷ s .args .b ∷ [])
+
+abbrev rows : tie.Start → List ℕ
+rows s = flatMap (constant-bytes (s .args .n)) (rows-of (s .args .n) (s .args .a) (s .args .constants .now))
+
+abbrev parameters : tie.Start → List ℕ
+parameters s = flatMap (parameter-bytes (s .args .n)) (take (s .args .b) (row-numbers (s .args .parameters .now)))
 
 abbrev end : List ℕ
 end = field-bytes end-tag 0 []
 
-first : (p n a b : ℕ) (cs ws : List ℕ) → length (prime p) ≤ length (encode (handed-over p n a b cs ws))
-first p n a b cs ws =
-    let rest = sizes n a b ++ (rows n a cs ++ (parameters n b ws ++ end)) in
-    omega (arith, ap length (handed-over-fields p n a b cs ws) ∙ length-append (prime p) rest)
+-- what is left to write after each field
+
+abbrev left₃ : tie.Start → List ℕ
+left₃ s = parameters s ++ end
+
+abbrev left₂ : tie.Start → List ℕ
+left₂ s = rows s ++ left₃ s
+
+abbrev left₁ : tie.Start → List ℕ
+left₁ s = sizes s ++ left₂ s
+
+fields : (s : tie.Start) → file s ≡ prime s ++ left₁ s
+fields s = let a = s .args in handed-over-fields (a .p) (a .n) (a .a) (a .b) (a .constants .now) (row-numbers (a .parameters .now))
+
+first : (s : tie.Start) → length (prime s) ≤ length (file s)
+first s = omega (arith, ap length (fields s) ∙ length-append (prime s) (left₁ s))
 
 -- an area after its part behind place k was lent and came back
 abbrev back : List ℕ → ℕ → List ℕ → List ℕ
@@ -45,61 +106,59 @@ back d k e = take k d ++ (e ++ drop (length d - k) (drop k d))
 
 -- the area, and where the next field goes, after each field
 abbrev area₁ : tie.After-slice-known2 → List ℕ
-area₁ c = c .before .before .put-prime .last .0
+area₁ c = prime-put c .put-prime .last .0
 
 abbrev at₁ : tie.After-slice-known2 → ℕ
-at₁ c = c .before .before .put-prime .result
+at₁ c = prime-put c .put-prime .result
 
-written₁ : (c : tie.After-slice-known2) → let a = c .before .before .before .before .before .before .before .args in Wrote (encode (handed-over (a .p) (a .n) (a .a) (a .b) (a .constants .now) (row-numbers (a .parameters .now)))) (sizes (a .n) (a .a) (a .b) ++ (rows (a .n) (a .a) (a .constants .now) ++ (parameters (a .n) (a .b) (row-numbers (a .parameters .now)) ++ end))) (a .out .now) (area₁ c) (at₁ c)
-written₁ c =
-    let a = c .before .before .before .before .before .before .before .args in
-    first-put _ (prime (a .p)) (sizes (a .n) (a .a) (a .b) ++ (rows (a .n) (a .a) (a .constants .now) ++ (parameters (a .n) (a .b) (row-numbers (a .parameters .now)) ++ end))) (handed-over-fields (a .p) (a .n) (a .a) (a .b) (a .constants .now) (row-numbers (a .parameters .now))) (c .before .before .before .before .before .before .before .pre .5) (c .before .before .put-prime .ensures)
+written₁ : (c : tie.After-slice-known2) → let s = entry₁ c in Wrote (file s) (left₁ s) (s .args .out .now) (area₁ c) (at₁ c)
+written₁ c = let s = entry₁ c in first-put _ (prime s) (left₁ s) (fields s) (s .pre .5) (prime-put c .put-prime .ensures)
 
 abbrev area₂ : tie.After-slice-known3 → List ℕ
-area₂ c = back (area₁ (c .before .before .before .before)) (at₁ (c .before .before .before .before)) (c .before .before .put-sizes .last .0)
+area₂ c = let d = before-sizes c in back (area₁ d) (at₁ d) (sizes-put c .put-sizes .last .0)
 
 abbrev at₂ : tie.After-slice-known3 → ℕ
-at₂ c = at₁ (c .before .before .before .before) + c .before .before .put-sizes .result
+at₂ c = at₁ (before-sizes c) + sizes-put c .put-sizes .result
 
-written₂ : (c : tie.After-slice-known3) → let a = c .before .before .before .before .before .before .before .before .before .before .before .args in Wrote (encode (handed-over (a .p) (a .n) (a .a) (a .b) (a .constants .now) (row-numbers (a .parameters .now)))) (rows (a .n) (a .a) (a .constants .now) ++ (parameters (a .n) (a .b) (row-numbers (a .parameters .now)) ++ end)) (a .out .now) (area₂ c) (at₂ c)
-written₂ c = let a = c .before .before .before .before .before .before .before .before .before .before .before .args in wrote-put (sizes (a .n) (a .a) (a .b)) _ _ (written₁ (c .before .before .before .before)) refl (c .before .before .put-sizes .ensures)
+written₂ : (c : tie.After-slice-known3) → let s = entry₂ c in Wrote (file s) (left₂ s) (s .args .out .now) (area₂ c) (at₂ c)
+written₂ c = wrote-put (sizes (entry₂ c)) _ _ (written₁ (before-sizes c)) refl (sizes-put c .put-sizes .ensures)
 
 abbrev area₃ : tie.After-slice-known4 → List ℕ
-area₃ c = back (area₂ (c .before .before .before .before)) (at₂ (c .before .before .before .before)) (c .before .before .put-constant-rows .last .0)
+area₃ c = let d = before-rows c in back (area₂ d) (at₂ d) (rows-put c .put-constant-rows .last .0)
 
 abbrev at₃ : tie.After-slice-known4 → ℕ
-at₃ c = at₂ (c .before .before .before .before) + c .before .before .put-constant-rows .result
+at₃ c = at₂ (before-rows c) + rows-put c .put-constant-rows .result
 
-written₃ : (c : tie.After-slice-known4) → let a = c .before .before .before .before .before .before .before .before .before .before .before .before .before .before .before .args in Wrote (encode (handed-over (a .p) (a .n) (a .a) (a .b) (a .constants .now) (row-numbers (a .parameters .now)))) (parameters (a .n) (a .b) (row-numbers (a .parameters .now)) ++ end) (a .out .now) (area₃ c) (at₃ c)
-written₃ c = let a = c .before .before .before .before .before .before .before .before .before .before .before .before .before .before .before .args in wrote-put (rows (a .n) (a .a) (a .constants .now)) _ _ (written₂ (c .before .before .before .before)) refl (c .before .before .put-constant-rows .ensures)
+written₃ : (c : tie.After-slice-known4) → let s = entry₃ c in Wrote (file s) (left₃ s) (s .args .out .now) (area₃ c) (at₃ c)
+written₃ c = wrote-put (rows (entry₃ c)) _ _ (written₂ (before-rows c)) refl (rows-put c .put-constant-rows .ensures)
 
 abbrev area₄ : tie.After-slice-known5 → List ℕ
-area₄ c = back (area₃ (c .before .before .before .before)) (at₃ (c .before .before .before .before)) (c .before .before .put-parameter-rows .last .0)
+area₄ c = let d = before-parameters c in back (area₃ d) (at₃ d) (parameters-put c .put-parameter-rows .last .0)
 
 abbrev at₄ : tie.After-slice-known5 → ℕ
-at₄ c = at₃ (c .before .before .before .before) + c .before .before .put-parameter-rows .result
+at₄ c = at₃ (before-parameters c) + parameters-put c .put-parameter-rows .result
 
-written₄ : (c : tie.After-slice-known5) → let a = c .before .before .before .before .before .before .before .before .before .before .before .before .before .before .before .before .before .before .before .args in Wrote (encode (handed-over (a .p) (a .n) (a .a) (a .b) (a .constants .now) (row-numbers (a .parameters .now)))) (end) (a .out .now) (area₄ c) (at₄ c)
-written₄ c = let a = c .before .before .before .before .before .before .before .before .before .before .before .before .before .before .before .before .before .before .before .args in wrote-put (parameters (a .n) (a .b) (row-numbers (a .parameters .now))) _ _ (written₃ (c .before .before .before .before)) refl (c .before .before .put-parameter-rows .ensures)
+written₄ : (c : tie.After-slice-known5) → let s = entry₄ c in Wrote (file s) end (s .args .out .now) (area₄ c) (at₄ c)
+written₄ c = wrote-put (parameters (entry₄ c)) _ _ (written₃ (before-parameters c)) refl (parameters-put c .put-parameter-rows .ensures)
 
 -- there is room for the next field
-room₁ : (c : tie.After-slice-known2) → let a = c .before .before .before .before .before .before .before .args in let next = sizes (a .n) (a .a) (a .b) in
-    (at₁ c + length next ≤ length (area₁ c)) × (length next ≤ length (take (length (area₁ c) - at₁ c) (drop (at₁ c) (area₁ c))))
-room₁ c = let a = c .before .before .before .before .before .before .before .args in room-left (sizes (a .n) (a .a) (a .b)) _ (written₁ c) refl
+abbrev Room : List ℕ → ℕ → List ℕ → Type 0
+Room next at area = (at + length next ≤ length area) × (length next ≤ length (take (length area - at) (drop at area)))
 
-room₂ : (c : tie.After-slice-known3) → let a = c .before .before .before .before .before .before .before .before .before .before .before .args in let next = rows (a .n) (a .a) (a .constants .now) in
-    (at₂ c + length next ≤ length (area₂ c)) × (length next ≤ length (take (length (area₂ c) - at₂ c) (drop (at₂ c) (area₂ c))))
-room₂ c = let a = c .before .before .before .before .before .before .before .before .before .before .before .args in room-left (rows (a .n) (a .a) (a .constants .now)) _ (written₂ c) refl
+room₁ : (c : tie.After-slice-known2) → Room (sizes (entry₁ c)) (at₁ c) (area₁ c)
+room₁ c = room-left (sizes (entry₁ c)) _ (written₁ c) refl
 
-room₃ : (c : tie.After-slice-known4) → let a = c .before .before .before .before .before .before .before .before .before .before .before .before .before .before .before .args in let next = parameters (a .n) (a .b) (row-numbers (a .parameters .now)) in
-    (at₃ c + length next ≤ length (area₃ c)) × (length next ≤ length (take (length (area₃ c) - at₃ c) (drop (at₃ c) (area₃ c))))
-room₃ c = let a = c .before .before .before .before .before .before .before .before .before .before .before .before .before .before .before .args in room-left (parameters (a .n) (a .b) (row-numbers (a .parameters .now))) _ (written₃ c) refl
+room₂ : (c : tie.After-slice-known3) → Room (rows (entry₂ c)) (at₂ c) (area₂ c)
+room₂ c = room-left (rows (entry₂ c)) _ (written₂ c) refl
 
-room₄ : (c : tie.After-slice-known5) → (at₄ c + length end ≤ length (area₄ c)) × (length end ≤ length (take (length (area₄ c) - at₄ c) (drop (at₄ c) (area₄ c))))
+room₃ : (c : tie.After-slice-known4) → Room (parameters (entry₃ c)) (at₃ c) (area₃ c)
+room₃ c = room-left (parameters (entry₃ c)) _ (written₃ c) refl
+
+room₄ : (c : tie.After-slice-known5) → Room end (at₄ c) (area₄ c)
 room₄ c = room-left end [] (written₄ c) refl
 
 put-prime-requires : tie.Need-put-prime-requires
-put-prime-requires c κs = let a = c .before .before .before .before .args in omega (arith, first (a .p) (a .n) (a .a) (a .b) (a .constants .now) (row-numbers (a .parameters .now)), c .before .before .before .before .pre)
+put-prime-requires c κs = let s = entry (c .before) in omega (arith, first s, s .pre)
 
 sub-put-sizes : tie.Need-sub-put-sizes
 sub-put-sizes c = omega (arith, room₁ c)
@@ -135,7 +194,7 @@ part-put-constant-rows-end : tie.Need-part-put-constant-rows-end
 part-put-constant-rows-end c = search needs
 
 put-constant-rows-requires : tie.Need-put-constant-rows-requires
-put-constant-rows-requires c κs = let h = c .before .before .before .before .before .before .before .before .before .before .before .before .pre in (h .0, h .3, room₂ (c .before) .1)
+put-constant-rows-requires c κs = let h = entry₂ (c .before) .pre in (h .0, h .3, room₂ (c .before) .1)
 
 add-at-2 : tie.Need-add-at-2
 add-at-2 c = omega (arith, written₃ c .room)
@@ -150,7 +209,7 @@ part-put-parameter-rows-end : tie.Need-part-put-parameter-rows-end
 part-put-parameter-rows-end c = search needs
 
 put-parameter-rows-requires : tie.Need-put-parameter-rows-requires
-put-parameter-rows-requires c κs = (c .before .before .before .before .before .before .before .before .before .before .before .before .before .before .before .before .pre .4, room₃ (c .before) .1)
+put-parameter-rows-requires c κs = (entry₃ (c .before) .pre .4, room₃ (c .before) .1)
 
 add-at-3 : tie.Need-add-at-3
 add-at-3 c = omega (arith, written₄ c .room)
@@ -168,13 +227,13 @@ put-head-requires : tie.Need-put-head-requires
 put-head-requires c κs = room₄ (c .before) .1
 
 add-result : tie.Need-add-result
-add-result c = let k = c .before .before .put-head .ensures .many-is in omega (arith, room₄ (c .before .before .before .before))
+add-result c = let k = end-put c .put-head .ensures .many-is in omega (arith, room₄ (before-end c))
 
 same-length : tie.Need-same-length
 same-length c = search needs
 
 returns : tie.Need-returns
-returns c = put-all (wrote-put end [] _ (written₄ (c .before .before .before .before)) refl (c .before .before .put-head .ensures)) refl
+returns c = put-all (wrote-put end [] _ (written₄ (before-end c)) refl (end-put c .put-head .ensures)) refl
 
 pub put-file-spec : {M : Type 1} → statement M
 put-file-spec =

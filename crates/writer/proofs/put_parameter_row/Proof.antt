@@ -9,12 +9,30 @@ use Rattle.writer.proofs.Rows.{parameter-bytes-length, parameter-row-pu
 use Rattle.writer.proofs.put_parameter_row.Statement.{statement}
 use Rattle.writer.proofs.put_parameter_row.Tie as tie
 
+-- the places: where the call began, where the size is known, where the head is put, where the set is, and where it was still to be put
+
+abbrev entry : tie.After-put-head-arg → tie.Start
+entry c = c .before .before .before
+
+abbrev head-put : tie.After-slice-known2 → tie.After-put-head
+head-put c = c .before .before
+
+abbrev sized : tie.After-slice-known2 → tie.After-parameter-size
+sized c = head-put c .before .before
+
+abbrev set-put : tie.After-slice-known3 → tie.After-put-set-front
+set-put c = c .before .before
+
+abbrev behind-head : tie.After-slice-known3 → tie.After-slice-known2
+behind-head c = set-put c .before .before
+
 -- there is room behind the head
-room : (c : tie.After-slice-known2) → c .before .before .put-head .result ≤ length (c .before .before .put-head .last .0)
+room : (c : tie.After-slice-known2) → let h = head-put c .put-head in h .result ≤ length (h .last .0)
 room c =
-    let a = c .before .before .before .before .before .before .args in
-    let h = c .before .before .put-head .ensures in
-    omega (arith, h .many-is, parameter-bytes-length (a .n) (whole (a .set)), c .before .before .before .before .before .before .pre, put-same h (omega (arith, parameter-bytes-length (a .n) (whole (a .set)), c .before .before .before .before .before .before .pre)))
+    let s = entry (head-put c .before) in
+    let h = head-put c .put-head .ensures in
+    let l = parameter-bytes-length (s .args .n) (whole (s .args .set)) in
+    omega (arith, h .many-is, l, s .pre, put-same h (omega (arith, l, s .pre)))
 
 parameter-size-requires : tie.Need-parameter-size-requires
 parameter-size-requires c κs = search needs
@@ -23,7 +41,7 @@ cast-put-head : tie.Need-cast-put-head
 cast-put-head c = search needs
 
 put-head-requires : tie.Need-put-head-requires
-put-head-requires c κs = let a = c .before .before .before .args in omega (arith, parameter-bytes-length (a .n) (whole (a .set)), c .before .before .before .pre)
+put-head-requires c κs = let s = entry c in omega (arith, parameter-bytes-length (s .args .n) (whole (s .args .set)), s .pre)
 
 sub-put-set-front : tie.Need-sub-put-set-front
 sub-put-set-front c = omega (arith, room c)
@@ -44,8 +62,10 @@ same-length : tie.Need-same-length
 same-length c = search needs
 
 returns : tie.Need-returns
-returns c = let a = c .before .before .before .before .before .before .before .before .before .before .args in
-    parameter-row-put (a .n) (whole (a .set)) (c .before .before .before .before .before .before .before .before .parameter-size .ensures) (c .before .before .before .before .before .before .put-head .ensures) (c .before .before .put-set-front .ensures) (c .before .before .before .before .before .before .before .before .before .before .pre)
+returns c =
+    let h = head-put (behind-head c) in
+    let s = entry (h .before) in
+    parameter-row-put (s .args .n) (whole (s .args .set)) (sized (behind-head c) .parameter-size .ensures) (h .put-head .ensures) (set-put c .put-set-front .ensures) (s .pre)
 
 pub put-parameter-row-spec : {M : Type 1} → statement M
 put-parameter-row-spec =

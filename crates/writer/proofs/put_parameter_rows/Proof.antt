@@ -3,11 +3,11 @@
 use native.Mathlib.Omega.{arith}
 use Prim.Native.Nat.{ℕ, _+_, _-_, _≤_}
 use mathlib.Core.List.{List, _++_, flatMap}
-use mathlib.Core.Path.{_≡_, sym, ap, _∙_}
+use mathlib.Core.Path.{_≡_}
 use lib.ListN.{length, getD, take, drop, length-drop}
 use lib.Seq.{length-take-le}
 use borrow.Author.Needs.{needs}
-use Rattle.columns.specs.ColumnSets.{whole, row-numbers}
+use Rattle.columns.specs.ColumnSets.{row-numbers}
 use Rattle.format.specs.OverLaws.{Wrote, wrote-none}
 use Rattle.format.specs.File.Steps.{parameter-bytes, Put}
 use Rattle.format.proofs.Puts.{wrote-put, put-all, room-left}
@@ -21,15 +21,39 @@ Inv-loop out₀ parameters b n at₀ r₀ out at r = let ws = take b (row-number
 abbrev μ-loop : tie.MeasureT-loop
 μ-loop out₀ parameters b n at₀ r₀ out at r = b - r
 
+-- the places: where the call began, and of a turn where its row is put and where it began
+
+abbrev entry : tie.At-loop Inv-loop μ-loop → tie.Start Inv-loop μ-loop
+entry k = k .before .before .before
+
+abbrev put : tie.After-slice-known2 Inv-loop μ-loop → tie.After-put-parameter-row Inv-loop μ-loop
+put c = c .before .before
+
+abbrev turn : tie.After-put-parameter-row Inv-loop μ-loop → tie.In-loop Inv-loop μ-loop
+turn c = c .before .before .before
+
+-- the rows of the call, and the bytes of the turn's row
+
+abbrev rows : tie.At-loop Inv-loop μ-loop → List ℕ
+rows k = row-numbers (entry k .args .parameters .now)
+
+abbrev row-bytes : tie.In-loop Inv-loop μ-loop → List ℕ
+row-bytes c = parameter-bytes (entry (c .before) .args .n) (getD (rows (c .before)) (c .before .loop .r) 0)
+
 -- the next row is the first of those that are left
-next : (c : tie.In-loop Inv-loop μ-loop) → let a = c .before .before .before .before .args in let ws = row-numbers (a .parameters .now) in let r = c .before .loop .r in
-    flatMap (parameter-bytes (a .n)) (drop r (take (a .b) ws)) ≡ parameter-bytes (a .n) (getD ws r 0) ++ flatMap (parameter-bytes (a .n)) (drop (r + 1) (take (a .b) ws))
-next c = let k = c .before .before .before .before in parameter-rows-next (k .args .n) (k .args .b) (c .before .loop .r) (row-numbers (k .args .parameters .now)) (c .loop-test .taken) (k .pre .0)
+next : (c : tie.In-loop Inv-loop μ-loop) → let a = entry (c .before) .args in let ws = take (a .b) (rows (c .before)) in let r = c .before .loop .r in
+    flatMap (parameter-bytes (a .n)) (drop r ws) ≡ row-bytes c ++ flatMap (parameter-bytes (a .n)) (drop (r + 1) ws)
+next c = let s = entry (c .before) in parameter-rows-next (s .args .n) (s .args .b) (c .before .loop .r) (rows (c .before)) (c .loop-test .taken) (s .pre .0)
 
 -- while rows are left, there is room for it
-room : (c : tie.In-loop Inv-loop μ-loop) → let l = c .before .loop in let a = c .before .before .before .before .args in let row = parameter-bytes (a .n) (getD (row-numbers (a .parameters .now)) (l .r) 0) in
-    (l .at + length row ≤ length (l .out)) × (length row ≤ length (take (length (l .out) - l .at) (drop (l .at) (l .out))))
-room c = let a = c .before .before .before .before .args in let l = c .before .loop in room-left (parameter-bytes (a .n) (getD (row-numbers (a .parameters .now)) (l .r) 0)) _ (l .inv .0) (next c)
+room : (c : tie.In-loop Inv-loop μ-loop) → let l = c .before .loop in
+    (l .at + length (row-bytes c) ≤ length (l .out)) × (length (row-bytes c) ≤ length (take (length (l .out) - l .at) (drop (l .at) (l .out))))
+room c = room-left (row-bytes c) _ (c .before .loop .inv .0) (next c)
+
+-- the row is put there
+written : (c : tie.After-put-parameter-row Inv-loop μ-loop) → let l = turn c .before .loop in
+    Put (row-bytes (turn c)) (take (length (l .out) - l .at) (drop (l .at) (l .out))) (c .put-parameter-row .last .0) (c .put-parameter-row .result)
+written c = rw (c .before .row .ensures) at (c .put-parameter-row .ensures)
 
 loop-holds : tie.Need-loop-holds Inv-loop μ-loop
 loop-holds c = (wrote-none _ _ (c .before .before .pre .1), omega arith)
@@ -50,7 +74,7 @@ put-parameter-row-requires : tie.Need-put-parameter-row-requires Inv-loop μ-loo
 put-parameter-row-requires c κs = rw (c .row .ensures) (room (c .before .before) .1)
 
 add-at : tie.Need-add-at Inv-loop μ-loop
-add-at c = omega (arith, room (c .before .before .before .before .before), c .before .before .put-parameter-row .ensures .many-is, ap (λ (w : ℕ). length (parameter-bytes (c .before .before .before .before .before .before .before .before .before .args .n) w)) (c .before .before .before .row .ensures))
+add-at c = let k = written (put c) .many-is in omega (arith, room (turn (put c)))
 
 add-r : tie.Need-add-r Inv-loop μ-loop
 add-r c = search needs
@@ -59,22 +83,16 @@ loop-less : tie.Need-loop-less Inv-loop μ-loop
 loop-less c = search needs
 
 loop-again : tie.Need-loop-again Inv-loop μ-loop
-loop-again c =
-    let put = c .before .before .put-parameter-row in
-    let k = c .before .before .before .before .before in
-    let a = k .before .before .before .before .args in
-    let l = k .before .loop in
-    let row = parameter-bytes (a .n) (getD (row-numbers (a .parameters .now)) (l .r) 0) in
-    let is-put : Put row (take (length (l .out) - l .at) (drop (l .at) (l .out))) (put .last .0) (put .result) = rw (c .before .before .before .row .ensures) at (put .ensures) in
-    (wrote-put row _ _ (l .inv .0) (next k) is-put, omega arith)
+loop-again c = let k = turn (put c) in (wrote-put (row-bytes k) _ _ (k .before .loop .inv .0) (next k) (written (put c)), omega arith)
 
 same-length : tie.Need-same-length Inv-loop μ-loop
 same-length c = c .before .loop .inv .0 .same
 
 returns : tie.Need-returns Inv-loop μ-loop
 returns c =
-    let k = c .before .before .before .before in
-    put-all (c .before .loop .inv .0) (parameter-rows-done _ _ (omega (arith, length-drop (c .before .loop .r) (take (k .args .b) (row-numbers (k .args .parameters .now))), length-take-le (k .args .b) (row-numbers (k .args .parameters .now)) (k .pre .0))))
+    let s = entry (c .before) in
+    let ws = rows (c .before) in
+    put-all (c .before .loop .inv .0) (parameter-rows-done _ _ (omega (arith, length-drop (c .before .loop .r) (take (s .args .b) ws), length-take-le (s .args .b) ws (s .pre .0))))
 
 pub put-parameter-rows-spec : {M : Type 1} → statement M
 put-parameter-rows-spec =

@@ -12,9 +12,17 @@ use Rattle.format.proofs.Puts.{first-put, put-all, put-same}
 use Rattle.writer.proofs.put_sizes.Statement.{statement}
 use Rattle.writer.proofs.put_sizes.Tie as tie
 
+-- the places: where the head is put, and where the call began
+
+abbrev head-put : tie.After-slice-known2 → tie.After-put-head
+head-put c = c .before .before
+
+abbrev entry : tie.After-slice-known2 → tie.Start
+entry c = head-put c .before .before .before
+
 -- there is room behind the head
-room : (c : tie.After-slice-known2) → c .before .before .put-head .result + 3 ≤ length (c .before .before .put-head .last .0)
-room c = let h = c .before .before .put-head .ensures in omega (arith, h .many-is, put-same h (omega arith))
+room : (c : tie.After-slice-known2) → let h = head-put c .put-head in h .result + 3 ≤ length (h .last .0)
+room c = let h = head-put c .put-head .ensures in omega (arith, h .many-is, put-same h (omega arith))
 
 cast-put-head : tie.Need-cast-put-head
 cast-put-head c = search needs
@@ -45,9 +53,9 @@ same-length c = search needs
 
 returns : tie.Need-returns
 returns c =
-    let a = c .before .before .before .before .before .args in
+    let a = entry c .args in
     let sizes : List ℕ = a .n ∷ a .a ∷ a .b ∷ [] in
-    let w = first-put (field-bytes sizes-tag 3 sizes) (field-bytes sizes-tag 3 []) sizes refl (c .before .before .before .before .before .pre) (c .before .before .put-head .ensures) in
+    let w = first-put (field-bytes sizes-tag 3 sizes) (field-bytes sizes-tag 3 []) sizes refl (entry c .pre) (head-put c .put-head .ensures) in
     put-all (wrote-set (a .b) [] (wrote-set (a .a) (a .b ∷ []) (wrote-set (a .n) (a .a ∷ a .b ∷ []) w refl) refl) refl) refl
 
 pub put-sizes-spec : {M : Type 1} → statement M

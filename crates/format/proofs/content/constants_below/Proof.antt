@@ -1,5 +1,6 @@
 -- `content::constants_below` meets its contract. The invariant: the test of all says what the test of the unread rest says.
 -- The measure is the length of the rest. Assumes nothing.
+use Prim.Native.Nat.{ℕ}
 use native.Mathlib.Omega.{arith}
 use lib.Dec.{ltb}
 use lib.ListN.{length, getD, length-take, length-drop}
@@ -17,6 +18,14 @@ Inv-loop constants p rest₀ rest = Passing (λ x. ltb x p) constants rest
 abbrev μ-loop : tie.MeasureT-loop
 μ-loop constants p rest₀ rest = length rest
 
+-- the turn in which a constant is read
+abbrev turn : tie.After-widened Inv-loop μ-loop → tie.In-loop Inv-loop μ-loop
+turn c = c .before .before
+
+-- the p of the call
+abbrev bound : tie.At-loop Inv-loop μ-loop → ℕ
+bound k = k .before .before .args .p
+
 loop-holds : tie.Need-loop-holds Inv-loop μ-loop
 loop-holds c = passing-all
 
@@ -29,9 +38,10 @@ widened-requires c κs = search needs
 returns : tie.Need-returns Inv-loop μ-loop
 unfolding constant-test
 returns c =
-    let l = c .before .before .before .before .loop in
-    let p = c .before .before .before .before .before .before .args .p in
-    passing-fails (l .inv) (first-rest (l .rest .now) (c .before .before .before .loop-test .taken)) (le-ltb (getD (l .rest .now) 0 0) p (omega (arith, c .before .widened .ensures)))
+    let k = turn (c .before) in
+    let l = k .before .loop in
+    let r = l .rest .now in
+    passing-fails (l .inv) (first-rest r (k .loop-test .taken)) (le-ltb (getD r 0 0) (bound (k .before)) (omega (arith, c .before .widened .ensures)))
 
 sub-rest : tie.Need-sub-rest Inv-loop μ-loop
 sub-rest c = search needs
@@ -47,9 +57,11 @@ loop-less c = simp (length-take, length-drop) (omega arith)
 
 loop-again : tie.Need-loop-again Inv-loop μ-loop
 loop-again c =
-    let l = c .before .before .before .before .before .loop in
-    let p = c .before .before .before .before .before .before .before .args .p in
-    passing-next (l .inv) (first-rest (l .rest .now) (c .before .before .before .before .loop-test .taken)) (lt-ltb (getD (l .rest .now) 0 0) p (omega (arith, c .before .before .widened .ensures))) (tail-part 1 (l .rest .now))
+    let d = c .before .before in
+    let k = turn d in
+    let l = k .before .loop in
+    let r = l .rest .now in
+    passing-next (l .inv) (first-rest r (k .loop-test .taken)) (lt-ltb (getD r 0 0) (bound (k .before)) (omega (arith, d .widened .ensures))) (tail-part 1 r)
 
 returns-2 : tie.Need-returns-2 Inv-loop μ-loop
 unfolding constant-test

@@ -1,6 +1,6 @@
 -- `content::entries_below` meets its contract. The invariant: the test of all entries says what the test of the unread rest says.
 -- The measure is the length of the rest. Assumes nothing.
-use Prim.Native.Nat.{_+_, _*_}
+use Prim.Native.Nat.{ℕ, _+_, _*_}
 use mathlib.Core.Path.{ap}
 use native.Mathlib.Omega.{arith}
 use lib.Dec.{ltb}
@@ -21,6 +21,14 @@ Inv-loop body p rest₀ rest = Passing (λ x. ltb x p) (entries body) (entries r
 abbrev μ-loop : tie.MeasureT-loop
 μ-loop body p rest₀ rest = length rest
 
+-- the turn in which an entry is read
+abbrev turn : tie.After-two Inv-loop μ-loop → tie.In-loop Inv-loop μ-loop
+turn c = c .before .before .before
+
+-- the p of the call
+abbrev bound : tie.At-loop Inv-loop μ-loop → ℕ
+bound k = k .before .before .args .p
+
 loop-holds : tie.Need-loop-holds Inv-loop μ-loop
 loop-holds c = passing-all
 
@@ -36,9 +44,10 @@ two-requires c κs = search needs
 returns : tie.Need-returns Inv-loop μ-loop
 unfolding constant-test
 returns c =
-    let l = c .before .before .before .before .before .loop in
-    let p = c .before .before .before .before .before .before .before .args .p in
-    passing-fails (l .inv) (entries-next (l .rest .now) (c .before .before .before .before .loop-test .taken)) (le-ltb (getD (l .rest .now) 0 0 + 256 * getD (l .rest .now) 1 0) p (omega (arith, c .before .two .ensures)))
+    let k = turn (c .before) in
+    let l = k .before .loop in
+    let r = l .rest .now in
+    passing-fails (l .inv) (entries-next r (k .loop-test .taken)) (le-ltb (getD r 0 0 + 256 * getD r 1 0) (bound (k .before)) (omega (arith, c .before .two .ensures)))
 
 sub-rest : tie.Need-sub-rest Inv-loop μ-loop
 sub-rest c = search needs
@@ -54,9 +63,11 @@ loop-less c = simp (length-take, length-drop) (omega arith)
 
 loop-again : tie.Need-loop-again Inv-loop μ-loop
 loop-again c =
-    let l = c .before .before .before .before .before .before .loop in
-    let p = c .before .before .before .before .before .before .before .before .args .p in
-    passing-next (l .inv) (entries-next (l .rest .now) (c .before .before .before .before .before .loop-test .taken)) (lt-ltb (getD (l .rest .now) 0 0 + 256 * getD (l .rest .now) 1 0) p (omega (arith, c .before .before .two .ensures))) (ap entries (tail-part 2 (l .rest .now)))
+    let d = c .before .before in
+    let k = turn d in
+    let l = k .before .loop in
+    let r = l .rest .now in
+    passing-next (l .inv) (entries-next r (k .loop-test .taken)) (lt-ltb (getD r 0 0 + 256 * getD r 1 0) (bound (k .before)) (omega (arith, d .two .ensures))) (ap entries (tail-part 2 r))
 
 returns-2 : tie.Need-returns-2 Inv-loop μ-loop
 unfolding constant-test

@@ -10,6 +10,10 @@ use Rattle.format.proofs.Parts.{ends-drop, part-next}
 use Rattle.format.proofs.fields.said_rest.Statement.{statement}
 use Rattle.format.proofs.fields.said_rest.Tie as tie
 
+-- where the call began
+abbrev entry : tie.After-said-length → tie.Start
+entry c = c .before .before .before
+
 past-head-requires : tie.Need-past-head-requires
 past-head-requires c κs = search needs
 
@@ -28,10 +32,11 @@ part-result-end c = search needs
 returns : tie.Need-returns
 unfolding said-rest
 returns c =
-    let s = c .before .before .before .before .before .args .rest in
-    let m = c .before .before .before .past-head in
+    let d = c .before .before in
+    let s = entry d .args .rest in
+    let m = d .before .past-head in
     let b = m .result .now in
-    let size : c .before .before .said-length .result ≡ said-length (s .now) = c .before .before .said-length .ensures .0 in
+    let size : d .said-length .result ≡ said-length (s .now) = d .said-length .ensures .0 in
     let e = m .ensures .bytes-are in
     let none : said-rest (s .now) ≡ drop (length b) (drop head-bytes (s .now)) =
     drop-of-length-le (drop head-bytes (s .now)) {i = said-length (s .now)} (omega (arith, ap length e)) ∙ sym (drop-of-length-le (drop head-bytes (s .now)) {i = length b} (omega (arith, ap length e))) in
@@ -49,9 +54,10 @@ part-result-end-2 c = search needs
 returns-2 : tie.Need-returns-2
 unfolding said-rest
 returns-2 c =
-    let s = c .before .before .before .before .before .args .rest in
-    let m = c .before .before .before .past-head in
-    part-next (m .ensures) (ends-drop head-bytes (s .now)) _ (omega arith) (ap (λ (k : ℕ). drop k (drop head-bytes (s .now))) (sym (c .before .before .said-length .ensures .0))) refl refl refl
+    let d = c .before .before in
+    let s = entry d .args .rest in
+    let m = d .before .past-head in
+    part-next (m .ensures) (ends-drop head-bytes (s .now)) _ (omega arith) (ap (λ (k : ℕ). drop k (drop head-bytes (s .now))) (sym (d .said-length .ensures .0))) refl refl refl
 
 pub said-rest-spec : {M : Type 1} → statement M
 said-rest-spec =

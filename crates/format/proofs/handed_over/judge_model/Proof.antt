@@ -5,35 +5,65 @@ use native.Mathlib.Nat.{mul-le-mul}
 use native.Mathlib.Omega.{arith}
 use mathlib.Core.Bool.{true}
 use lib.Dec.{leb}
-use lib.ListN.{length}
+use lib.ListN.{length, take}
 use lib.Seq.{length-take-le}
 use borrow.Author.Needs.{needs}
 use borrow.Author.Tests.{le-leb, lt-leb, not-true, not-false}
 use Rattle.format.specs.RefusalLaws.{first-fails, first-passes, first-none}
-use Rattle.format.specs.Refusals.{Tests, unless, _then_, not-prime, sizes-beyond, area-short, first-refusal, prime-test, size-test, area-test, model-tests, refusal}
+use Rattle.format.specs.Refusals.{Tests, unless, _then_, not-prime, sizes-beyond, area-short, constant-beyond, first-refusal, prime-test, size-test, area-test, constant-test, model-tests, refusal}
 use Rattle.columns.specs.ColumnSets.{row-numbers}
 use Rattle.limits.specs.Limits.{most-columns, most-rows}
 use Rattle.format.specs.TestLaws.{size-reads}
 use Rattle.format.proofs.handed_over.judge_model.Statement.{statement}
 use Rattle.format.proofs.handed_over.judge_model.Tie as tie
 
+-- the places: where the areas are lent, where the call began, and from behind each test where the one before it was passed
+
+abbrev lent : tie.Else1 → tie.After-shared-slice-known2
+lent c = c .before .before
+
+abbrev entry : tie.Else1 → tie.Start
+entry c = lent c .before .before
+
+abbrev prime-passed : tie.Else2 → tie.Else1
+prime-passed c = c .before .before
+
+abbrev sizes-passed : tie.Else4 → tie.Else2
+sizes-passed c = c .before .before .before
+
+abbrev areas-passed : tie.Else5 → tie.Else4
+areas-passed c = c .before .before .before
+
+-- the tests of a call's prime, then of its sizes, then of its areas, before others
+
+abbrev prime-then : tie.Start → Tests → Tests
+prime-then s ts = unless (prime-test (s .args .p)) not-prime then ts
+
+abbrev sizes-then : tie.Start → Tests → Tests
+sizes-then s ts = prime-then s (unless (size-test (s .args .n) (s .args .a) (s .args .b)) sizes-beyond then ts)
+
+abbrev areas-then : tie.Start → Tests → Tests
+areas-then s ts = let a = s .args in
+    sizes-then s (unless (area-test (a .a * a .n) (length (a .constants .now))) area-short then unless (area-test (a .b) (length (row-numbers (a .parameters .now)))) area-short then ts)
+
 -- the tests that were passed stand before those that are still to be made
-after-prime : (c : tie.Else1) (ts : Tests) (r : ℕ) → r ≡ first-refusal ts → r ≡ first-refusal (unless (prime-test (c .before .before .before .before .args .p)) not-prime then ts)
+after-prime : (c : tie.Else1) (ts : Tests) (r : ℕ) → r ≡ first-refusal ts → r ≡ first-refusal (prime-then (entry c) ts)
 after-prime c ts r e = first-passes _ _ ts r (sym (c .before .prime-within .ensures) ∙ not-false _ (c .if1 .left)) e
 
-after-sizes : (c : tie.Else2) (ts : Tests) (r : ℕ) → r ≡ first-refusal ts
-    → let a = c .before .before .before .before .before .before .args in r ≡ first-refusal (unless (prime-test (a .p)) not-prime then unless (size-test (a .n) (a .a) (a .b)) sizes-beyond then ts)
-after-sizes c ts r e = after-prime (c .before .before) _ r (first-passes _ _ ts r (sym (c .before .sizes-within .ensures) ∙ not-false _ (c .if2 .left)) e)
+after-sizes : (c : tie.Else2) (ts : Tests) (r : ℕ) → r ≡ first-refusal ts → r ≡ first-refusal (sizes-then (entry (prime-passed c)) ts)
+after-sizes c ts r e = after-prime (prime-passed c) _ r (first-passes _ _ ts r (sym (c .before .sizes-within .ensures) ∙ not-false _ (c .if2 .left)) e)
 
-rows-lent : (c : tie.Else4) → let a = c .before .before .before .before .before .before .before .before .before .args in leb (a .b) (length (row-numbers (a .parameters .now))) ≡ true
+rows-lent : (c : tie.Else4) → let a = entry (prime-passed (sizes-passed c)) .args in leb (a .b) (length (row-numbers (a .parameters .now))) ≡ true
 rows-lent c = rw (c .before .rows .ensures) at (le-leb _ _ (c .if4 .left))
 
-after-areas : (c : tie.Else4) (ts : Tests) (r : ℕ) → r ≡ first-refusal ts
-    → let a = c .before .before .before .before .before .before .before .before .before .args in
-    r ≡ first-refusal (unless (prime-test (a .p)) not-prime then unless (size-test (a .n) (a .a) (a .b)) sizes-beyond
-    then unless (area-test (a .a * a .n) (length (a .constants .now))) area-short then unless (area-test (a .b) (length (row-numbers (a .parameters .now)))) area-short then ts)
+after-areas : (c : tie.Else4) (ts : Tests) (r : ℕ) → r ≡ first-refusal ts → r ≡ first-refusal (areas-then (entry (prime-passed (sizes-passed c))) ts)
 unfolding area-test
-after-areas c ts r e = after-sizes (c .before .before .before) _ r (first-passes _ _ _ r (le-leb _ _ (c .before .before .if3 .left)) (first-passes _ _ ts r (rows-lent c) e))
+after-areas c ts r e = after-sizes (sizes-passed c) _ r (first-passes _ _ _ r (le-leb _ _ (c .before .before .if3 .left)) (first-passes _ _ ts r (rows-lent c) e))
+
+after-constants : (c : tie.Else5) (ts : Tests) (r : ℕ) → r ≡ first-refusal ts
+    → let s = entry (prime-passed (sizes-passed (areas-passed c))) in let a = s .args in
+    r ≡ first-refusal (areas-then s (unless (constant-test (a .p) (take (a .a * a .n) (a .constants .now))) constant-beyond then ts))
+after-constants c ts r e = after-areas (areas-passed c) _ r (first-passes _ _ ts r (sym (c .before .constants-below .ensures) ∙ not-false _ (c .if5 .left)) e)
 
 prime-within-requires : tie.Need-prime-within-requires
 prime-within-requires c κs = search needs
@@ -51,7 +81,7 @@ returns-2 c = after-prime (c .before .before) _ _ (first-fails _ _ _ (sym (c .be
 
 mul-k : tie.Need-mul-k
 mul-k c =
-    let a = c .before .before .before .before .before .before .args in
+    let a = entry (prime-passed c) .args in
     let z = size-reads (a .n) (a .a) (a .b) .0 (sym (c .before .sizes-within .ensures) ∙ not-false _ (c .if2 .left)) in
     let h : a .a * a .n ≤ most-rows * most-columns = mul-le-mul {n₂ = most-rows} {m₂ = most-columns} (z .2) (z .1) in
     omega arith
@@ -82,15 +112,11 @@ parameters-within-requires c κs = search needs
 
 returns-6 : tie.Need-returns-6
 unfolding refusal model-tests
-returns-6 c =
-    after-areas (c .before .before .before .before .before) _ _ (first-passes _ _ _ _ (sym (c .before .before .before .constants-below .ensures) ∙ not-false _ (c .before .before .if5 .left))
-    (first-fails _ _ _ (sym (c .before .parameters-within .ensures) ∙ not-true _ (c .if6 .taken))))
+returns-6 c = after-constants (c .before .before) _ _ (first-fails _ _ _ (sym (c .before .parameters-within .ensures) ∙ not-true _ (c .if6 .taken)))
 
 returns-7 : tie.Need-returns-7
 unfolding refusal model-tests
-returns-7 c =
-    after-areas (c .before .before .before .before .before) _ _ (first-passes _ _ _ _ (sym (c .before .before .before .constants-below .ensures) ∙ not-false _ (c .before .before .if5 .left))
-    (first-passes _ _ _ _ (sym (c .before .parameters-within .ensures) ∙ not-false _ (c .if6 .left)) first-none))
+returns-7 c = after-constants (c .before .before) _ _ (first-passes _ _ _ _ (sym (c .before .parameters-within .ensures) ∙ not-false _ (c .if6 .left)) first-none)
 
 pub judge-model-spec : {M : Type 1} → statement M
 judge-model-spec =

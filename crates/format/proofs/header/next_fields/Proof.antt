@@ -5,6 +5,14 @@ use Rattle.format.proofs.Headers.{next-handed, next-prime, next-sizes, 
 use Rattle.format.proofs.header.next_fields.Statement.{statement}
 use Rattle.format.proofs.header.next_fields.Tie as tie
 
+-- the places before n is tested: where p was found to be said, and where nothing was found to be refused
+
+abbrev prime-said : tie.After-struct-known3 → tie.Else2
+prime-said c = c .before
+
+abbrev not-refused : tie.After-struct-known3 → tie.Else1
+not-refused c = prime-said c .before .before
+
 returns : tie.Need-returns
 returns c = next-handed _ _ (c .if1 .taken)
 
@@ -18,13 +26,13 @@ sizes-field-requires : tie.Need-sizes-field-requires
 sizes-field-requires c κs = search needs
 
 returns-3 : tie.Need-returns-3
-returns-3 c = c .sizes-field .ensures ∙ next-sizes _ _ (c .before .before .before .before .before .if1 .left) (c .before .before .before .if2 .left) (c .before .if3 .taken)
+returns-3 c = let d = c .before .before in c .sizes-field .ensures ∙ next-sizes _ _ (not-refused d .if1 .left) (prime-said d .if2 .left) (c .before .if3 .taken)
 
 row-fields-requires : tie.Need-row-fields-requires
 row-fields-requires c κs = search needs
 
 returns-4 : tie.Need-returns-4
-returns-4 c = c .row-fields .ensures ∙ next-rows _ _ (c .before .before .before .before .before .if1 .left) (c .before .before .before .if2 .left) (c .before .if3 .left)
+returns-4 c = let d = c .before .before in c .row-fields .ensures ∙ next-rows _ _ (not-refused d .if1 .left) (prime-said d .if2 .left) (c .before .if3 .left)
 
 pub next-fields-spec : {M : Type 1} → statement M
 next-fields-spec =

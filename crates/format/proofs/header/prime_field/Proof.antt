@@ -17,27 +17,48 @@ use Rattle.format.proofs.Headers.{two-number, said-refused, said-passed
 use Rattle.format.proofs.header.prime_field.Statement.{statement}
 use Rattle.format.proofs.header.prime_field.Tie as tie
 
--- the head is not refused, and the body in hand is its body
+-- the places: where the body is taken, where the head was not refused, and where it is judged
+
+abbrev body-taken : tie.After-two → tie.After-said-body
+body-taken c = c .before .before .before
+
+abbrev not-refused : tie.After-two → tie.Else1
+not-refused c = body-taken c .before
+
+abbrev judged : tie.After-two → tie.After-judge-head
+judged c = not-refused c .before .before
+
+-- the bytes of the call, and the body in hand
+
 abbrev bytes : tie.After-two → List ℕ
-bytes c = c .before .before .before .before .before .before .before .before .args .rest .now
+bytes c = judged c .before .before .args .rest .now
 
-head : (c : tie.After-two) → Judgement (head-tests prime-tag (prime-body .size) (bytes c)) (field prime-tag prime-body .rest (bytes c)) (c .before .before .before .before .before .before .judge-head .result)
-head c = c .before .before .before .before .before .before .judge-head .ensures
+abbrev hand : tie.After-two → List ℕ
+hand c = body-taken c .said-body .result .now
 
-passed : (c : tie.After-two) → c .before .before .before .before .before .before .judge-head .result .refusal ≡ 0
-passed c = c .before .before .before .before .if1 .left
+-- the head is not refused, and the body in hand is its body
 
-body : (c : tie.After-two) → c .before .before .before .said-body .result .now ≡ said-body (bytes c)
-body c = c .before .before .before .said-body .ensures .bytes-are
+head : (c : tie.After-two) → Judgement (head-tests prime-tag (prime-body .size) (bytes c)) (field prime-tag prime-body .rest (bytes c)) (judged c .judge-head .result)
+head c = judged c .judge-head .ensures
 
-due : (c : tie.After-two) → c .before .before .before .said-body .result .now ≡ take 2 (drop head-bytes (bytes c))
+passed : (c : tie.After-two) → judged c .judge-head .result .refusal ≡ 0
+passed c = not-refused c .if1 .left
+
+body : (c : tie.After-two) → hand c ≡ said-body (bytes c)
+body c = body-taken c .said-body .ensures .bytes-are
+
+due : (c : tie.After-two) → hand c ≡ take 2 (drop head-bytes (bytes c))
 due c = body-is prime-tag prime-body (bytes c) (head c) (passed c) (body c)
 
-p-is : (c : tie.After-two) → c .two .result ≡ number (c .before .before .before .said-body .result .now)
+p-is : (c : tie.After-two) → c .two .result ≡ number (hand c)
 p-is c =
-    let b = c .before .before .before .said-body .result .now in
+    let b = hand c in
     let q : getD b 0 0 + 256 * getD b 1 0 ≡ number b = rw (due c) (two-number (drop head-bytes (bytes c))) in
     cc (c .two .ensures .0, c .before .byte-at2 .ensures, c .before .before .byte-at .ensures, q)
+
+-- p as it is tested
+tested : (c : tie.After-prime-within) → prime-test (number (hand (c .before))) ≡ c .prime-within .result
+tested c = ap prime-test (sym (p-is (c .before))) ∙ sym (c .prime-within .ensures)
 
 judge-head-requires : tie.Need-judge-head-requires
 judge-head-requires c κs = search needs
@@ -70,16 +91,17 @@ refused-requires-2 c κs = search needs
 returns-2 : tie.Need-returns-2
 unfolding prime-said prime-field
 returns-2 c =
-    let d = c .before .before .before in
+    let w = c .before .before in
+    let d = w .before in
     c .refused2 .ensures
-    ∙ said-refused _ _ (content-refused prime-tag prime-body _ (head d) (passed d) (body d) _ (first-fails _ _ _ (ap prime-test (sym (p-is d)) ∙ sym (c .before .before .prime-within .ensures) ∙ not-true _ (c .before .if2 .taken))) (λ e. omega arith) .refusal-is) (λ e. omega arith)
+    ∙ said-refused _ _ (content-refused prime-tag prime-body _ (head d) (passed d) (body d) _ (first-fails _ _ _ (tested w ∙ not-true _ (c .before .if2 .taken))) (λ e. omega arith) .refusal-is) (λ e. omega arith)
 
 returns-3 : tie.Need-returns-3
 unfolding prime-said prime-field
 returns-3 c =
     let d = c .before .before in
     ap (λ (p : ℕ). record { refusal = 0; p = p; n = 0; a = 0; b = 0 }) (p-is d ∙ ap number (due d))
-    ∙ said-passed _ 0 (sym (accepted (content-passed prime-tag prime-body _ (head d) (passed d) (body d) (zero-unless _ _ (ap prime-test (sym (p-is d)) ∙ sym (c .before .prime-within .ensures) ∙ not-false _ (c .if2 .left)))) (passed d))) refl
+    ∙ said-passed _ 0 (sym (accepted (content-passed prime-tag prime-body _ (head d) (passed d) (body d) (zero-unless _ _ (tested (c .before) ∙ not-false _ (c .if2 .left)))) (passed d))) refl
 
 pub prime-field-spec : {M : Type 1} → statement M
 prime-field-spec =

@@ -17,28 +17,42 @@ use Rattle.format.proofs.Headers.{said-refused, said-passed}
 use Rattle.format.proofs.header.sizes_field.Statement.{statement}
 use Rattle.format.proofs.header.sizes_field.Tie as tie
 
--- the head is not refused, and the body in hand is its body
+-- the places: where the body is taken, where the head was not refused, and where it is judged
+
+abbrev body-taken : tie.After-byte-at3 → tie.After-said-body
+body-taken c = c .before .before .before
+
+abbrev not-refused : tie.After-byte-at3 → tie.Else1
+not-refused c = body-taken c .before
+
+abbrev judged : tie.After-byte-at3 → tie.After-judge-head
+judged c = not-refused c .before .before
+
+-- the bytes of the call, and the body in hand
+
 abbrev bytes : tie.After-byte-at3 → List ℕ
-bytes c = c .before .before .before .before .before .before .before .before .args .rest .now
+bytes c = judged c .before .before .args .rest .now
 
 abbrev hand : tie.After-byte-at3 → List ℕ
-hand c = c .before .before .before .said-body .result .now
+hand c = body-taken c .said-body .result .now
 
-head : (c : tie.After-byte-at3) → Judgement (head-tests sizes-tag (sizes-body .size) (bytes c)) (field sizes-tag sizes-body .rest (bytes c)) (c .before .before .before .before .before .before .judge-head .result)
-head c = c .before .before .before .before .before .before .judge-head .ensures
+-- the head is not refused, and the body in hand is its body
 
-passed : (c : tie.After-byte-at3) → c .before .before .before .before .before .before .judge-head .result .refusal ≡ 0
-passed c = c .before .before .before .before .if1 .left
+head : (c : tie.After-byte-at3) → Judgement (head-tests sizes-tag (sizes-body .size) (bytes c)) (field sizes-tag sizes-body .rest (bytes c)) (judged c .judge-head .result)
+head c = judged c .judge-head .ensures
+
+passed : (c : tie.After-byte-at3) → judged c .judge-head .result .refusal ≡ 0
+passed c = not-refused c .if1 .left
 
 body : (c : tie.After-byte-at3) → hand c ≡ said-body (bytes c)
-body c = c .before .before .before .said-body .ensures .bytes-are
+body c = body-taken c .said-body .ensures .bytes-are
 
 due : (c : tie.After-byte-at3) → hand c ≡ take (sizes-body .size) (drop head-bytes (bytes c))
 due c = body-is sizes-tag sizes-body (bytes c) (head c) (passed c) (body c)
 
--- n, a, b as they were read
-tested : (c : tie.After-byte-at3) → size-test (getD (hand c) 0 0) (getD (hand c) 1 0) (getD (hand c) 2 0) ≡ size-test (c .before .before .byte-at .result) (c .before .byte-at2 .result) (c .byte-at3 .result)
-tested c = cc (c .before .before .byte-at .ensures, c .before .byte-at2 .ensures, c .byte-at3 .ensures)
+-- n, a, b as they are tested
+tested : (c : tie.After-sizes-within) → let b = hand (c .before) in size-test (getD b 0 0) (getD b 1 0) (getD b 2 0) ≡ c .sizes-within .result
+tested c = let d = c .before in cc (d .before .before .byte-at .ensures, d .before .byte-at2 .ensures, d .byte-at3 .ensures, c .sizes-within .ensures)
 
 -- what a field of the sizes says that passes
 abbrev made : ℕ → ℕ × ℕ × ℕ → Header
@@ -91,16 +105,17 @@ refused-requires-2 c κs = search needs
 returns-2 : tie.Need-returns-2
 unfolding sizes-said sizes-field
 returns-2 c =
-    let d = c .before .before .before in
+    let w = c .before .before in
+    let d = w .before in
     c .refused2 .ensures
-    ∙ said-refused _ _ (content-refused sizes-tag sizes-body _ (head d) (passed d) (body d) _ (first-fails _ _ _ (tested d ∙ sym (c .before .before .sizes-within .ensures) ∙ not-true _ (c .before .if2 .taken))) (λ e. omega arith) .refusal-is) (λ e. omega arith)
+    ∙ said-refused _ _ (content-refused sizes-tag sizes-body _ (head d) (passed d) (body d) _ (first-fails _ _ _ (tested w ∙ not-true _ (c .before .if2 .taken))) (λ e. omega arith) .refusal-is) (λ e. omega arith)
 
 returns-3 : tie.Need-returns-3
 unfolding sizes-said sizes-field
 returns-3 c =
     let d = c .before .before in
     numbers d _
-    ∙ said-passed _ 0 (sym (accepted (content-passed sizes-tag sizes-body _ (head d) (passed d) (body d) (zero-unless _ _ (tested d ∙ sym (c .before .sizes-within .ensures) ∙ not-false _ (c .if2 .left)))) (passed d))) refl
+    ∙ said-passed _ 0 (sym (accepted (content-passed sizes-tag sizes-body _ (head d) (passed d) (body d) (zero-unless _ _ (tested (c .before) ∙ not-false _ (c .if2 .left)))) (passed d))) refl
 
 pub sizes-field-spec : {M : Type 1} → statement M
 sizes-field-spec =

@@ -9,6 +9,17 @@ use Rattle.format.proofs.Judging.{handed-on, content-refused, content-p
 use Rattle.format.proofs.judge.judge_constant_row.Statement.{statement}
 use Rattle.format.proofs.judge.judge_constant_row.Tie as tie
 
+-- the places: where the head was not refused, where it is judged, and where the call began
+
+abbrev not-refused : tie.After-entries-below → tie.Else1
+not-refused c = c .before .before
+
+abbrev judged : tie.After-entries-below → tie.After-judge-head
+judged c = not-refused c .before .before
+
+abbrev entry : tie.After-entries-below → tie.Start
+entry c = judged c .before .before
+
 mul-judge-head : tie.Need-mul-judge-head
 mul-judge-head c = search needs
 
@@ -28,16 +39,18 @@ entries-below-requires c κs = search needs
 returns-2 : tie.Need-returns-2
 unfolding constant-row
 returns-2 c =
-    let a = c .before .before .before .before .before .before .before .args in
-    content-refused constant-tag (constant-body (a .p) (a .n)) (a .rest .now) (c .before .before .before .before .before .judge-head .ensures) (c .before .before .before .if1 .left) (c .before .before .said-body .ensures .bytes-are)
-    _ (first-fails _ _ _ (sym (c .before .entries-below .ensures) ∙ not-true _ (c .if2 .taken))) (λ e. omega arith)
+    let d = c .before in
+    let a = entry d .args in
+    content-refused constant-tag (constant-body (a .p) (a .n)) (a .rest .now) (judged d .judge-head .ensures) (not-refused d .if1 .left) (d .before .said-body .ensures .bytes-are)
+    _ (first-fails _ _ _ (sym (d .entries-below .ensures) ∙ not-true _ (c .if2 .taken))) (λ e. omega arith)
 
 returns-3 : tie.Need-returns-3
 unfolding constant-row
 returns-3 c =
-    let a = c .before .before .before .before .before .before .before .args in
-    content-passed constant-tag (constant-body (a .p) (a .n)) (a .rest .now) (c .before .before .before .before .before .judge-head .ensures) (c .before .before .before .if1 .left) (c .before .before .said-body .ensures .bytes-are)
-    (zero-unless _ _ (sym (c .before .entries-below .ensures) ∙ not-false _ (c .if2 .left)))
+    let d = c .before in
+    let a = entry d .args in
+    content-passed constant-tag (constant-body (a .p) (a .n)) (a .rest .now) (judged d .judge-head .ensures) (not-refused d .if1 .left) (d .before .said-body .ensures .bytes-are)
+    (zero-unless _ _ (sym (d .entries-below .ensures) ∙ not-false _ (c .if2 .left)))
 
 pub judge-constant-row-spec : {M : Type 1} → statement M
 judge-constant-row-spec =

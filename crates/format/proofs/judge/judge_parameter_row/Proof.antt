@@ -17,16 +17,27 @@ use Rattle.format.proofs.Judging.{handed-on, content-refused, content-p
 use Rattle.format.proofs.judge.judge_parameter_row.Statement.{statement}
 use Rattle.format.proofs.judge.judge_parameter_row.Tie as tie
 
+-- the places: where the call began, where the head was not refused, and where it is judged
+
+abbrev entry : tie.After-judge-head → tie.Start
+entry c = c .before .before .before
+
+abbrev not-refused : tie.After-of-bytes → tie.Else1
+not-refused c = c .before .before
+
+abbrev judged : tie.After-of-bytes → tie.After-judge-head
+judged c = not-refused c .before .before
+
 -- the head, with the size that is due
-head : (c : tie.After-judge-head) → let a = c .before .before .before .args in Judgement (head-tests parameter-tag (parameter-size (a .n)) (a .rest .now)) (drop (parameter-size (a .n)) (drop head-bytes (a .rest .now))) (c .judge-head .result)
+head : (c : tie.After-judge-head) → let a = entry c .args in Judgement (head-tests parameter-tag (parameter-size (a .n)) (a .rest .now)) (drop (parameter-size (a .n)) (drop head-bytes (a .rest .now))) (c .judge-head .result)
 head c = rw (c .before .parameter-size .ensures) at (c .judge-head .ensures)
 
 -- the row's set is the number of its body
 set : (c : tie.After-of-bytes) → whole (c .of-bytes .result) ≡ number (c .before .said-body .result .now)
 set c =
-    let a = c .before .before .before .before .before .before .before .args in
+    let a = entry (judged c) .args in
     let b = c .before .said-body in
-    let l = body-length parameter-tag (parameter-body (a .n)) (a .rest .now) (head (c .before .before .before .before)) (c .before .before .if1 .left) (b .ensures .bytes-are) in
+    let l = body-length parameter-tag (parameter-body (a .n)) (a .rest .now) (head (judged c)) (not-refused c .if1 .left) (b .ensures .bytes-are) in
     c .of-bytes .ensures ∙ ap number (take-all set-bytes (b .result .now) (omega arith))
 
 parameter-size-requires : tie.Need-parameter-size-requires
@@ -51,16 +62,18 @@ within-requires c κs = search needs
 returns-2 : tie.Need-returns-2
 unfolding parameter-row
 returns-2 c =
-    let a = c .before .before .before .before .before .before .before .before .before .args in
-    content-refused parameter-tag (parameter-body (a .n)) (a .rest .now) (head (c .before .before .before .before .before .before)) (c .before .before .before .before .if1 .left) (c .before .before .before .said-body .ensures .bytes-are)
-    _ (first-fails _ _ _ (sym (ap (within (a .n)) (set (c .before .before))) ∙ sym (c .before .within .ensures) ∙ not-true _ (c .if2 .taken))) (λ e. omega arith)
+    let d = c .before .before in
+    let a = entry (judged d) .args in
+    content-refused parameter-tag (parameter-body (a .n)) (a .rest .now) (head (judged d)) (not-refused d .if1 .left) (d .before .said-body .ensures .bytes-are)
+    _ (first-fails _ _ _ (sym (ap (within (a .n)) (set d)) ∙ sym (c .before .within .ensures) ∙ not-true _ (c .if2 .taken))) (λ e. omega arith)
 
 returns-3 : tie.Need-returns-3
 unfolding parameter-row
 returns-3 c =
-    let a = c .before .before .before .before .before .before .before .before .before .args in
-    content-passed parameter-tag (parameter-body (a .n)) (a .rest .now) (head (c .before .before .before .before .before .before)) (c .before .before .before .before .if1 .left) (c .before .before .before .said-body .ensures .bytes-are)
-    (zero-unless _ _ (sym (ap (within (a .n)) (set (c .before .before))) ∙ sym (c .before .within .ensures) ∙ not-false _ (c .if2 .left)))
+    let d = c .before .before in
+    let a = entry (judged d) .args in
+    content-passed parameter-tag (parameter-body (a .n)) (a .rest .now) (head (judged d)) (not-refused d .if1 .left) (d .before .said-body .ensures .bytes-are)
+    (zero-unless _ _ (sym (ap (within (a .n)) (set d)) ∙ sym (c .before .within .ensures) ∙ not-false _ (c .if2 .left)))
 
 pub judge-parameter-row-spec : {M : Type 1} → statement M
 judge-parameter-row-spec =

@@ -2,7 +2,8 @@
 -- the unread rest. The measure is how many these are. Assumes nothing.
 use borrow.Author.Needs.{needs}
 use native.Mathlib.Omega.{arith}
-use Prim.Native.Nat.{_≤_}
+use Prim.Native.Nat.{ℕ, _≤_}
+use mathlib.Core.List.{List}
 use mathlib.Core.Path.{refl}
 use lib.ListN.{length}
 use Rattle.format.specs.File.Format.{parameter-tag, parameter-body, parameter-row}
@@ -17,6 +18,22 @@ Inv-loop file n b rest₀ todo₀ rest todo = Todo (parameter-row n) b file todo
 abbrev μ-loop : tie.MeasureT-loop
 μ-loop file n b rest₀ todo₀ rest todo = todo
 
+-- the places of a turn: where its row is judged, and where it began
+
+abbrev judged : tie.After-struct-known2 Inv-loop μ-loop → tie.After-judge-parameter-row Inv-loop μ-loop
+judged c = c .before .before .before
+
+abbrev turn : tie.After-judge-parameter-row Inv-loop μ-loop → tie.At-loop Inv-loop μ-loop
+turn c = c .before .before
+
+-- where the call began
+abbrev entry : tie.At-loop Inv-loop μ-loop → tie.Start Inv-loop μ-loop
+entry k = k .before .before
+
+-- what the turn has not read yet
+abbrev unread : tie.After-struct-known2 Inv-loop μ-loop → List ℕ
+unread c = turn (judged c) .loop .rest .now
+
 loop-holds : tie.Need-loop-holds Inv-loop μ-loop
 loop-holds c = todo-all
 
@@ -24,15 +41,15 @@ judge-parameter-row-requires : tie.Need-judge-parameter-row-requires Inv-loop μ
 judge-parameter-row-requires c κs = search needs
 
 returns : tie.Need-returns Inv-loop μ-loop
-returns c = todo-refused (c .before .before .before .before .loop .inv) (c .before .before .before .loop-test .taken) (c .before .before .judge-parameter-row .ensures) (c .if1 .taken)
+returns c = let d = c .before .before in todo-refused (turn d .loop .inv) (d .before .loop-test .taken) (d .judge-parameter-row .ensures) (c .if1 .taken)
 
 -- what follows a row is the end of the unread rest
-ends : (c : tie.After-struct-known2 Inv-loop μ-loop) → let a = c .before .before .before .before .before .before .before .args in Ends (parameter-row (a .n) .rest (c .before .before .before .before .before .loop .rest .now)) (c .before .before .before .before .before .loop .rest .now)
+ends : (c : tie.After-struct-known2 Inv-loop μ-loop) → let a = entry (turn (judged c)) .args in Ends (parameter-row (a .n) .rest (unread c)) (unread c)
 unfolding parameter-row
-ends c = let a = c .before .before .before .before .before .before .before .args in field-ends parameter-tag (parameter-body (a .n)) (c .before .before .before .before .before .loop .rest .now)
+ends c = let a = entry (turn (judged c)) .args in field-ends parameter-tag (parameter-body (a .n)) (unread c)
 
-whole : (c : tie.After-struct-known2 Inv-loop μ-loop) → c .before .before .before .judge-parameter-row .result .left ≤ length (c .before .before .before .before .before .loop .rest .now)
-whole c = left-within (c .before .before .before .judge-parameter-row .ensures) (c .before .if1 .left) (ends c)
+whole : (c : tie.After-struct-known2 Inv-loop μ-loop) → judged c .judge-parameter-row .result .left ≤ length (unread c)
+whole c = left-within (judged c .judge-parameter-row .ensures) (c .before .if1 .left) (ends c)
 
 sub-at : tie.Need-sub-at Inv-loop μ-loop
 sub-at c = whole c
@@ -54,9 +71,10 @@ loop-less c = omega arith
 
 loop-again : tie.Need-loop-again Inv-loop μ-loop
 loop-again c =
-    let j = c .before .before .before .before .judge-parameter-row .ensures in
+    let d = judged (c .before) in
+    let j = d .judge-parameter-row .ensures in
     let z = c .before .before .if1 .left in
-    todo-next (c .before .before .before .before .before .before .loop .inv) (c .before .before .before .before .before .loop-test .taken) _ (accepted j z) (next-part j z (ends (c .before)))
+    todo-next (turn d .loop .inv) (d .before .loop-test .taken) _ (accepted j z) (next-part j z (ends (c .before)))
 
 returns-2 : tie.Need-returns-2 Inv-loop μ-loop
 returns-2 c = todo-done (c .before .loop .inv) (c .loop-test .left) refl refl

@@ -12,38 +12,56 @@ use Rattle.format.proofs.Judging.{accepted, left-within, next-part, seq
 use Rattle.format.proofs.judge.judge_row_fields.Statement.{statement}
 use Rattle.format.proofs.judge.judge_row_fields.Tie as tie
 
--- the pieces that are judged one after another
-abbrev constants : ℕ → ℕ → ℕ → Piece (List (List ℕ))
-constants p n a = many a (constant-row p n)
+-- the places: where the call began, where the constant rows are judged, and where they were found not to be refused
 
-abbrev parameters : ℕ → ℕ → Piece (List ℕ)
-parameters n b = many b (parameter-row n)
+abbrev entry : tie.After-judge-constant-rows → tie.Start
+entry c = c .before .before
 
-abbrev behind : ℕ → ℕ → Piece (List ℕ × Unit {0})
-behind n b = seq (parameters n b) (λ _. end-field)
+abbrev constants-judged : tie.After-struct-known2 → tie.After-judge-constant-rows
+constants-judged c = c .before .before .before
 
-constant-ends : (p n a : ℕ) (s : List ℕ) → Ends (constants p n a .rest s) s
+abbrev constants-passed : tie.After-judge-parameter-rows → tie.After-struct-known2
+constants-passed c = c .before .before
+
+-- the bytes of a call, and the pieces that are judged one after another
+
+abbrev bytes : tie.Start → List ℕ
+bytes s = s .args .rest .now
+
+abbrev constants : tie.Start → Piece (List (List ℕ))
+constants s = many (s .args .a) (constant-row (s .args .p) (s .args .n))
+
+abbrev parameters : tie.Start → Piece (List ℕ)
+parameters s = many (s .args .b) (parameter-row (s .args .n))
+
+abbrev behind : tie.Start → Piece (List ℕ × Unit {0})
+behind s = seq (parameters s) (λ _. end-field)
+
+constant-ends : (s : tie.Start) → Ends (constants s .rest (bytes s)) (bytes s)
 unfolding constant-row
-constant-ends p n a s = many-ends (constant-row p n) (field-ends constant-tag (constant-body p n)) a s
+constant-ends s = many-ends (constant-row (s .args .p) (s .args .n)) (field-ends constant-tag (constant-body (s .args .p) (s .args .n))) (s .args .a) (bytes s)
 
-parameter-ends : (n b : ℕ) (s : List ℕ) → Ends (parameters n b .rest s) s
+parameter-ends : (s : tie.Start) (rest : List ℕ) → Ends (parameters s .rest rest) rest
 unfolding parameter-row
-parameter-ends n b s = many-ends (parameter-row n) (field-ends parameter-tag (parameter-body n)) b s
+parameter-ends s rest = many-ends (parameter-row (s .args .n)) (field-ends parameter-tag (parameter-body (s .args .n))) (s .args .b) rest
 
--- what follows the constant rows
-rest : (c : tie.After-struct-known2) → let a = c .before .before .before .before .before .args in let s = a .rest .now in let left = c .before .before .before .judge-constant-rows .result .left in
-    take (length s - (length s - left)) (drop (length s - left) s) ≡ constants (a .p) (a .n) (a .a) .rest s
-rest c = let a = c .before .before .before .before .before .args in next-part (c .before .before .before .judge-constant-rows .ensures) (c .before .if1 .left) (constant-ends (a .p) (a .n) (a .a) (a .rest .now))
+-- the constant rows are not refused, and what follows them
+passed : (c : tie.After-struct-known2) → let s = entry (constants-judged c) in first-refusal (constants s .tests (bytes s)) ≡ 0
+passed c = accepted (constants-judged c .judge-constant-rows .ensures) (c .before .if1 .left)
+
+rest : (c : tie.After-struct-known2) → let j = constants-judged c in let s = bytes (entry j) in let left = j .judge-constant-rows .result .left in
+    take (length s - (length s - left)) (drop (length s - left) s) ≡ constants (entry j) .rest s
+rest c = let j = constants-judged c in next-part (j .judge-constant-rows .ensures) (c .before .if1 .left) (constant-ends (entry j))
 
 judge-constant-rows-requires : tie.Need-judge-constant-rows-requires
 judge-constant-rows-requires c κs = search needs
 
 returns : tie.Need-returns
 unfolding row-fields
-returns c = let a = c .before .before .before .before .args in seq-refused (constants (a .p) (a .n) (a .a)) (λ _. behind (a .n) (a .b)) _ _ (c .before .before .judge-constant-rows .ensures .refusal-is) (c .if1 .taken)
+returns c = let j = c .before .before in let s = entry j in seq-refused (constants s) (λ _. behind s) _ _ (j .judge-constant-rows .ensures .refusal-is) (c .if1 .taken)
 
 sub-at : tie.Need-sub-at
-sub-at c = left-within (c .before .before .before .judge-constant-rows .ensures) (c .before .if1 .left) (let a = c .before .before .before .before .before .args in constant-ends (a .p) (a .n) (a .a) (a .rest .now))
+sub-at c = let j = constants-judged c in left-within (j .judge-constant-rows .ensures) (c .before .if1 .left) (constant-ends (entry j))
 
 sub-rows : tie.Need-sub-rows
 sub-rows c = search needs
@@ -60,13 +78,16 @@ judge-parameter-rows-requires c κs = search needs
 returns-2 : tie.Need-returns-2
 unfolding row-fields
 returns-2 c =
-    let a = c .before .before .before .before .before .before .before .before .before .args in
-    let t = rest (c .before .before .before .before) in
-    seq-passed (constants (a .p) (a .n) (a .a)) (λ _. behind (a .n) (a .b)) _ _ (accepted (c .before .before .before .before .before .before .before .judge-constant-rows .ensures) (c .before .before .before .before .before .if1 .left))
-    (seq-refused (parameters (a .n) (a .b)) (λ _. end-field) _ _ (c .before .before .judge-parameter-rows .ensures .refusal-is ∙ ap (λ (u : List ℕ). first-refusal (parameters (a .n) (a .b) .tests u)) t) (c .if2 .taken))
+    let d = c .before .before in
+    let k = constants-passed d in
+    let s = entry (constants-judged k) in
+    seq-passed (constants s) (λ _. behind s) _ _ (passed k)
+    (seq-refused (parameters s) (λ _. end-field) _ _ (d .judge-parameter-rows .ensures .refusal-is ∙ ap (λ (u : List ℕ). first-refusal (parameters s .tests u)) (rest k)) (c .if2 .taken))
 
 sub-end : tie.Need-sub-end
-sub-end c = left-within (c .before .before .before .judge-parameter-rows .ensures) (c .before .if2 .left) (parameter-ends (c .before .before .before .before .before .before .before .before .before .before .args .n) (c .before .before .before .before .before .before .before .before .before .before .args .b) _)
+sub-end c =
+    let d = c .before .before .before in
+    left-within (d .judge-parameter-rows .ensures) (c .before .if2 .left) (parameter-ends (entry (constants-judged (constants-passed d))) _)
 
 sub-judge-end : tie.Need-sub-judge-end
 sub-judge-end c = search needs
@@ -83,13 +104,16 @@ judge-end-requires c κs = search needs
 returns-3 : tie.Need-returns-3
 unfolding row-fields
 returns-3 c =
-    let a = c .before .before .before .before .before .before .before .before .before .before .before .before .args in
-    let t = rest (c .before .before .before .before .before .before .before) in
-    let j = c .before .before .before .before .before .judge-parameter-rows .ensures in
-    let z = c .before .before .before .if2 .left in
-    seq-passed (constants (a .p) (a .n) (a .a)) (λ _. behind (a .n) (a .b)) _ _ (accepted (c .before .before .before .before .before .before .before .before .before .before .judge-constant-rows .ensures) (c .before .before .before .before .before .before .before .before .if1 .left))
-    (seq-passed (parameters (a .n) (a .b)) (λ _. end-field) _ _ (ap (λ (u : List ℕ). first-refusal (parameters (a .n) (a .b) .tests u)) (sym t) ∙ accepted j z)
-    (c .judge-end .ensures ∙ ap (λ (u : List ℕ). first-refusal (closed end-field u)) (next-part j z (parameter-ends (a .n) (a .b) _) ∙ ap (parameters (a .n) (a .b) .rest) t)))
+    let not-refused = c .before .before .before in
+    let d = not-refused .before .before in
+    let k = constants-passed d in
+    let s = entry (constants-judged k) in
+    let t = rest k in
+    let j = d .judge-parameter-rows .ensures in
+    let z = not-refused .if2 .left in
+    seq-passed (constants s) (λ _. behind s) _ _ (passed k)
+    (seq-passed (parameters s) (λ _. end-field) _ _ (ap (λ (u : List ℕ). first-refusal (parameters s .tests u)) (sym t) ∙ accepted j z)
+    (c .judge-end .ensures ∙ ap (λ (u : List ℕ). first-refusal (closed end-field u)) (next-part j z (parameter-ends s _) ∙ ap (parameters s .rest) t)))
 
 pub judge-row-fields-spec : {M : Type 1} → statement M
 judge-row-fields-spec =

@@ -2,8 +2,8 @@
 -- The measure is how many are left. Assumes nothing.
 use borrow.Author.Needs.{needs}
 use native.Mathlib.Omega.{arith}
-use Prim.Native.Nat.{_+_, _-_, _≤_, _<_}
-use mathlib.Core.List.{_∷_}
+use Prim.Native.Nat.{ℕ, _+_, _-_, _≤_, _<_}
+use mathlib.Core.List.{List, _∷_}
 use mathlib.Core.Path.{_≡_, refl, sym, _∙_}
 use native.Mathlib.Numerals.{add-one}
 use lib.ListN.{length, getD, take, drop, length-drop, drop-of-length-le}
@@ -25,9 +25,24 @@ Inv-loop out₀ set many end at₀ out at = let all = take many (bytes-of set-by
 abbrev μ-loop : tie.MeasureT-loop
 μ-loop out₀ set many end at₀ out at = end - at
 
--- so many bytes are written
-end-is : (c : tie.After-at-most-all Inv-loop μ-loop) → c .at-most-all .result ≡ length (take (c .before .before .args .many) (bytes-of set-bytes (whole (c .before .before .args .set))))
-end-is c = c .at-most-all .ensures ∙ sym (front-length (c .before .before .args .many) (bytes-of set-bytes (whole (c .before .before .args .set))))
+-- the places: where the call began, and where the end is known
+
+abbrev entry : tie.After-at-most-all Inv-loop μ-loop → tie.Start Inv-loop μ-loop
+entry c = c .before .before
+
+abbrev measured : tie.At-loop Inv-loop μ-loop → tie.After-at-most-all Inv-loop μ-loop
+measured k = k .before .before
+
+-- the bytes of the set, and those that are written
+
+abbrev set-all : tie.Start Inv-loop μ-loop → List ℕ
+set-all s = bytes-of set-bytes (whole (s .args .set))
+
+abbrev front : tie.Start Inv-loop μ-loop → List ℕ
+front s = take (s .args .many) (set-all s)
+
+end-is : (c : tie.After-at-most-all Inv-loop μ-loop) → c .at-most-all .result ≡ length (front (entry c))
+end-is c = let s = entry c in c .at-most-all .ensures ∙ sym (front-length (s .args .many) (set-all s))
 
 at-most-all-requires : tie.Need-at-most-all-requires Inv-loop μ-loop
 at-most-all-requires c κs = search needs
@@ -36,8 +51,8 @@ returns : tie.Need-returns Inv-loop μ-loop
 unfolding area-test
 returns c =
     let e = end-is (c .before) in
-    let a = c .before .before .before .args in
-    let short : length (a .out .now) < length (take (a .many) (bytes-of set-bytes (whole (a .set)))) = omega arith in
+    let s = entry (c .before) in
+    let short : length (s .args .out .now) < length (front s) = omega arith in
     record { refusal-is = first-fails _ _ _ (lt-leb _ _ short); bytes-are = over-no-room _ _ short }
 
 loop-holds : tie.Need-loop-holds Inv-loop μ-loop
@@ -48,27 +63,27 @@ byte-requires c κs = search needs
 
 slice-write-out : tie.Need-slice-write-out Inv-loop μ-loop
 slice-write-out c =
-    let l = c .before .before .loop in
-    let a = c .before .before .before .before .before .before .args in
-    omega (arith, end-is (c .before .before .before .before), l .inv .0 .room, length-drop (l .at) (take (a .many) (bytes-of set-bytes (whole (a .set)))))
+    let k = c .before .before in
+    let l = k .loop in
+    omega (arith, end-is (measured k), l .inv .0 .room, length-drop (l .at) (front (entry (measured k))))
 
 add-at : tie.Need-add-at Inv-loop μ-loop
-add-at c = let e = end-is (c .before .before .before .before) in omega arith
+add-at c = let e = end-is (measured (c .before .before)) in omega arith
 
 loop-less : tie.Need-loop-less Inv-loop μ-loop
-loop-less c = let e = end-is (c .before .before .before .before) in omega arith
+loop-less c = let e = end-is (measured (c .before .before)) in omega arith
 
 loop-again : tie.Need-loop-again Inv-loop μ-loop
 loop-again c =
-    let l = c .before .before .loop in
-    let a = c .before .before .before .before .before .before .args in
-    let set = bytes-of set-bytes (whole (a .set)) in
-    let all = take (a .many) set in
-    let e = end-is (c .before .before .before .before) in
-    let f = front-length (a .many) set in
-    let below : l .at < length all = omega arith in
-    let byte : getD all (l .at) 0 ≡ c .byte .result = getD-take (a .many) set (l .at) 0 (omega arith) ∙ sym (c .byte .ensures) in
-    let next : drop (l .at) all ≡ c .byte .result ∷ drop (l .at + 1) all = drop-cons all (l .at) 0 below ∙ rw (byte, add-one) refl in
+    let k = c .before .before in
+    let l = k .loop in
+    let s = entry (measured k) in
+    let many = s .args .many in
+    let e = end-is (measured k) in
+    let f = front-length many (set-all s) in
+    let below : l .at < length (front s) = omega arith in
+    let byte : getD (front s) (l .at) 0 ≡ c .byte .result = getD-take many (set-all s) (l .at) 0 (omega arith) ∙ sym (c .byte .ensures) in
+    let next : drop (l .at) (front s) ≡ c .byte .result ∷ drop (l .at + 1) (front s) = drop-cons (front s) (l .at) 0 below ∙ rw (byte, add-one) refl in
     (wrote-set (c .byte .result) _ (l .inv .0) next, omega arith)
 
 same-length : tie.Need-same-length Inv-loop μ-loop
@@ -78,13 +93,12 @@ returns-2 : tie.Need-returns-2 Inv-loop μ-loop
 unfolding area-test
 returns-2 c =
     let l = c .before .loop in
-    let a = c .before .before .before .before .before .args in
-    let all = take (a .many) (bytes-of set-bytes (whole (a .set))) in
-    let e = end-is (c .before .before .before) in
-    let fits : length all ≤ length (a .out .now) = omega arith in
+    let s = entry (measured (c .before)) in
+    let e = end-is (measured (c .before)) in
+    let fits : length (front s) ≤ length (s .args .out .now) = omega arith in
     record {
       refusal-is = sym (zero-unless _ _ (le-leb _ _ fits));
-      bytes-are = wrote-all (l .inv .0) (drop-of-length-le all {i = l .at} (omega arith)) ∙ sym (over-room-fits all (a .out .now) fits);
+      bytes-are = wrote-all (l .inv .0) (drop-of-length-le (front s) {i = l .at} (omega arith)) ∙ sym (over-room-fits (front s) (s .args .out .now) fits);
     }
 
 pub put-set-front-spec : {M : Type 1} → statement M

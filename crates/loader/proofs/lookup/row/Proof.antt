@@ -17,13 +17,24 @@ use Rattle.loader.proofs.lookup.row.Tie as tie
 bytes : (c : tie.After-shared-slice-known) → AreBytes (c .before .args .file .now)
 bytes c i = search (needs, c .shared-slice-known .given i)
 
+-- the places: where the bytes from the row on are counted, where the row is accepted, and where the call began
+
+abbrev counted : tie.After-said-length → tie.After-left-after
+counted c = c .before .before
+
+abbrev accepted : tie.After-said-length → tie.Else1
+accepted c = counted c .before
+
+abbrev entry : tie.After-said-length → tie.Start
+entry c = accepted c .before .before .before
+
 -- where the row lies: so many bytes before the end, as long as its head says
-place : (c : tie.After-said-length) → let s = c .before .before .before .before .before .before .args .file .now in let left = c .before .before .left-after .result in let size = c .said-length .result in
-    (lookup-start s (c .before .before .before .before .before .before .args .i) ≡ length s - left + head-bytes) × (lookup-length s (c .before .before .before .before .before .before .args .i) ≡ size) × (head-bytes + size ≤ left) × (left ≤ length s)
+place : (c : tie.After-said-length) → let a = entry c .args in let s = a .file .now in let left = counted c .left-after .result in let size = c .said-length .result in
+    (lookup-start s (a .i) ≡ length s - left + head-bytes) × (lookup-length s (a .i) ≡ size) × (head-bytes + size ≤ left) × (left ≤ length s)
 place c =
-    let a = c .before .before .before .before .before .before .args in
-    let left = c .before .before .left-after in
-    lookup-place (a .file .now) (a .i) _ (c .before .before .before .before .judge-row .ensures) (c .before .before .before .if1 .left) _ _ (left .ensures)
+    let a = entry c .args in
+    let left = counted c .left-after in
+    lookup-place (a .file .now) (a .i) _ (accepted c .before .judge-row .ensures) (accepted c .if1 .left) _ _ (left .ensures)
     (c .said-length .ensures .0 ∙ ap said-length (left-part (said-rests-ends _ (a .file .now)) (left .ensures)))
 
 judge-row-requires : tie.Need-judge-row-requires
@@ -76,8 +87,8 @@ part-result-end c = omega (arith, place c)
 returns-2 : tie.Need-returns-2
 returns-2 c =
     let l = place (c .before) in
-    let a = c .before .before .before .before .before .before .before .args in
-    let at = length (a .file .now) - c .before .before .before .left-after .result in
+    let a = entry (c .before) .args in
+    let at = length (a .file .now) - counted (c .before) .left-after .result in
     let size = c .before .said-length .result in
     let q : at + head-bytes + size - (at + head-bytes) ≡ size = omega arith in
     let len : length (take (at + head-bytes + size - (at + head-bytes)) (drop (at + head-bytes) (a .file .now))) ≡ size = rw q (length-take-le size _ (rw length-drop (omega arith))) in

@@ -21,13 +21,24 @@ Inv-loop out₀ file a rest₀ at₀ todo₀ out rest at todo = Wrote (constants
 abbrev μ-loop : tie.MeasureT-loop
 μ-loop out₀ file a rest₀ at₀ todo₀ out rest at todo = todo
 
+-- the places: where the call began, and of a turn where its constants are read and where it began
+
+abbrev entry : tie.At-loop Inv-loop μ-loop → tie.Start Inv-loop μ-loop
+entry k = k .before .before .before
+
+abbrev row-read : tie.After-slice-known2 Inv-loop μ-loop → tie.After-read-entries Inv-loop μ-loop
+row-read c = c .before .before
+
+abbrev turn : tie.After-read-entries Inv-loop μ-loop → tie.In-loop Inv-loop μ-loop
+turn c = c .before .before .before
+
 -- while rows are left, the area has room for the next one
 room : (c : tie.In-loop Inv-loop μ-loop) → let l = c .before .loop in
     (l .at + length (entries (said-body (l .rest .now))) ≤ length (l .out)) × (length (entries (said-body (l .rest .now))) ≤ length (take (length (l .out) - l .at) (drop (l .at) (l .out))))
 room c = let l = c .before .loop in room-left (entries (said-body (l .rest .now))) _ (l .inv) (constants-next (l .todo) (l .rest .now) (omega arith))
 
 -- its constants are put there
-read : (c : tie.After-read-entries Inv-loop μ-loop) → let l = c .before .before .before .before .loop in
+read : (c : tie.After-read-entries Inv-loop μ-loop) → let l = turn c .before .loop in
     Put (entries (said-body (l .rest .now))) (take (length (l .out) - l .at) (drop (l .at) (l .out))) (c .read-entries .last .0) (c .read-entries .result)
 read c = rw (c .before .said-body .ensures .bytes-are) at (c .read-entries .ensures)
 
@@ -35,7 +46,7 @@ loop-holds : tie.Need-loop-holds Inv-loop μ-loop
 loop-holds c = wrote-none _ _ (c .before .before .pre)
 
 mul-read-entries : tie.Need-mul-read-entries Inv-loop μ-loop
-mul-read-entries c = omega (arith, room c, c .before .before .before .before .good)
+mul-read-entries c = omega (arith, room c, entry (c .before) .good)
 
 sub-read-entries : tie.Need-sub-read-entries Inv-loop μ-loop
 sub-read-entries c = omega (arith, room c)
@@ -53,7 +64,7 @@ read-entries-requires : tie.Need-read-entries-requires Inv-loop μ-loop
 read-entries-requires c κs = rw (c .said-body .ensures .bytes-are) (room (c .before .before) .1)
 
 add-at : tie.Need-add-at Inv-loop μ-loop
-add-at c = let k = read (c .before .before) .many-is in omega (arith, room (c .before .before .before .before .before), c .before .before .before .before .before .before .before .before .before .good)
+add-at c = let m = read (row-read c) .many-is in omega (arith, room (turn (row-read c)), entry (turn (row-read c) .before) .good)
 
 said-rest-requires : tie.Need-said-rest-requires Inv-loop μ-loop
 said-rest-requires c κs = search needs
@@ -66,9 +77,10 @@ loop-less c = omega arith
 
 loop-again : tie.Need-loop-again Inv-loop μ-loop
 loop-again c =
-    let l = c .before .before .before .before .before .before .before .loop in
+    let d = row-read (c .before) in
+    let l = turn d .before .loop in
     let r = l .rest .now in
-    wrote-put (entries (said-body r)) _ _ (l .inv) (constants-next (l .todo) r (omega arith) ∙ ap (λ (s : List ℕ). entries (said-body r) ++ constants-said (l .todo - 1) s) (sym (c .said-rest .ensures .bytes-are))) (read (c .before .before .before))
+    wrote-put (entries (said-body r)) _ _ (l .inv) (constants-next (l .todo) r (omega arith) ∙ ap (λ (s : List ℕ). entries (said-body r) ++ constants-said (l .todo - 1) s) (sym (c .said-rest .ensures .bytes-are))) (read d)
 
 same-length : tie.Need-same-length Inv-loop μ-loop
 same-length c = c .before .loop .inv .same

@@ -20,11 +20,15 @@ Inv-loop out₀ body rest₀ at₀ out rest at = Wrote (entries body) (entries r
 abbrev μ-loop : tie.MeasureT-loop
 μ-loop out₀ body rest₀ at₀ out rest at = length rest
 
+-- the turn in which two bytes are read
+abbrev turn : tie.After-two Inv-loop μ-loop → tie.In-loop Inv-loop μ-loop
+turn c = c .before .before .before
+
 -- while entries are left, the area has room for the next one
-room : (c : tie.After-two Inv-loop μ-loop) → (c .before .before .before .before .loop .at + 1 ≤ length (c .before .before .before .before .loop .out))
+room : (c : tie.After-two Inv-loop μ-loop) → let l = turn c .before .loop in l .at + 1 ≤ length (l .out)
 room c =
-    let l = c .before .before .before .before .loop in
-    omega (arith, ap length (entries-next (l .rest .now) (c .before .before .before .loop-test .taken)), l .inv .room)
+    let l = turn c .before .loop in
+    omega (arith, ap length (entries-next (l .rest .now) (turn c .loop-test .taken)), l .inv .room)
 
 loop-holds : tie.Need-loop-holds Inv-loop μ-loop
 loop-holds c = wrote-none _ _ (c .before .before .pre)
@@ -64,10 +68,12 @@ loop-less c = simp (length-take, length-drop) (omega arith)
 
 loop-again : tie.Need-loop-again Inv-loop μ-loop
 loop-again c =
-    let l = c .before .before .before .before .before .loop in
+    let k = turn (c .before) in
+    let l = k .before .loop in
     let r = l .rest .now in
-    wrote-set (c .before .two .result) _ (l .inv)
-    (entries-next r (c .before .before .before .before .loop-test .taken) ∙ ap (λ (x : ℕ). x ∷ entries (drop 2 r)) (sym (c .before .two .ensures .0)) ∙ ap (λ (s : List ℕ). c .before .two .result ∷ entries s) (sym (tail-part 2 r)))
+    let x = c .before .two in
+    wrote-set (x .result) _ (l .inv)
+    (entries-next r (k .loop-test .taken) ∙ ap (λ (y : ℕ). y ∷ entries (drop 2 r)) (sym (x .ensures .0)) ∙ ap (λ (s : List ℕ). x .result ∷ entries s) (sym (tail-part 2 r)))
 
 same-length : tie.Need-same-length Inv-loop μ-loop
 same-length c = c .before .loop .inv .same

@@ -16,15 +16,51 @@ use Rattle.format.specs.File.Steps.{constants-said, parameters-said}
 use Rattle.format.proofs.Headers.{header-refusal}
 use Rattle.format.proofs.Parts.{ends-within, said-rests-ends, left-part}
 use Rattle.format.proofs.Walking.{rows-said}
-use Rattle.loader.proofs.Reading.{Numbers, Sizes-are, numbers-accepted, constants-count, reading-refused, constants-short, parameters-short, reading-done}
+use Rattle.loader.proofs.Reading.{Numbers, Sizes-are, numbers-accepted, constants-fit, reading-refused, constants-short, parameters-short, reading-done}
 use Rattle.loader.proofs.read.read_file.Statement.{statement}
 use Rattle.loader.proofs.read.read_file.Tie as tie
 
 bytes : (c : tie.After-shared-slice-known) → AreBytes (c .before .args .file .now)
 bytes c i = search (needs, c .shared-slice-known .given i)
 
+-- the places before the rows are found: where the areas are lent, where the call began, where the sizes are known, where the
+-- constants' area is found to hold them, and where the file was accepted
+
+abbrev lent : tie.After-sizes-of → tie.After-slice-known2
+lent c = c .before .before
+
+abbrev entry : tie.After-sizes-of → tie.Start
+entry c = lent c .before .before .before
+
+abbrev sized : tie.Else1 → tie.After-sizes-of
+sized c = c .before .before
+
+abbrev constants-held : tie.After-rows → tie.Else2
+constants-held c = c .before .before
+
+abbrev passed : tie.After-rows → tie.Else1
+passed c = constants-held c .before .before
+
+-- the places behind: where the rows are found, where the constants are read, where the parameter rows are found, and where these are read
+
+abbrev rows-found : tie.After-read-constants → tie.After-left-after
+rows-found c = c .before .before .before
+
+abbrev constants-read : tie.After-left-after2 → tie.After-read-constants
+constants-read c = c .before .before .before
+
+abbrev parameters-found : tie.After-read-parameters → tie.After-left-after2
+parameters-found c = c .before .before .before
+
+abbrev parameters-read : tie.After-slice-known4 → tie.After-read-parameters
+parameters-read c = c .before .before
+
+-- the file of the call
+abbrev file : tie.After-sizes-of → List ℕ
+file c = entry c .args .file .now
+
 -- the numbers of the header
-numbers : (c : tie.After-sizes-of) → let z = c .sizes-of .result in Numbers (c .before .before .before .before .before .args .file .now) (z .refusal) (z .p) (z .n) (z .a) (z .b)
+numbers : (c : tie.After-sizes-of) → let z = c .sizes-of .result in Numbers (file c) (z .refusal) (z .p) (z .n) (z .a) (z .b)
 numbers c =
     let h = c .before .read-header .ensures in
     let z = c .sizes-of .ensures in
@@ -36,16 +72,20 @@ numbers c =
       b-is = z .4 ∙ ap (λ (h : Header). h .b) h;
     }
 
-accepted : (c : tie.Else1) → judge (c .before .before .before .before .before .before .before .args .file .now) ≡ 0
-accepted c = sym (numbers (c .before .before) .refusal-is) ∙ c .if1 .left
+accepted : (c : tie.Else1) → judge (file (sized c)) ≡ 0
+accepted c = sym (numbers (sized c) .refusal-is) ∙ c .if1 .left
 
-sizes : (c : tie.Else1) → let z = c .before .before .sizes-of .result in Sizes-are (c .before .before .before .before .before .before .before .args .file .now) (z .p) (z .n) (z .a) (z .b)
-sizes c = numbers-accepted (numbers (c .before .before)) (accepted c)
+sizes : (c : tie.Else1) → let z = sized c .sizes-of .result in Sizes-are (file (sized c)) (z .p) (z .n) (z .a) (z .b)
+sizes c = numbers-accepted (numbers (sized c)) (accepted c)
+
+-- the area of the parameter rows holds them
+parameters-held : (c : tie.Else3) → let d = sized (passed (c .before)) in d .sizes-of .result .b ≤ length (row-numbers (entry d .args .parameters .now))
+parameters-held c = rw (c .before .rows .ensures) at (c .if3 .left)
 
 -- the rows stand behind two fields
-rows : (c : tie.After-left-after) → let s = c .before .before .before .before .before .before .before .before .before .before .before .before .before .args .file .now in let left = c .left-after .result in
+rows : (c : tie.After-left-after) → let s = file (sized (passed (c .before .before))) in let left = c .left-after .result in
     take (length s - (length s - left)) (drop (length s - left) s) ≡ rows-part s
-rows c = left-part (said-rests-ends 2 _) (c .left-after .ensures) ∙ rows-said _ (accepted (c .before .before .before .before .before .before))
+rows c = left-part (said-rests-ends 2 _) (c .left-after .ensures) ∙ rows-said _ (accepted (passed (c .before .before)))
 
 read-header-requires : tie.Need-read-header-requires
 read-header-requires c κs = search needs
@@ -80,8 +120,9 @@ same-length c = refl
 
 returns-3 : tie.Need-returns-3
 returns-3 c = let z = c .no-sizes2 .ensures in
-    let d = c .before .before .before .before .before .before in
-    rw (z .0, z .1, z .2, z .3, z .4) (parameters-short _ _ _ (accepted d) (sizes d) (c .before .before .before .before .if2 .left) (rw (c .before .before .rows .ensures) at (c .before .if3 .taken)))
+    let held = c .before .before in
+    let d = passed held in
+    rw (z .0, z .1, z .2, z .3, z .4) (parameters-short _ _ _ (accepted d) (sizes d) (constants-held held .if2 .left) (rw (held .rows .ensures) at (c .before .if3 .taken)))
 
 left-after-requires : tie.Need-left-after-requires
 left-after-requires c κs = search needs
@@ -99,9 +140,11 @@ part-rows-end : tie.Need-part-rows-end
 part-rows-end c = search needs
 
 read-constants-requires : tie.Need-read-constants-requires
-read-constants-requires c κs = let d = c .before .before .before .before .before .before .before .before in
-    let x = sizes d in
-    rw (rows (c .before .before), x .a-is, constants-count _ (bytes (c .before .before .before .before .before .before .before .before .before .before .before .before .before .before)) (accepted d)) (rw (x .a-is, x .n-is) at (c .before .before .before .before .before .before .if2 .left))
+read-constants-requires c κs =
+    let found = c .before .before in
+    let held = found .before .before in
+    let d = passed held in
+    rw (rows found) (constants-fit (bytes (lent (sized d) .before .before)) (accepted d) (sizes d) _ (constants-held held .if2 .left))
 
 left-after-requires-2 : tie.Need-left-after-requires-2
 left-after-requires-2 c κs = search needs
@@ -128,14 +171,18 @@ same-length-3 : tie.Need-same-length-3
 same-length-3 c = search needs
 
 returns-4 : tie.Need-returns-4
-returns-4 c = let args = c .before .before .before .before .before .before .before .before .before .before .before .before .before .before .before .before .before .before .before .before .before .before .before .before .args in
-    let d = c .before .before .before .before .before .before .before .before .before .before .before .before .before .before .before .before .before in
-    let z = d .before .before .sizes-of in
-    let t = rows (c .before .before .before .before .before .before .before .before .before .before .before) in
-    let constants = c .before .before .before .before .before .before .before .before .read-constants .ensures ∙ ap (λ (u : List ℕ). over (constants-said (z .result .a) u) (args .constants .now)) t in
-    let left = left-part (said-rests-ends (z .result .a) _) (c .before .before .before .before .before .left-after2 .ensures) ∙ ap (said-rests (z .result .a)) t in
-    let parameters = c .before .before .read-parameters .ensures ∙ ap (λ (u : List ℕ). over (parameters-said (z .result .b) u) (row-numbers (args .parameters .now))) left in
-    rw (d .if1 .left) (reading-done _ _ _ (accepted d) (sizes d) (c .before .before .before .before .before .before .before .before .before .before .before .before .before .before .before .if2 .left) (rw (c .before .before .before .before .before .before .before .before .before .before .before .before .before .rows .ensures) at (c .before .before .before .before .before .before .before .before .before .before .before .before .if3 .left)) _ _ constants parameters)
+returns-4 c =
+    let behind = parameters-found (parameters-read c) in
+    let found = rows-found (constants-read behind) in
+    let held = found .before .before in
+    let d = passed held in
+    let z = sized d .sizes-of .result in
+    let a = entry (sized d) .args in
+    let t = rows found in
+    let constants = constants-read behind .read-constants .ensures ∙ ap (λ (u : List ℕ). over (constants-said (z .a) u) (a .constants .now)) t in
+    let left = left-part (said-rests-ends (z .a) _) (behind .left-after2 .ensures) ∙ ap (said-rests (z .a)) t in
+    let parameters = parameters-read c .read-parameters .ensures ∙ ap (λ (u : List ℕ). over (parameters-said (z .b) u) (row-numbers (a .parameters .now))) left in
+    rw (d .if1 .left) (reading-done _ _ _ (accepted d) (sizes d) (constants-held held .if2 .left) (parameters-held (found .before)) _ _ constants parameters)
 
 pub read-file-spec : {M : Type 1} → statement M
 read-file-spec =

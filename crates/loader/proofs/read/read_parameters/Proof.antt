@@ -23,6 +23,21 @@ Inv-loop out₀ file b rest₀ at₀ out rest at = Wrote (parameters-said b file
 abbrev μ-loop : tie.MeasureT-loop
 μ-loop out₀ file b rest₀ at₀ out rest at = b - at
 
+-- the places of a turn: where its row is put, where the row's body is read, and where it began
+
+abbrev put : tie.After-said-rest Inv-loop μ-loop → tie.After-put-row Inv-loop μ-loop
+put c = c .before .before .before
+
+abbrev body-read : tie.After-said-rest Inv-loop μ-loop → tie.After-said-body Inv-loop μ-loop
+body-read c = put c .before .before
+
+abbrev turn : tie.After-said-rest Inv-loop μ-loop → tie.In-loop Inv-loop μ-loop
+turn c = body-read c .before .before
+
+-- where the call began
+abbrev entry : tie.At-loop Inv-loop μ-loop → tie.Start Inv-loop μ-loop
+entry k = k .before .before .before
+
 loop-holds : tie.Need-loop-holds Inv-loop μ-loop
 loop-holds c = let a = c .before .before .args in
     let all : a .b - 0 ≡ a .b = omega arith in
@@ -48,18 +63,18 @@ loop-less c = omega arith
 
 loop-again : tie.Need-loop-again Inv-loop μ-loop
 loop-again c =
-    let put = c .before .before .before .put-row in
-    let of-bytes = c .before .before .before .before .of-bytes in
-    let body = c .before .before .before .before .before .said-body in
-    let k = c .before .before .before .before .before .before .before .before in
+    let is-put = put c .put-row .ensures in
+    let of-bytes = put c .before .of-bytes in
+    let body = body-read c .said-body in
+    let k = turn c .before in
     let l = k .loop in
     let r = l .rest .now in
-    let b = k .before .before .before .args .b in
+    let b = entry k .args .b in
     let w = whole (of-bytes .result) in
     let q : b - l .at - 1 ≡ b - (l .at + 1) = omega arith in
     let is-row : number (take set-bytes (said-body r)) ≡ w = ap (λ (t : List ℕ). number (take set-bytes t)) (sym (body .ensures .bytes-are)) ∙ sym (of-bytes .ensures) in
-    let written = ap row-numbers (put .ensures) ∙ rows-with-row (l .out) (l .at) w in
-    (rw written (wrote-set w _ (l .inv .0) (parameters-next (b - l .at) r (omega arith) ∙ rw (q, is-row, ← c .said-rest .ensures .bytes-are) refl)), omega arith, ap length (put .ensures) ∙ with-row-length (l .out) (l .at) w ∙ l .inv .2)
+    let written = ap row-numbers is-put ∙ rows-with-row (l .out) (l .at) w in
+    (rw written (wrote-set w _ (l .inv .0) (parameters-next (b - l .at) r (omega arith) ∙ rw (q, is-row, ← c .said-rest .ensures .bytes-are) refl)), omega arith, ap length is-put ∙ with-row-length (l .out) (l .at) w ∙ l .inv .2)
 
 same-length : tie.Need-same-length Inv-loop μ-loop
 same-length c = c .before .loop .inv .2
