@@ -9,9 +9,9 @@ use Rattle.columns.specs.Words.Operations.{within-iff}
 use Rattle.columns.specs.Words.Sets.{columns-below}
 use Rattle.exchange.specs.Sizes.{lines}
 use Rattle.exchange.specs.Code.Scanning.{owner-at}
-use Rattle.exchange.specs.Code.Held.{held-shows}
-use Rattle.exchange.specs.Code.Offering.{offers-start, offers-some}
-use Rattle.exchange.specs.Code.Answer.{missing-below, solved}
+use Rattle.exchange.proofs.HeldLaws.{held-shows}
+use Rattle.exchange.proofs.OfferingLaws.{offers-start, offers-some}
+use Rattle.exchange.proofs.AnswerLaws.{missing-below, solved}
 use borrow.Author.Needs.{needs}
 use native.Mathlib.Omega.{arith}
 use Rattle.exchange.proofs.answer.Statement.{statement}

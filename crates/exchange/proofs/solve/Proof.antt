@@ -14,8 +14,8 @@ use Rattle.rank.specs.Modulus.{residue-of}
 use Rattle.exchange.specs.Sizes.{cells}
 use Rattle.exchange.specs.Solve.{admissible}
 use Rattle.exchange.specs.SolveLaws.{all-below-iff, Admissible, admissible-reads}
-use Rattle.exchange.specs.Code.Cells.{zeros-below, filled-below}
 use Rattle.exchange.specs.Code.Held.{Given}
+use Rattle.exchange.proofs.CellLaws.{zeros-below, filled-below}
 use borrow.Author.Needs.{needs}
 use native.Mathlib.Omega.{arith}
 use Rattle.exchange.proofs.solve.Statement.{statement}

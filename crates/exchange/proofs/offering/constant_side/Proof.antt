@@ -6,7 +6,8 @@ use Rattle.columns.specs.Columns.{members, inserted}
 use Rattle.columns.specs.ColumnSets.{whole}
 use Rattle.columns.specs.Words.Sets.{empty-none}
 use Rattle.exchange.specs.Code.Scanning.{owner-at}
-use Rattle.exchange.specs.Code.Answer.{Side, side-none, side-more, side-skip}
+use Rattle.exchange.specs.Code.Answer.{Side}
+use Rattle.exchange.proofs.AnswerLaws.{side-none, side-more, side-skip}
 use borrow.Author.Needs.{needs}
 use native.Mathlib.Omega.{arith}
 use Rattle.exchange.proofs.offering.constant_side.Statement.{statement}

@@ -14,7 +14,8 @@ use Rattle.columns.specs.Words.SetLaws.{removed-less, least-there, nothing-in}
 use Rattle.exchange.specs.Code.Scanning.{Arrays}
 use Rattle.exchange.specs.Code.Held.{Given}
 use Rattle.exchange.specs.Code.Placing.{Placing}
-use Rattle.exchange.specs.Code.Offering.{Offers, Offering, offering-start, offering-yes, offering-no, offering-done, next-below, next-offered, next-new}
+use Rattle.exchange.specs.Code.Offering.{Offers}
+use Rattle.exchange.proofs.OfferingLaws.{Offering, offering-start, offering-yes, offering-no, offering-done, next-below, next-offered, next-new}
 use borrow.Author.Needs.{needs}
 use native.Mathlib.Omega.{arith}
 use Rattle.exchange.proofs.offering.offer_all.Statement.{statement}

@@ -10,8 +10,8 @@ use Rattle.columns.specs.ColumnSets.{whole, row-numbers}
 use Rattle.columns.specs.Words.Sets.{empty-none}
 use Rattle.exchange.specs.Code.Cells.{Below}
 use Rattle.exchange.specs.Code.Scanning.{Lengths, Arrays}
-use Rattle.exchange.specs.Code.Held.{held-shows}
-use Rattle.exchange.specs.Code.Placing.{Seeks, seeks, Finds, finds, Holds, holds-first, same-placed-refl, found-below, turn-holds, turn-nearer, last-turn}
+use Rattle.exchange.proofs.HeldLaws.{held-shows}
+use Rattle.exchange.proofs.PlacingLaws.{Seeks, seeks, Finds, finds, Holds, holds-first, same-placed-refl, found-below, turn-holds, turn-nearer, last-turn}
 use borrow.Author.Needs.{needs}
 use native.Mathlib.Omega.{arith}
 use Rattle.exchange.proofs.seating.place.Statement.{statement}
