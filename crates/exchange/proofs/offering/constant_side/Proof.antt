@@ -19,6 +19,10 @@ Inv-loop owner n a side₀ q₀ side q = (q ≤ a) × Side n q owner (members (w
 abbrev μ-loop : tie.MeasureT-loop
 μ-loop owner n a side₀ q₀ side q = a - q
 
+-- where a turn begins
+abbrev turn : tie.After-widened Inv-loop μ-loop → tie.At-loop Inv-loop μ-loop
+turn c = c .before .before .before
+
 empty-requires : tie.Need-empty-requires Inv-loop μ-loop
 empty-requires c κs = search needs
 
@@ -42,8 +46,8 @@ loop-less c = search needs
 
 loop-again : tie.Need-loop-again Inv-loop μ-loop
 loop-again c =
-    let l = c .before .before .before .before .loop in
-    let a = c .before .before .before .before .before .before .args in
+    let l = turn (c .before) .loop in
+    let a = turn (c .before) .before .before .args in
     let y = c .before .widened .result in
     let ey : y ≡ owner-at (a .owner .now) (l .q) = c .before .widened .ensures .0 in (
       search needs,
