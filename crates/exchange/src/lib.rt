@@ -11,7 +11,7 @@ ghost use Rattle.counting.specs.Sets.{_∈_};
 ghost use Rattle.columns.specs.Columns.{members, within};
 ghost use Rattle.columns.specs.ColumnSets.{whole, row-numbers};
 ghost use Rattle.exchange.specs.Solve.{Nothing, SolvedBy, Solves};
-ghost use Rattle.exchange.specs.Code.Cells.{Tableau};
+ghost use Rattle.exchange.specs.Code.Cells.{TableauArray};
 ghost use Rattle.exchange.specs.Code.Held.{Given, model-of, ShowsConstants};
 
 mod admission;
@@ -61,7 +61,7 @@ fn answer(
     b: usize,
     offered: ColumnSet,
 ) -> Solution
-    requires { ⌜ Tableau p (now t) × (n ≤ most-columns) × (a ≤ most-rows) × (b ≤ most-rows) × (within n (whole offered) ≡ true) × (is-prime p ≡ true) ⌝ }
+    requires { ⌜ TableauArray p (now t) × (n ≤ most-columns) × (a ≤ most-rows) × (b ≤ most-rows) × (within n (whole offered) ≡ true) × (is-prime p ≡ true) ⌝ }
     ensures { λ r. ⌜ (r .valid ≡ true) × ((G : Given p n b (row-numbers (now (parameters .entry)))) → ShowsConstants p n a b (row-numbers (now (parameters .entry))) G (now (t .entry)) → ((x : ℕ) → (x ∈ members (whole offered)) ↔ ((x < n) × (x ∈ G .E))) → SolvedBy (model-of p n a b (row-numbers (now (parameters .entry))) G) r) ⌝ }
 {
     let mut owner = [n as u8; LINES];

@@ -9,13 +9,32 @@ use Rattle.columns.specs.Words.Operations.{within-iff}
 use Rattle.columns.specs.Words.Sets.{columns-below}
 use Rattle.exchange.specs.Sizes.{lines}
 use Rattle.exchange.specs.Code.Scanning.{owner-at}
-use Rattle.exchange.specs.Code.Held.{held-shows}
-use Rattle.exchange.specs.Code.Offering.{offers-start, offers-some}
-use Rattle.exchange.specs.Code.Answer.{missing-below, solved}
+use Rattle.exchange.proofs.HeldLaws.{held-shows}
+use Rattle.exchange.proofs.OfferingLaws.{offers-start, offers-some}
+use Rattle.exchange.proofs.AnswerLaws.{missing-below, solved}
 use borrow.Author.Needs.{needs}
 use native.Mathlib.Omega.{arith}
 use Rattle.exchange.proofs.answer.Statement.{statement}
 use Rattle.exchange.proofs.answer.Tie as tie
+
+-- where each call has answered, from the last back to the first; and where the function begins
+abbrev sided : tie.After-short → tie.After-constant-side
+sided c = c .before .before .before
+
+abbrev counted : tie.After-short → tie.After-size
+counted c = sided c .before .before
+
+abbrev searched : tie.After-short → tie.After-search
+searched c = counted c .before
+
+abbrev missed : tie.After-short → tie.After-difference
+missed c = searched c .before .before .before
+
+abbrev offered : tie.After-short → tie.After-offer-all
+offered c = missed c .before
+
+abbrev begun : tie.After-owner → tie.Start
+begun c = c .before .before .before
 
 -- every row is free at first
 none-owned : (n N : ℕ) → N ≤ lines → (q : ℕ) → q < N → owner-at (replicate lines n) q ≡ n
@@ -26,7 +45,7 @@ cast-owner c = search needs
 
 offer-all-requires : tie.Need-offer-all-requires
 offer-all-requires c κs =
-    let k = c .before .before .before in
+    let k = begun c in
     let a = k .args in
     let below : (x : ℕ) → x ∈ members (whole (a .offered)) → x < a .n = λ x e. within-iff (a .n) (whole (a .offered)) .0 (k .pre .4) x (columns-below (a .offered) x (search needs) e) e in (
       record {
@@ -58,12 +77,12 @@ row-columns-requires c κs = search needs
 returns : tie.Need-returns
 returns c =
     let rows = c .before .row-columns in
-    let side = c .before .before .before .constant-side in
-    let count = c .before .before .before .before .before .size in
-    let found = c .before .before .before .before .before .before .search in
-    let missing = c .before .before .before .before .before .before .before .before .before .difference in
-    let offers = c .before .before .before .before .before .before .before .before .before .before .offer-all in
-    let k = c .before .before .before .before .before .before .before .before .before .before .before .before .before .before in
+    let side = sided c .constant-side in
+    let count = counted c .size in
+    let found = searched c .search in
+    let missing = missed c .difference in
+    let offers = offered c .offer-all in
+    let k = begun (offered c .before) in
     let a = k .args in
     let ws = row-numbers (a .parameters .now) in
     let t = offers .last .0 in

@@ -14,19 +14,26 @@ use Rattle.rank.specs.Modulus.{residue-of}
 use Rattle.exchange.specs.Sizes.{cells}
 use Rattle.exchange.specs.Solve.{admissible}
 use Rattle.exchange.specs.SolveLaws.{all-below-iff, Admissible, admissible-reads}
-use Rattle.exchange.specs.Code.Cells.{zeros-below, filled-below}
 use Rattle.exchange.specs.Code.Held.{Given}
+use Rattle.exchange.proofs.CellLaws.{zeros-below, filled-below}
 use borrow.Author.Needs.{needs}
 use native.Mathlib.Omega.{arith}
 use Rattle.exchange.proofs.solve.Statement.{statement}
 use Rattle.exchange.proofs.solve.Tie as tie
 
+-- where the call begins, seen from behind its test; and where the model is taken, seen from behind the filling
+abbrev begun : tie.After-is-admissible → tie.Start
+begun c = c .before .before .before
+
+abbrev accepted : tie.After-t2 → tie.Else1
+accepted c = c .before .before .before
+
 -- what holds where the model is taken
-taken : (c : tie.Else1) → let a = c .before .before .before .before .args in admissible (a .p) (a .n) (a .a) (a .b) (whole (a .offered)) (a .constants .now) (row-numbers (a .parameters .now)) ≡ true
+taken : (c : tie.Else1) → let a = begun (c .before) .args in admissible (a .p) (a .n) (a .a) (a .b) (whole (a .offered)) (a .constants .now) (row-numbers (a .parameters .now)) ≡ true
 taken c = sym (c .before .is-admissible .ensures) ∙ not-false _ (c .if1 .left)
 
-good : (c : tie.Else1) → let a = c .before .before .before .before .args in Admissible (a .p) (a .n) (a .a) (a .b) (whole (a .offered)) (a .constants .now) (row-numbers (a .parameters .now))
-good c = let a = c .before .before .before .before .args in admissible-reads (a .p) (a .n) (a .a) (a .b) (whole (a .offered)) (a .constants .now) (row-numbers (a .parameters .now)) (taken c)
+good : (c : tie.Else1) → let a = begun (c .before) .args in Admissible (a .p) (a .n) (a .a) (a .b) (whole (a .offered)) (a .constants .now) (row-numbers (a .parameters .now))
+good c = let a = begun (c .before) .args in admissible-reads (a .p) (a .n) (a .a) (a .b) (whole (a .offered)) (a .constants .now) (row-numbers (a .parameters .now)) (taken c)
 
 is-admissible-requires : tie.Need-is-admissible-requires
 is-admissible-requires c κs = search needs
@@ -36,7 +43,7 @@ nothing-requires c κs = search needs
 
 returns : tie.Need-returns
 returns c =
-    let a = c .before .before .before .before .before .args in
+    let a = begun (c .before .before) .args in
     let refused : admissible (a .p) (a .n) (a .a) (a .b) (whole (a .offered)) (a .constants .now) (row-numbers (a .parameters .now)) ≡ false = sym (c .before .before .is-admissible .ensures) ∙ not-true _ (c .before .if1 .taken) in
     record {
       is-valid = c .nothing .ensures .0 ∙ sym refused;
@@ -50,12 +57,12 @@ fill-requires c κs =
     (refl, f .columns, f .constant-rows, f .constants-lent)
 
 cast-answer : tie.Need-cast-answer
-cast-answer c = omega (arith, good (c .before .before .before) .short-prime)
+cast-answer c = omega (arith, good (accepted c) .short-prime)
 
 answer-requires : tie.Need-answer-requires
 answer-requires c κs =
-    let k = c .before .before .before in
-    let a = k .before .before .before .before .args in
+    let k = accepted c in
+    let a = begun (k .before) .args in
     let g = good k in
     let f = g .fits in
     let filled = c .before .fill .ensures in
@@ -73,8 +80,8 @@ answer-requires c κs =
 
 returns-2 : tie.Need-returns-2
 returns-2 c =
-    let k = c .before .before .before .before in
-    let start = k .before .before .before .before in
+    let k = accepted (c .before) in
+    let start = begun (k .before) in
     let a = start .args in
     let g = good k in
     let filled = c .before .before .fill .ensures in

@@ -1,36 +1,20 @@
--- The code's tableau and owners hold a valid state of a model; and what seating a column does to it. Assumes nothing.
-use Prim.Native.Nat.{ℕ, _+_, _-_, _*_, _≤_, _<_}
-use mathlib.Core.Path.{_≡_, refl, sym, ap, _∙_}
-use mathlib.Core.Logic.{_≢_, _↔_, _⊎_, inl, inr}
-use mathlib.Core.Bool.{Bool, true, not, _&&_, true≢false}
+-- The code's tableau and owners hold a valid state of a model; and what seating a column does to them. Definitions only.
+use Prim.Native.Nat.{ℕ, _+_, _≤_, _<_}
+use mathlib.Core.Path.{_≡_}
+use mathlib.Core.Logic.{_≢_, _⊎_}
+use mathlib.Core.Bool.{Bool}
 use mathlib.Core.List.{List}
-use native.Mathlib.Omega.{arith}
-use native.Mathlib.Decide.{ℕ-discrete, decLt}
-use lib.ListN.{length, getD, length-set}
+use lib.ListN.{getD}
 use lib.ListN as ListN
-use lib.Dec.{eqb}
-use lib.Seq.{getD-set-same, getD-set-other}
-use borrow.Author.Tests.{ne-eqb, eq-eqb}
-use Rattle.residue.specs.Arithmetic.{is-prime, mul-of, inv-of}
-use Rattle.residue.specs.Fields.{Field}
-use Rattle.counting.specs.Bools.{iff-eq}
-use Rattle.counting.specs.Sets.{Set, _∈_, set}
-use Rattle.counting.specs.Counts.{set-same, set-other}
+use Rattle.counting.specs.Sets.{Set}
 use Rattle.columns.specs.Columns.{members}
 use Rattle.rank.specs.Modulus.{modulus, field-of, residue-of}
-use Rattle.rank.specs.ModulusLaws.{residue-mul, residue-add, residue-inv, residue-neg, residue-zero}
 use Rattle.rank.specs.ModelModulo.{model-modulo}
-use Rattle.rank.specs.Linear.Kernels.{hits, hits-iff}
-use Rattle.rank.specs.Linear.Tableaus.{pivot, pivot-row, pivot-other}
-use Rattle.rank.specs.Graph.States.{State, Placed, Moved, Entered}
+use Rattle.rank.specs.Graph.States.{State}
 use Rattle.rank.specs.Layered.Model.{Model}
-use Rattle.rank.specs.Layered.Valid.{touch, touch-constant, touch-row, Valid, state, seated, seated-constant, seated-row, seat-valid}
-use Rattle.rank.specs.Layered.Seating.{Good, good-valid, freed, moved-valid, moved}
-use Rattle.rank.specs.Layered.Assignments.{offered-owner}
-use Rattle.exchange.specs.Sizes.{stride, lines}
-use Rattle.exchange.specs.Code.Cells.{cell, Below, cleared-is, Pivoted}
-use Rattle.exchange.specs.Code.Scanning.{Arrays, touched, touched-constant, touched-parameter, owner-at}
-use Rattle.exchange.specs.Code.Searching.{Shows}
+use Rattle.rank.specs.Layered.Seating.{Good}
+use Rattle.exchange.specs.Code.Cells.{cell, Pivoted}
+use Rattle.exchange.specs.Code.Scanning.{owner-at}
 
 -- the row of x is free: o′ has n there
 abbrev pub Vacated : (n N x : ℕ) → List ℕ → List ℕ → Type 0
@@ -58,119 +42,9 @@ model-of p n a b ws G = model-modulo (modulus p .0) (modulus p .1) n a b (G .Q) 
 abbrev pub ShowsConstants : (p n a b : ℕ) (ws : List ℕ) → Given p n b ws → List ℕ → Type 0
 ShowsConstants p n a b ws G t = (i x : ℕ) → i < a → x < n → residue-of p (cell t i x) ≡ G .Q i x
 
-module _ (p n a b : ℕ) (ws : List ℕ) (G : Given p n b ws) where
-  abbrev pub M : Model
-  M = model-of p n a b ws G
-
-  -- the tableau t and the owners o hold the valid state s
-  pub record Held (t o : List ℕ) : Type 0 where
-    pub s : State n (a + b)
-    pub good : Good (model-of p n a b ws G) s
-    pub cells : (r c : ℕ) → r < a → c < n → residue-of p (cell t r c) ≡ good .P r c
-    pub owners : (q : ℕ) → q < a + b → owner-at o q ≡ s .owner q
-
-  module _ (prime : is-prime p ≡ true) where
-    open Field (field-of p) using (inv, _+_ as _⊕_, _·_ as _⊙_)
-
-    nonzero : (v : ℕ) → v < p → (not (eqb v 0) ≡ true) ↔ (residue-of p v ≢ field-of p .𝟘)
-    nonzero v l = (
-      λ e z. true≢false (sym e ∙ ap not (eq-eqb v 0 (residue-zero p prime v l .0 z))),
-      λ nz. ap not (ne-eqb v 0 (λ z. nz (residue-zero p prime v l .1 z))),
-    )
-
-    shows : (t o : List ℕ) → Below p t → (h : Held t o) → Shows (G .E) (h .s) (touched a t ws) (owner-at o)
-    shows t o bt h = record {
-      touch = λ q x l m e. at q x l m e ∙ sym (h .good .reads q x);
-      owner = h .owners;
-      offered = offered-owner M (h .s) (h .good);
-    }
-      where
-        all-offered : (b : Bool) {x : ℕ} → x ∈ G .E → (G .E x && b) ≡ b
-        all-offered b e = ap (λ c. c && b) e
-
-        at : (q x : ℕ) → q < a + b → x < n → x ∈ G .E → touched a t ws q x ≡ touch M (h .good .P) q x
-        at q x l m o = elim (decLt q a) [
-          | no nl ↦
-              touched-parameter a t ws q x (omega arith) ∙ sym (G .parameters (q - a) x (omega arith) m)
-              ∙ sym (touch-row M (h .good .P) q x (omega arith) ∙ all-offered _ o)
-          | yes lq ↦
-              let e : residue-of p (cell t q x) ≡ h .good .P q x = h .cells q x lq m in
-              touched-constant a t ws q x lq
-              ∙ iff-eq (not (eqb (cell t q x) 0)) (hits (field-of p) (h .good .P) q x)
-              (λ d. hits-iff (field-of p) (h .good .P) q x .1 (rw (sym e) (nonzero (cell t q x) (bt (q * stride + x)) .0 d)))
-              (λ d. nonzero (cell t q x) (bt (q * stride + x)) .1 (rw e (hits-iff (field-of p) (h .good .P) q x .0 d)))
-              ∙ sym (touch-constant M (h .good .P) q x lq ∙ all-offered _ o)
-        ]
-
-    -- a pivot, read in the field
-    pivoted-cells : (t u : List ℕ) (P : ℕ → ℕ → field-of p .F) (k x : ℕ) → Below p t → ((r c : ℕ) → r < a → c < n → residue-of p (cell t r c) ≡ P r c)
-        → k < a → x < n → Pivoted p n a k x t u → (r c : ℕ) → r < a → c < n → residue-of p (cell u r c) ≡ pivot (field-of p) P k x r c
-    pivoted-cells t u P k x bt e lk lx d r c lr lc = elim (ℕ-discrete r k) [
-      | yes w ↦ rw w (ap (residue-of p) (d .row c lc) ∙ first ∙ sym (ap (λ f. f c) (pivot-row (field-of p) P k x)))
-      | no nw ↦ ap (residue-of p) (d .others r c lr nw lc ∙ cleared-is p _ _ _)
-          ∙ residue-add p prime _ _
-          ∙ ap (λ y. residue-of p (cell t r c) ⊕ y) (residue-mul p prime _ _ ∙ ap (λ y. y ⊙ residue-of p (mul-of p (inv-of p (cell t k x)) (cell t k c))) (residue-neg p prime _ (omega (arith, bt (r * stride + x)))))
-          ∙ rw (first, e r c lr lc, e r x lr lx) (sym (ap (λ f. f c) (pivot-other (field-of p) P k x r nw)))
-    ]
-      where
-        first : residue-of p (mul-of p (inv-of p (cell t k x)) (cell t k c)) ≡ inv (P k x) ⊙ P k c
-        first = residue-mul p prime _ _ ∙ rw (residue-inv p prime (cell t k x), e k x lk lx, e k c lk lc) refl
-
-    seated-cells : (t u : List ℕ) (P : ℕ → ℕ → field-of p .F) (q x : ℕ) → Below p t → ((r c : ℕ) → r < a → c < n → residue-of p (cell t r c) ≡ P r c)
-        → x < n → (q < a → Pivoted p n a q x t u) → (a ≤ q → u ≡ t) → (r c : ℕ) → r < a → c < n → residue-of p (cell u r c) ≡ seated M P q x r c
-    seated-cells t u P q x bt e lx d k r c lr lc = elim (decLt q a) [
-      | yes l ↦ pivoted-cells t u P q x bt e l lx (d l) r c lr lc ∙ sym (ap (λ f. f r c) (seated-constant M P q x l))
-      | no nl ↦ ap (λ v. residue-of p (cell v r c)) (k (omega arith)) ∙ e r c lr lc ∙ sym (ap (λ f. f r c) (seated-row M P q x (omega arith)))
-    ]
-
-  pub held-shows : (t o : List ℕ) → Arrays p n a b t o → (h : Held t o) → Shows (G .E) (h .s) (touched a t ws) (owner-at o)
-  held-shows t o w h = shows (w .prime) t o (w .below) h
-
-  -- a store to the owners
-  stored : (o : List ℕ) (f : ℕ → ℕ) (q v : ℕ) → length o ≡ lines → a + b ≤ lines → q < a + b → ((r : ℕ) → r < a + b → owner-at o r ≡ f r) → (r : ℕ) → r < a + b → owner-at (ListN.set o q v) r ≡ set f q v r
-  stored o f q v lo lab lq e r lr = elim (ℕ-discrete r q) [
-    | yes d ↦ rw (d, set-same) (getD-set-same o q v 0 (omega arith))
-    | no nd ↦ getD-set-other o q r v 0 nd ∙ e r lr ∙ sym (set-other f q v r nd)
-  ]
-
-  -- what seating gives: a state held by the new lists, to which x moved from its row, or which it entered
-  abbrev pub Seated : (t o t′ o′ : List ℕ) (x q : ℕ) → Held t o → Type 0
-  Seated t o t′ o′ x q h = (h′ : Held t′ o′) × (((q′ : ℕ) × Moved (h .s) (h′ .s) x q q′) ⊎ ((Placed (h .s) x → ⊥) × Entered (h .s) (h′ .s) x q))
-
-  module _ (t o t′ o′ : List ℕ) (x q : ℕ) (w : Arrays p n a b t o) (h : Held t o)
-      (lx : x < n) (lq : q < a + b) (fq : n ≤ h .s .owner q) (tq : h .s .touch q x ≡ true) (d : Sat p n a (a + b) x q t o t′ o′) where
-    moving : (q′ : ℕ) → q′ < a + b → owner-at o q′ ≡ x → d .middle ≡ ListN.set o q′ n → Seated t o t′ o′ x q h
-    unfolding state freed
-    moving q′ lq′ e m =
-        let so : h .s .owner q′ ≡ x = sym (h .owners q′ lq′) ∙ e in
-        let w0 : Valid M (seated M (h .good .P) q x) (set (set (h .s .owner) q′ n) q x) = moved-valid M (h .s) (h .good) x q q′ lx lq fq tq lq′ so in (
-          record {
-            s = state M (seated M (h .good .P) q x) (set (set (h .s .owner) q′ n) q x) w0;
-            good = record { P = seated M (h .good .P) q x; reads = λ r z. refl; kernel = w0 .kernel; tableau = w0 .tableau };
-            cells = seated-cells (w .prime) t t′ (h .good .P) q x (w .below) (h .cells) lx (d .pivoted) (d .kept);
-            owners = λ r lr. ap (λ l. owner-at l r) (d .owners ∙ ap (λ l. ListN.set l q x) m)
-                ∙ stored (ListN.set o q′ n) (set (h .s .owner) q′ n) q x (length-set o q′ n ∙ w .lengths .owners) (w .lengths .all-rows) lq (stored o (h .s .owner) q′ n (w .lengths .owners) (w .lengths .all-rows) lq′ (h .owners)) r lr;
-          },
-          inl (q′, moved M (h .s) (h .good) x q q′ lx lq fq tq lq′ so),
-        )
-
-    entering : ((r : ℕ) → r < a + b → owner-at o r ≢ x) → d .middle ≡ o → Seated t o t′ o′ x q h
-    unfolding state
-    entering new m =
-        let none : (r : ℕ) → r < a + b → h .s .owner r ≢ x = λ r lr e. new r lr (h .owners r lr ∙ e) in
-        let w0 : Valid M (seated M (h .good .P) q x) (set (h .s .owner) q x)
-        = seat-valid M (h .good .P) (h .s .owner) (good-valid M (h .s) (h .good)) q x lx none lq (sym (h .good .reads q x) ∙ tq) in (
-          record {
-            s = state M (seated M (h .good .P) q x) (set (h .s .owner) q x) w0;
-            good = record { P = seated M (h .good .P) q x; reads = λ r z. refl; kernel = w0 .kernel; tableau = w0 .tableau };
-            cells = seated-cells (w .prime) t t′ (h .good .P) q x (w .below) (h .cells) lx (d .pivoted) (d .kept);
-            owners = λ r lr. ap (λ l. owner-at l r) (d .owners ∙ ap (λ l. ListN.set l q x) m) ∙ stored o (h .s .owner) q x (w .lengths .owners) (w .lengths .all-rows) lq (h .owners) r lr;
-          },
-          inr (
-            λ v. none (v .0) (v .1) (v .2),
-            record { column = lx; row = lq; was-free = fq; now-owned = set-same (h .s .owner) q x; others = λ r l ne. set-other (h .s .owner) q x r ne },
-          ),
-        )
-
-    pub seat-held : Seated t o t′ o′ x q h
-    seat-held = elim (d .vacated) [ inl v ↦ moving (v .0) (v .1) (v .2) (v .3) | inr v ↦ entering (v .0) (v .1) ]
+-- the tableau t and the owners o hold the valid state s
+pub record Held (p n a b : ℕ) (ws : List ℕ) (G : Given p n b ws) (t o : List ℕ) : Type 0 where
+  pub s : State n (a + b)
+  pub good : Good (model-of p n a b ws G) s
+  pub cells : (r c : ℕ) → r < a → c < n → residue-of p (cell t r c) ≡ good .P r c
+  pub owners : (q : ℕ) → q < a + b → owner-at o q ≡ s .owner q

@@ -10,14 +10,28 @@ use Rattle.host.proofs.AreaLaws.{refused-before, answer-put}
 use Rattle.harness.proofs.harness_layered.Statement.{statement}
 use Rattle.harness.proofs.harness_layered.Tie as tie
 
+-- where the call begins, where the rank is known, where the answer is put, and where the model was accepted
+abbrev begun : tie.After-slice-known → tie.Start
+begun c = c .before .before .before
+
+abbrev ranked : tie.After-struct-known → tie.After-layered-rank
+ranked c = c .before
+
+abbrev put : tie.After-slice-known2 → tie.After-put-answer
+put c = c .before .before
+
+abbrev accepted : tie.After-slice-known2 → tie.Else1
+accepted c = put c .before .before
+
 layered-rank-requires : tie.Need-layered-rank-requires
 layered-rank-requires c κs = search needs
 
 returns : tie.Need-returns
 unfolding refusal
 returns c =
-    let a = c .before .before .before .before .before .before .args in
-    refused-before (model-tests (a .p) (a .n) (a .a) (a .b) (a .constants .now) (row-numbers (a .parameters .now))) [] answer-length (AnswerWritten (listed-model (a .p) (a .n) (a .a) (a .b) (a .constants .now) (row-numbers (a .parameters .now)))) (a .answer .now) _ (c .before .before .layered-rank .ensures .is-refusal) (c .if1 .taken)
+    let r = ranked (c .before) in
+    let a = begun (r .before) .args in
+    refused-before (model-tests (a .p) (a .n) (a .a) (a .b) (a .constants .now) (row-numbers (a .parameters .now))) [] answer-length (AnswerWritten (listed-model (a .p) (a .n) (a .a) (a .b) (a .constants .now) (row-numbers (a .parameters .now)))) (a .answer .now) _ (r .layered-rank .ensures .is-refusal) (c .if1 .taken)
 
 put-answer-requires : tie.Need-put-answer-requires
 put-answer-requires c κs = search needs
@@ -28,11 +42,11 @@ same-length c = search needs
 returns-2 : tie.Need-returns-2
 unfolding refusal first-refusal
 returns-2 c =
-    let at-else = c .before .before .before .before in
-    let a = at-else .before .before .before .before .before .before .args in
-    let h = at-else .before .before .layered-rank .ensures in
-    let ok = sym (h .is-refusal) ∙ at-else .if1 .left in
-    answer-put answer-bytes (model-tests (a .p) (a .n) (a .a) (a .b) (a .constants .now) (row-numbers (a .parameters .now))) [] _ (h .if-accepted ok) ok refl (c .before .before .put-answer .ensures)
+    let r = ranked (accepted c .before) in
+    let a = begun (r .before) .args in
+    let h = r .layered-rank .ensures in
+    let ok = sym (h .is-refusal) ∙ accepted c .if1 .left in
+    answer-put answer-bytes (model-tests (a .p) (a .n) (a .a) (a .b) (a .constants .now) (row-numbers (a .parameters .now))) [] _ (h .if-accepted ok) ok refl (put c .put-answer .ensures)
 
 pub harness-layered-spec : {M : Type 1} → statement M
 harness-layered-spec = tie.close (tie.spec layered-rank-requires returns put-answer-requires same-length returns-2)

@@ -10,14 +10,28 @@ use Rattle.host.proofs.AreaLaws.{refused-before, answer-put}
 use Rattle.harness.proofs.harness_mixed.Statement.{statement}
 use Rattle.harness.proofs.harness_mixed.Tie as tie
 
+-- where the call begins, where the rank is known, where the answer is put, and where the model was accepted
+abbrev begun : tie.After-slice-known → tie.Start
+begun c = c .before .before .before
+
+abbrev ranked : tie.After-struct-known → tie.After-mixed-rank
+ranked c = c .before
+
+abbrev put : tie.After-slice-known2 → tie.After-put-mixed
+put c = c .before .before
+
+abbrev accepted : tie.After-slice-known2 → tie.Else1
+accepted c = put c .before .before
+
 mixed-rank-requires : tie.Need-mixed-rank-requires
 mixed-rank-requires c κs = search needs
 
 returns : tie.Need-returns
 unfolding mixed-refusal
 returns c =
-    let a = c .before .before .before .before .before .before .args in
-    refused-before (mixed-tests (a .p) (a .n) (a .a) (a .b) (a .constants .now) (row-numbers (a .parameters .now))) [] mixed-length (MixedWritten (mixed (a .p) (a .a) (a .n) (a .constants .now) (row-numbers (a .parameters .now)))) (a .answer .now) _ (c .before .before .mixed-rank .ensures .is-refusal) (c .if1 .taken)
+    let r = ranked (c .before) in
+    let a = begun (r .before) .args in
+    refused-before (mixed-tests (a .p) (a .n) (a .a) (a .b) (a .constants .now) (row-numbers (a .parameters .now))) [] mixed-length (MixedWritten (mixed (a .p) (a .a) (a .n) (a .constants .now) (row-numbers (a .parameters .now)))) (a .answer .now) _ (r .mixed-rank .ensures .is-refusal) (c .if1 .taken)
 
 put-mixed-requires : tie.Need-put-mixed-requires
 put-mixed-requires c κs = search needs
@@ -28,11 +42,11 @@ same-length c = search needs
 returns-2 : tie.Need-returns-2
 unfolding mixed-refusal first-refusal
 returns-2 c =
-    let at-else = c .before .before .before .before in
-    let a = at-else .before .before .before .before .before .before .args in
-    let h = at-else .before .before .mixed-rank .ensures in
-    let ok = sym (h .is-refusal) ∙ at-else .if1 .left in
-    answer-put mixed-bytes (mixed-tests (a .p) (a .n) (a .a) (a .b) (a .constants .now) (row-numbers (a .parameters .now))) [] _ (h .if-accepted ok) ok refl (c .before .before .put-mixed .ensures)
+    let r = ranked (accepted c .before) in
+    let a = begun (r .before) .args in
+    let h = r .mixed-rank .ensures in
+    let ok = sym (h .is-refusal) ∙ accepted c .if1 .left in
+    answer-put mixed-bytes (mixed-tests (a .p) (a .n) (a .a) (a .b) (a .constants .now) (row-numbers (a .parameters .now))) [] _ (h .if-accepted ok) ok refl (put c .put-mixed .ensures)
 
 pub harness-mixed-spec : {M : Type 1} → statement M
 harness-mixed-spec = tie.close (tie.spec mixed-rank-requires returns put-mixed-requires same-length returns-2)

@@ -12,6 +12,10 @@ use Rattle.format.specs.OverLaws.{wrote-first, wrote-run, wrote-all}
 use Rattle.host.proofs.put_answer.Statement.{statement}
 use Rattle.host.proofs.put_answer.Tie as tie
 
+-- where the front is put, seen from where the rows are lent
+abbrev front-put : tie.After-rows → tie.After-put-front
+front-put c = c .before .before .before
+
 returns : tie.Need-returns
 returns c = put-refused answer-length _ _ (c .if1 .taken)
 
@@ -37,7 +41,7 @@ returns-2 : tie.Need-returns-2
 unfolding front-bytes
 returns-2 c =
     let at-rows = c .before .before in
-    let at-front = at-rows .before .before .before .before .before in
+    let at-front = front-put (at-rows .before .before) in
     let at-else = at-front .before .before in
     let r = at-else .before .before .args .answer in
     let front = front-bytes (r .verdict) (r .rank) (whole (r .placed)) (whole (r .constants)) (whole (r .short)) in

@@ -10,6 +10,19 @@ use Rattle.format.specs.OverLaws.{wrote-first, wrote-room, wrote-all}
 use Rattle.host.proofs.put_front.Statement.{statement}
 use Rattle.host.proofs.put_front.Tie as tie
 
+-- where each part is put, seen from where the area has come back
+abbrev third-put : tie.After-slice-known5 → tie.After-put-set3
+third-put c = c .before .before
+
+abbrev second-put : tie.After-slice-known4 → tie.After-put-set2
+second-put c = c .before .before
+
+abbrev first-put : tie.After-slice-known3 → tie.After-put-set
+first-put c = c .before .before
+
+abbrev numbers-put : tie.After-slice-known2 → tie.After-put-numbers
+numbers-put c = c .before .before
+
 put-numbers-requires : tie.Need-put-numbers-requires
 put-numbers-requires c κs = search needs
 
@@ -55,10 +68,10 @@ same-length c = search needs
 returns : tie.Need-returns
 unfolding front-bytes
 returns c =
-    let at-third = c .before .before in
-    let at-second = at-third .before .before .before .before in
-    let at-first = at-second .before .before .before .before in
-    let at-numbers = at-first .before .before .before .before in
+    let at-third = third-put c in
+    let at-second = second-put (at-third .before .before) in
+    let at-first = first-put (at-second .before .before) in
+    let at-numbers = numbers-put (at-first .before .before) in
     let start = at-numbers .before .before .before in
     let a = start .args in
     let first = bytes-of set-bytes (whole (a .first)) in

@@ -17,6 +17,27 @@ use native.Mathlib.Omega.{arith}
 use Rattle.layered.proofs.layered_rank.Statement.{statement}
 use Rattle.layered.proofs.layered_rank.Tie as tie
 
+-- where the call begins; and from behind the solver, where the tests beforehand are made and where the call begins
+abbrev begun : tie.After-passes-beforehand → tie.Start
+begun c = c .before .before .before
+
+abbrev tested : tie.After-solve → tie.After-passes-beforehand
+tested c = c .before .before .before
+
+abbrev entry : tie.After-solve → tie.Start
+entry c = begun (tested c)
+
+-- where the solver has answered, seen from the test of its answer
+abbrev solved : tie.After-struct-known → tie.After-solve
+solved c = c .before
+
+-- where the placed set is copied into the answer, and where its verdict is known
+abbrev copied : tie.After-rows → tie.After-placed
+copied c = c .before .before .before
+
+abbrev judged : tie.After-rows → tie.After-verdict-of
+judged c = copied c .before .before
+
 -- the solver's answer has a place for each row, and its sets are sets
 rows-long : (c : tie.After-solve) → length (c .solve .result .rows) ≡ most-rows
 rows-long c = search (needs, c .solve .ok)
@@ -26,15 +47,15 @@ sets-fit c = search (needs, c .solve .ok)
 
 -- what holds where the solver takes the model
 
-taken : (c : tie.Else2) → let s = c .before .before in let a = s .before .before .before .before .before .before .args in
+taken : (c : tie.Else2) → let s = solved (c .before) in let a = entry s .args in
     admissible (a .p) (a .n) (a .a) (a .b) (whole (s .before .below .result)) (a .constants .now) (row-numbers (a .parameters .now)) ≡ true
-taken c = sym (c .before .before .solve .ensures .is-valid) ∙ not-false _ (c .if2 .left)
+taken c = sym (solved (c .before) .solve .ensures .is-valid) ∙ not-false _ (c .if2 .left)
 
-solved-by : (c : tie.Else2) → let s = c .before .before in let a = s .before .before .before .before .before .before .args in
+solved-by : (c : tie.Else2) → let s = solved (c .before) in let a = entry s .args in
     SolvedBy (listed-model (a .p) (a .n) (a .a) (a .b) (a .constants .now) (row-numbers (a .parameters .now))) (s .solve .result)
 solved-by c =
-    let s = c .before .before in
-    let a = s .before .before .before .before .before .before .args in
+    let s = solved (c .before) in
+    let a = entry s .args in
     let columns : a .n ≤ most-columns = admissible-reads _ _ _ _ _ _ _ (taken c) .fits .columns in
     s .solve .ensures .if-valid (taken c) _ _ _ (shows-model (a .p) (a .n) (a .a) (a .b) (a .constants .now) (row-numbers (a .parameters .now)) _ (s .before .below .ensures) (omega arith))
 
@@ -49,12 +70,12 @@ refuse-requires c κs = search needs
 
 returns : tie.Need-returns
 returns c =
-    let tested = c .before .before .before in
-    let a = tested .before .before .before .args in
+    let k = c .before .before .before in
+    let a = begun k .args in
     record {
       is-refusal = c .refuse .ensures .0 ∙ c .before .judge-model .ensures;
       if-refused = λ z. c .refuse .ensures .1;
-      if-accepted = λ z. absurd (true≢false (sym (accepted-beforehand (a .p) (a .n) (a .a) (a .b) (a .constants .now) (row-numbers (a .parameters .now)) z) ∙ sym (tested .passes-beforehand .ensures) ∙ not-true _ (c .before .before .if1 .taken)));
+      if-accepted = λ z. absurd (true≢false (sym (accepted-beforehand (a .p) (a .n) (a .a) (a .b) (a .constants .now) (row-numbers (a .parameters .now)) z) ∙ sym (k .passes-beforehand .ensures) ∙ not-true _ (c .before .before .if1 .taken)));
     }
 
 below-requires : tie.Need-below-requires
@@ -71,8 +92,8 @@ refuse-requires-2 c κs = search needs
 
 returns-2 : tie.Need-returns-2
 returns-2 c =
-    let s = c .before .before .before .before in
-    let a = s .before .before .before .before .before .before .args in
+    let s = solved (c .before .before .before) in
+    let a = entry s .args in
     record {
       is-refusal = c .refuse2 .ensures .0 ∙ c .before .judge-model2 .ensures;
       if-refused = λ z. c .refuse2 .ensures .1;
@@ -85,22 +106,21 @@ verdict-of-requires c κs = search needs
 cast-rank : tie.Need-cast-rank
 cast-rank c =
     let accepted = c .before .before in
-    let a = accepted .before .before .before .before .before .before .before .before .args in
+    let a = entry (solved (accepted .before)) .args in
     let columns : a .n ≤ most-columns = admissible-reads _ _ _ _ _ _ _ (taken accepted) .fits .columns in
     omega (arith, solved-by accepted .is-rank, rank-small (listed-model (a .p) (a .n) (a .a) (a .b) (a .constants .now) (row-numbers (a .parameters .now))))
 
 returns-3 : tie.Need-returns-3
 returns-3 c =
-    let accepted = c .before .before .before .before .before .before in
-    let s = accepted .before .before in
-    let tested = s .before .before .before in
-    let a = tested .before .before .before .args in
-    let passed : beforehand (a .p) (a .n) (a .b) (row-numbers (a .parameters .now)) ≡ true = sym (tested .passes-beforehand .ensures) ∙ not-false _ (s .before .before .if1 .left) in
+    let accepted = judged c .before in
+    let s = solved (accepted .before) in
+    let a = entry s .args in
+    let passed : beforehand (a .p) (a .n) (a .b) (row-numbers (a .parameters .now)) ≡ true = sym (tested s .passes-beforehand .ensures) ∙ not-false _ (s .before .before .if1 .left) in
     let zero : refusal (a .p) (a .n) (a .a) (a .b) (a .constants .now) (row-numbers (a .parameters .now)) ≡ 0 = taken-accepted (a .p) (a .n) (a .a) (a .b) (a .constants .now) (row-numbers (a .parameters .now)) _ (s .before .below .ensures) passed (taken accepted) in
     record {
       is-refusal = sym zero;
       if-refused = λ z. absurd (z zero);
-      if-accepted = λ z. answered (a .p) (a .n) (a .a) (a .b) (a .constants .now) (row-numbers (a .parameters .now)) _ (sets-fit s .0) (sets-fit s .1) (rows-long s) (c .before .before .before .before .before .verdict-of .ensures) (solved-by accepted);
+      if-accepted = λ z. answered (a .p) (a .n) (a .a) (a .b) (a .constants .now) (row-numbers (a .parameters .now)) _ (sets-fit s .0) (sets-fit s .1) (rows-long s) (judged c .verdict-of .ensures) (solved-by accepted);
     }
 
 pub layered-rank-spec : {M : Type 1} → statement M

@@ -18,30 +18,34 @@ Inv-loop form₀ constants m n all k₀ form k = (k ≤ m * (m + n)) × (length 
 abbrev μ-loop : tie.MeasureT-loop
 μ-loop form₀ constants m n all k₀ form k = m * (m + n) - k
 
+-- where the function begins, seen from a turn of the loop
+abbrev begun : tie.In-loop Inv-loop μ-loop → tie.Start Inv-loop μ-loop
+begun c = c .before .before .before
+
 -- the form has room for all its entries
-room : (m n : ℕ) → m ≤ most-rows → m + n ≤ most-columns → m * (m + n) ≤ most-constants
-room m n l h = mul-le-mul {n₂ = most-rows} {m₂ = most-columns} l h
+room : (c : tie.Start Inv-loop μ-loop) → c .args .m * (c .args .m + c .args .n) ≤ most-constants
+room c = mul-le-mul {n₂ = most-rows} {m₂ = most-columns} (c .pre .2) (c .pre .3)
 
 add-all : tie.Need-add-all Inv-loop μ-loop
 add-all c = search needs
 
 mul-all : tie.Need-mul-all Inv-loop μ-loop
-mul-all c = omega (arith, room (c .before .args .m) (c .before .args .n) (c .before .pre .2) (c .before .pre .3))
+mul-all c = omega (arith, room (c .before))
 
 loop-holds : tie.Need-loop-holds Inv-loop μ-loop
 loop-holds c = (omega arith, search needs, λ j l. absurd (omega arith))
 
 entry-of-form-requires : tie.Need-entry-of-form-requires Inv-loop μ-loop
-entry-of-form-requires c κs = (c .before .before .before .pre .1, c .before .before .before .pre .3, c .loop-test .taken)
+entry-of-form-requires c κs = (begun c .pre .1, begun c .pre .3, c .loop-test .taken)
 
 mul-form : tie.Need-mul-form Inv-loop μ-loop
-mul-form c = omega (arith, c .before .loop-test .taken, room (c .before .before .before .before .args .m) (c .before .before .before .before .args .n) (c .before .before .before .before .pre .2) (c .before .before .before .before .pre .3))
+mul-form c = omega (arith, c .before .loop-test .taken, room (begun (c .before)))
 
 element-write-form : tie.Need-element-write-form Inv-loop μ-loop
-element-write-form c = omega (arith, c .before .loop-test .taken, room (c .before .before .before .before .args .m) (c .before .before .before .before .args .n) (c .before .before .before .before .pre .2) (c .before .before .before .before .pre .3))
+element-write-form c = omega (arith, c .before .loop-test .taken, room (begun (c .before)))
 
 add-k : tie.Need-add-k Inv-loop μ-loop
-add-k c = omega (arith, c .before .loop-test .taken, room (c .before .before .before .before .args .m) (c .before .before .before .before .args .n) (c .before .before .before .before .pre .2) (c .before .before .before .before .pre .3))
+add-k c = omega (arith, c .before .loop-test .taken, room (begun (c .before)))
 
 loop-less : tie.Need-loop-less Inv-loop μ-loop
 loop-less c = omega (arith, c .before .loop-test .taken)
@@ -49,9 +53,9 @@ loop-less c = omega (arith, c .before .loop-test .taken)
 loop-again : tie.Need-loop-again Inv-loop μ-loop
 loop-again c =
     let l = c .before .before .loop in
-    let a = c .before .before .before .before .args in
+    let a = begun (c .before) .args in
     let v = c .entry-of-form .result in
-    let inside : l .k < length (l .form) = omega (arith, c .before .loop-test .taken, room (a .m) (a .n) (c .before .before .before .before .pre .2) (c .before .before .before .before .pre .3)) in (
+    let inside : l .k < length (l .form) = omega (arith, c .before .loop-test .taken, room (begun (c .before))) in (
       omega (arith, c .before .loop-test .taken),
       search needs,
       below-more (λ j. getD (set (l .form) (l .k) v) j 0 ≡ form-entry (a .m) (a .n) (a .constants .now) j) (l .k)

@@ -21,6 +21,22 @@ Inv-loop words₀ parameters m i₀ words i = (i ≤ m) × (length (row-numbers 
 abbrev μ-loop : tie.MeasureT-loop
 μ-loop words₀ parameters m i₀ words i = m - i
 
+-- where the row of a turn is made, where its set is raised, where the row is read, where the turn begins, and where the function did
+abbrev completed : tie.After-slice-known2 Inv-loop μ-loop → tie.After-with Inv-loop μ-loop
+completed c = c .before .before .before
+
+abbrev raised : tie.After-slice-known2 Inv-loop μ-loop → tie.After-raised Inv-loop μ-loop
+raised c = completed c .before .before
+
+abbrev read : tie.After-slice-known2 Inv-loop μ-loop → tie.After-row Inv-loop μ-loop
+read c = raised c .before
+
+abbrev turn : tie.After-slice-known2 Inv-loop μ-loop → tie.At-loop Inv-loop μ-loop
+turn c = read c .before .before
+
+abbrev begun : tie.At-loop Inv-loop μ-loop → tie.Start Inv-loop μ-loop
+begun c = c .before .before .before
+
 loop-holds : tie.Need-loop-holds Inv-loop μ-loop
 loop-holds c = (search needs, refl, (λ k l. absurd (omega arith)), refl)
 
@@ -45,12 +61,11 @@ loop-less c = search needs
 loop-again : tie.Need-loop-again Inv-loop μ-loop
 loop-again c =
     let put = c .before .before .put-row in
-    let made = c .before .before .before .with in
-    let moved = c .before .before .before .before .before .raised in
-    let own = c .before .before .before .before .before .before .row in
-    let k = c .before .before .before .before .before .before .before .before in
-    let l = k .loop in
-    let a = k .before .before .before .args in
+    let made = completed c .with in
+    let moved = raised c .raised in
+    let own = read c .row in
+    let l = turn c .loop in
+    let a = begun (turn c) .args in
     let ws = row-numbers (l .words) in
     let w = whole (made .result) in
     let rows-are : row-numbers (put .last .0) ≡ set ws (l .i) w = ap row-numbers (put .ensures) ∙ rows-with-row (l .words) (l .i) w in

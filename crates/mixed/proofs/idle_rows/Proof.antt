@@ -40,6 +40,10 @@ Inv-loop m rows idle₀ i₀ idle i = (i ≤ m) × Idle m rows i (members (whole
 abbrev μ-loop : tie.MeasureT-loop
 μ-loop m rows idle₀ i₀ idle i = m - i
 
+-- where a turn begins
+abbrev turn : tie.Joined1 Inv-loop μ-loop → tie.At-loop Inv-loop μ-loop
+turn c = c .before .before .before
+
 empty-requires : tie.Need-empty-requires Inv-loop μ-loop
 empty-requires c κs = search needs
 
@@ -63,8 +67,8 @@ loop-less c = search needs
 
 loop-again : tie.Need-loop-again Inv-loop μ-loop
 loop-again c =
-    let l = c .before .before .before .loop in
-    let a = c .before .before .before .before .before .args in
+    let l = turn c .loop in
+    let a = turn c .before .before .args in
     let s = c .before .serves-original in (
       search needs,
       ⊎-elim

@@ -5,12 +5,19 @@ use borrow.Author.Needs.{needs}
 use Rattle.mixed.proofs.mixed_file.Statement.{statement}
 use Rattle.mixed.proofs.mixed_file.Tie as tie
 
+-- where the file is lent, seen from behind its reading; and where it is read, seen from the test of the refusal
+abbrev lent : tie.After-read-file → tie.After-shared-slice-known
+lent c = c .before .before .before
+
+abbrev read : tie.After-struct-known → tie.After-read-file
+read c = c .before .before .before
+
 bytes : (c : tie.After-shared-slice-known) → AreBytes (c .before .args .file .now)
 bytes c i = search (needs, c .shared-slice-known .given i)
 
 -- the file's bytes, where it is read
-file-bytes : (c : tie.After-read-file) → AreBytes (c .before .before .before .before .args .file .now)
-file-bytes c = bytes (c .before .before .before)
+file-bytes : (c : tie.After-read-file) → AreBytes (lent c .before .args .file .now)
+file-bytes c = bytes (lent c)
 
 slice-aggregate-read-file : tie.Need-slice-aggregate-read-file
 slice-aggregate-read-file c = search needs
@@ -26,7 +33,7 @@ refuse-requires c κs = search needs
 
 returns : tie.Need-returns
 returns c =
-    let at-read = c .before .before .before .before .before in
+    let at-read = read (c .before .before) in
     mixed-file-refused (file-bytes at-read) (at-read .read-file .ensures) (c .before .if1 .taken) _ (c .refuse .ensures .0) (c .refuse .ensures .1)
 
 slice-aggregate-mixed-rank : tie.Need-slice-aggregate-mixed-rank
@@ -40,8 +47,9 @@ mixed-rank-requires c κs = search needs
 
 returns-2 : tie.Need-returns-2
 returns-2 c =
-    let at-read = c .before .before .before .before .before .before .before in
-    mixed-file-answered (file-bytes at-read) (at-read .read-file .ensures) (c .before .before .before .if1 .left) _ (c .mixed-rank .ensures)
+    let accepted = c .before .before .before in
+    let at-read = read (accepted .before) in
+    mixed-file-answered (file-bytes at-read) (at-read .read-file .ensures) (accepted .if1 .left) _ (c .mixed-rank .ensures)
 
 pub mixed-file-spec : {M : Type 1} → statement M
 mixed-file-spec =

@@ -6,6 +6,26 @@ use borrow.Author.Needs.{needs}
 use Rattle.mixed_report.proofs.put_answer.Statement.{statement}
 use Rattle.mixed_report.proofs.put_answer.Tie as tie
 
+-- where each line is put, from the last back to the first, seen from where the area has come back
+abbrev short-put : tie.After-slice-known6 → tie.After-put-column-line3
+short-put c = c .before .before
+
+abbrev columns-put : tie.After-slice-known5 → tie.After-put-column-line2
+columns-put c = c .before .before
+
+abbrev rows-put : tie.After-slice-known4 → tie.After-put-column-line
+rows-put c = c .before .before
+
+abbrev rank-put : tie.After-slice-known3 → tie.After-put-number-line
+rank-put c = c .before .before
+
+abbrev verdict-put : tie.After-slice-known2 → tie.After-put-verdict-line
+verdict-put c = c .before .before
+
+-- where the area is lent for the line of the rank
+abbrev rank-lent : tie.After-put-number-line → tie.After-put-number-line-arg
+rank-lent c = c .before .before .before
+
 put-verdict-line-requires : tie.Need-put-verdict-line-requires
 put-verdict-line-requires c κs = search needs
 
@@ -42,11 +62,11 @@ same-length c = search needs
 returns : tie.Need-returns
 unfolding mixed-answer-text ascii
 returns c =
-    let short = c .before .before in
-    let columns = short .before .before .before .before .before in
-    let rows = columns .before .before .before .before .before in
-    let rank = rows .before .before .before .before .before in
-    let verdict = rank .before .before .before .before .before .before in
+    let short = short-put c in
+    let columns = columns-put (short .before .before .before) in
+    let rows = rows-put (columns .before .before .before) in
+    let rank = rank-put (rows .before .before .before) in
+    let verdict = verdict-put (rank-lent rank .before) in
     puts-then (verdict .put-verdict-line .ensures) (puts-then (rank .put-number-line .ensures) (puts-then (rows .put-column-line .ensures) (puts-then (columns .put-column-line2 .ensures) (short .put-column-line3 .ensures))))
 
 pub put-answer-spec : {M : Type 1} → statement M

@@ -14,6 +14,10 @@ use borrow.Author.Needs.{needs}
 use Rattle.mixed_report.proofs.report_mixed_file.Statement.{statement}
 use Rattle.mixed_report.proofs.report_mixed_file.Tie as tie
 
+-- where the report is put on the page, seen from where the page is lent to be printed
+abbrev page-put : tie.After-page3 → tie.After-put-report
+page-put c = c .before .before
+
 -- the answer's report has room on the page
 room : (c : tie.After-mixed-file) → let t = c .mixed-file .result in length (report-text (t .refusal) (mixed-answer-text t)) ≤ longest-mixed-report
 room c = report-length _ _ _ (omega arith) (omega arith) (mixed-answer-length _ (omega arith))
@@ -32,7 +36,7 @@ array-share-prefix-page c = let put = c .before in omega (arith, room (put .befo
 
 slice-aggregate-print : tie.Need-slice-aggregate-print
 slice-aggregate-print c =
-    let put = c .before .before in
+    let put = page-put c in
     puts-place (put .put-report .ensures) (room (put .before .before)) ∙ ap length (sym (puts-page (put .put-report .ensures) (room (put .before .before))))
 
 print-requires : tie.Need-print-requires
@@ -44,7 +48,7 @@ same-length c = search needs
 returns : tie.Need-returns
 returns c =
     let printed = c .before .before in
-    let put = printed .before .before .before .before in
+    let put = page-put (printed .before .before) in
     let asked = put .before .before in
     call-reported _ _ (asked .mixed-file .ensures) (prints-as (puts-page (put .put-report .ensures) (room asked)) (printed .print .ensures))
 

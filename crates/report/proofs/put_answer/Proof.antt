@@ -6,6 +6,26 @@ use borrow.Author.Needs.{needs}
 use Rattle.report.proofs.put_answer.Statement.{statement}
 use Rattle.report.proofs.put_answer.Tie as tie
 
+-- where each line is put, from the last back to the first, seen from where the area has come back
+abbrev short-put : tie.After-slice-known6 → tie.After-put-column-line2
+short-put c = c .before .before
+
+abbrev parameters-put : tie.After-slice-known5 → tie.After-put-row-line
+parameters-put c = c .before .before
+
+abbrev constants-put : tie.After-slice-known4 → tie.After-put-column-line
+constants-put c = c .before .before
+
+abbrev rank-put : tie.After-slice-known3 → tie.After-put-number-line
+rank-put c = c .before .before
+
+abbrev verdict-put : tie.After-slice-known2 → tie.After-put-verdict-line
+verdict-put c = c .before .before
+
+-- where the area is lent for the line of the rank
+abbrev rank-lent : tie.After-put-number-line → tie.After-put-number-line-arg
+rank-lent c = c .before .before .before
+
 put-verdict-line-requires : tie.Need-put-verdict-line-requires
 put-verdict-line-requires c κs = search needs
 
@@ -39,11 +59,11 @@ same-length c = search needs
 returns : tie.Need-returns
 unfolding answer-text ascii
 returns c =
-    let short = c .before .before in
-    let parameters = short .before .before .before .before .before in
-    let constants = parameters .before .before .before .before .before in
-    let rank = constants .before .before .before .before .before in
-    let verdict = rank .before .before .before .before .before .before in
+    let short = short-put c in
+    let parameters = parameters-put (short .before .before .before) in
+    let constants = constants-put (parameters .before .before .before) in
+    let rank = rank-put (constants .before .before .before) in
+    let verdict = verdict-put (rank-lent rank .before) in
     puts-then (verdict .put-verdict-line .ensures) (puts-then (rank .put-number-line .ensures) (puts-then (constants .put-column-line .ensures) (puts-then (parameters .put-row-line .ensures) (short .put-column-line2 .ensures))))
 
 pub put-answer-spec : {M : Type 1} → statement M

@@ -7,6 +7,16 @@ use borrow.Author.Needs.{needs}
 use Rattle.report.proofs.put_row_line.Statement.{statement}
 use Rattle.report.proofs.put_row_line.Tie as tie
 
+-- where the line's end, the rows and the word are put, each seen from where the area has come back
+abbrev end-put : tie.After-slice-known4 → tie.After-put-byte
+end-put c = c .before .before
+
+abbrev rows-put : tie.After-slice-known3 → tie.After-put-rows
+rows-put c = c .before .before
+
+abbrev word-put : tie.After-slice-known2 → tie.After-put-bytes
+word-put c = c .before .before
+
 slice-aggregate-put-bytes : tie.Need-slice-aggregate-put-bytes
 slice-aggregate-put-bytes c = search needs
 
@@ -25,9 +35,9 @@ same-length c = search needs
 returns : tie.Need-returns
 unfolding ascii
 returns c =
-    let end = c .before .before in
-    let items = end .before .before .before .before in
-    let word = items .before .before .before .before in
+    let end = end-put c in
+    let items = rows-put (end .before .before) in
+    let word = word-put (items .before .before) in
     puts-as (sym (line-is _ _)) (puts-then (word .put-bytes .ensures) (puts-then (items .put-rows .ensures) (end .put-byte .ensures)))
 
 pub put-row-line-spec : {M : Type 1} → statement M

@@ -17,6 +17,10 @@ Inv-loop out₀ at rows place₀ r₀ out place r = (r ≤ most-rows) × (length
 abbrev μ-loop : tie.MeasureT-loop
 μ-loop out₀ at rows place₀ r₀ out place r = most-rows - r
 
+-- where a turn puts its row
+abbrev row-put : tie.After-slice-known2 Inv-loop μ-loop → tie.After-put-row Inv-loop μ-loop
+row-put c = c .before .before
+
 loop-holds : tie.Need-loop-holds Inv-loop μ-loop
 loop-holds c = (omega arith, search needs, putting-none _ _ _)
 
@@ -34,10 +38,10 @@ loop-less c = search needs
 
 loop-again : tie.Need-loop-again Inv-loop μ-loop
 loop-again c =
-    let turn = c .before .before .before .before in
+    let turn = row-put c .before .before in
     let l = turn .before .loop in
     let rows = turn .before .before .before .args .t3 in
-    (omega arith, l .inv .1, putting-next (row-item (l .r) (getD rows (l .r) 0)) _ (l .inv .2) (row-items-next (l .r) rows (omega arith)) (c .before .before .put-row .ensures))
+    (omega arith, l .inv .1, putting-next (row-item (l .r) (getD rows (l .r) 0)) _ (l .inv .2) (row-items-next (l .r) rows (omega arith)) (row-put c .put-row .ensures))
 
 same-length : tie.Need-same-length Inv-loop μ-loop
 same-length c = putting-same (c .before .loop .inv .2)

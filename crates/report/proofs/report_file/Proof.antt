@@ -15,6 +15,10 @@ use borrow.Author.Needs.{needs}
 use Rattle.report.proofs.report_file.Statement.{statement}
 use Rattle.report.proofs.report_file.Tie as tie
 
+-- where the report is put on the page, seen from where the page is lent to be printed
+abbrev page-put : tie.After-page3 → tie.After-put-report
+page-put c = c .before .before
+
 -- the answer has a byte for each row, and its report has room on the page
 rows-long : (c : tie.After-layered-file) → length (c .layered-file .result .rows) ≡ most-rows
 rows-long c = search needs
@@ -39,7 +43,7 @@ array-share-prefix-page c = let put = c .before in omega (arith, room (put .befo
 
 slice-aggregate-print : tie.Need-slice-aggregate-print
 slice-aggregate-print c =
-    let put = c .before .before in
+    let put = page-put c in
     puts-place (put .put-report .ensures) (room (put .before .before)) ∙ ap length (sym (puts-page (put .put-report .ensures) (room (put .before .before))))
 
 print-requires : tie.Need-print-requires
@@ -51,7 +55,7 @@ same-length c = search needs
 returns : tie.Need-returns
 returns c =
     let printed = c .before .before in
-    let put = printed .before .before .before .before in
+    let put = page-put (printed .before .before) in
     let asked = put .before .before in
     call-reported _ _ (asked .layered-file .ensures) (prints-as (puts-page (put .put-report .ensures) (room asked)) (printed .print .ensures))
 

@@ -109,7 +109,11 @@ put-decimal-same-length-2 : (t : ℕ) → put-decimal-lts.Need-same-length-2 (
   put-decimal-below t,
   put-decimal.Post,
 ) (put-decimal-at t) put-decimal.Post
-put-decimal-same-length-2 t c = puts-same (c .before .before .put-byte2 .ensures) ∙ puts-same (c .before .before .before .before .before .before .before .put-decimal .ensures)
+put-decimal-same-length-2 t c =
+    let last = c .before .before in
+    let back = last .before .before .before in
+    let tens = back .before .before in
+    puts-same (last .put-byte2 .ensures) ∙ puts-same (tens .put-decimal .ensures)
 
 put-decimal-returns-2 : (t : ℕ) → put-decimal-lts.Need-returns-2 (
   digit-reads.Asked,
@@ -121,7 +125,8 @@ put-decimal-returns-2 : (t : ℕ) → put-decimal-lts.Need-returns-2 (
 ) (put-decimal-at t) put-decimal.Post
 put-decimal-returns-2 t c =
     let last = c .before .before .before in
-    let tens = last .before .before .before .before in
+    let back = last .before .before in
+    let tens = back .before .before in
     let large = tens .before .before in
     let x = large .before .before .args .x in
     let whole : decimal (x / 10) ++ (last .digit2 .result ∷ []) ≡ decimal x = ap (λ (d : ℕ). decimal (x / 10) ++ (d ∷ [])) (last .digit2 .ensures) ∙ sym (decimal-large x (large .if1 .left)) in

@@ -17,6 +17,17 @@ Inv-loop out₀ at text place₀ i₀ out place i = (i ≤ length text) × Putti
 abbrev μ-loop : tie.MeasureT-loop
 μ-loop out₀ at text place₀ i₀ out place i = length text - i
 
+-- where a turn puts its byte, and where it begins
+abbrev byte-put : tie.After-slice-known2 Inv-loop μ-loop → tie.After-put-byte Inv-loop μ-loop
+byte-put c = c .before .before
+
+abbrev turn : tie.After-slice-known2 Inv-loop μ-loop → tie.In-loop Inv-loop μ-loop
+turn c = byte-put c .before .before .before
+
+-- where the function begins, seen from the loop
+abbrev begun : tie.At-loop Inv-loop μ-loop → tie.Start Inv-loop μ-loop
+begun c = c .before .before .before
+
 loop-holds : tie.Need-loop-holds Inv-loop μ-loop
 loop-holds c = (omega arith, putting-none _ _ _)
 
@@ -34,16 +45,16 @@ loop-less c = search needs
 
 loop-again : tie.Need-loop-again Inv-loop μ-loop
 loop-again c =
-    let turn = c .before .before .before .before .before in
-    let l = turn .before .loop in
-    let t = turn .before .before .before .before .args .text .now in
-    (omega arith, putting-next (getD t (l .i) 0 ∷ []) _ (l .inv .1) (drop-cons t (l .i) 0 (turn .loop-test .taken) ∙ rw (add-one (l .i)) refl) (c .before .before .put-byte .ensures))
+    let k = turn c in
+    let l = k .before .loop in
+    let t = begun (k .before) .args .text .now in
+    (omega arith, putting-next (getD t (l .i) 0 ∷ []) _ (l .inv .1) (drop-cons t (l .i) 0 (k .loop-test .taken) ∙ rw (add-one (l .i)) refl) (byte-put c .put-byte .ensures))
 
 same-length : tie.Need-same-length Inv-loop μ-loop
 same-length c = putting-same (c .before .loop .inv .1)
 
 returns : tie.Need-returns Inv-loop μ-loop
-returns c = let l = c .before .loop in putting-all (l .inv .1) (drop-of-length-le (c .before .before .before .before .args .text .now) (c .loop-test .left))
+returns c = let l = c .before .loop in putting-all (l .inv .1) (drop-of-length-le (begun (c .before) .args .text .now) (c .loop-test .left))
 
 pub put-bytes-spec : {M : Type 1} → statement M
 put-bytes-spec =

@@ -21,6 +21,13 @@ Inv-loop out₀ at place₀ rest₀ out place rest = Putting (column-items (memb
 abbrev μ-loop : tie.MeasureT-loop
 μ-loop out₀ at place₀ rest₀ out place rest = # width (members (whole rest))
 
+-- where a turn puts the item of its column, and where it finds the column
+abbrev item-put : tie.After-without Inv-loop μ-loop → tie.After-put-item Inv-loop μ-loop
+item-put c = c .before .before .before
+
+abbrev column-found : tie.After-without Inv-loop μ-loop → tie.After-first Inv-loop μ-loop
+column-found c = item-put c .before .before
+
 some : (c : tie.After-first Inv-loop μ-loop) → # width (members (whole (c .before .before .before .loop .rest))) ≢ 0
 some c = eqb-false _ 0 (sym (c .before .before .is-empty .ensures) ∙ not-true _ (c .before .if1 .taken))
 
@@ -46,15 +53,15 @@ without-requires c κs = search needs
 
 loop-less : tie.Need-loop-less Inv-loop μ-loop
 loop-less c =
-    let found = c .before .before .before .before .before in
+    let found = column-found c in
     let there = least-there width _ (some found) in
     rw (c .without .ensures, found .first .ensures) (removed-less width _ _ (there .0) (there .1))
 
 loop-again : tie.Need-loop-again Inv-loop μ-loop
 loop-again c =
-    let found = c .before .before .before .before .before in
+    let found = column-found c in
     let x = found .first .result in
-    putting-next (item x) _ (found .before .before .before .loop .inv) (next found ∙ ap (λ (S : Set). item x ++ column-items S) (sym (c .without .ensures))) (c .before .before .before .put-item .ensures)
+    putting-next (item x) _ (found .before .before .before .loop .inv) (next found ∙ ap (λ (S : Set). item x ++ column-items S) (sym (c .without .ensures))) (item-put c .put-item .ensures)
 
 same-length : tie.Need-same-length Inv-loop μ-loop
 same-length c = putting-same (c .before .before .loop .inv)

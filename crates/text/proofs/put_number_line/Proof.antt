@@ -6,6 +6,16 @@ use borrow.Author.Needs.{needs}
 use Rattle.text.proofs.put_number_line.Statement.{statement}
 use Rattle.text.proofs.put_number_line.Tie as tie
 
+-- where the line's end, the number and the word are put, each seen from where the area has come back
+abbrev end-put : tie.After-slice-known4 → tie.After-put-byte
+end-put c = c .before .before
+
+abbrev number-put : tie.After-slice-known3 → tie.After-put-item
+number-put c = c .before .before
+
+abbrev word-put : tie.After-slice-known2 → tie.After-put-bytes
+word-put c = c .before .before
+
 put-bytes-requires : tie.Need-put-bytes-requires
 put-bytes-requires c κs = search needs
 
@@ -20,9 +30,9 @@ same-length c = search needs
 
 returns : tie.Need-returns
 returns c =
-    let end = c .before .before in
-    let items = end .before .before .before .before in
-    let word = items .before .before .before .before in
+    let end = end-put c in
+    let items = number-put (end .before .before) in
+    let word = word-put (items .before .before) in
     puts-as (sym (line-is _ _)) (puts-then (word .put-bytes .ensures) (puts-then (items .put-item .ensures) (end .put-byte .ensures)))
 
 pub put-number-line-spec : {M : Type 1} → statement M

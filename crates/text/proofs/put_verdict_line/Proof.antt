@@ -7,6 +7,13 @@ use borrow.Author.Needs.{needs}
 use Rattle.text.proofs.put_verdict_line.Statement.{statement}
 use Rattle.text.proofs.put_verdict_line.Tie as tie
 
+-- where either line is put
+abbrev determined-put : tie.After-slice-known2 → tie.After-put-bytes
+determined-put c = c .before .before
+
+abbrev open-put : tie.After-slice-known3 → tie.After-put-bytes2
+open-put c = c .before .before
+
 slice-aggregate-put-bytes : tie.Need-slice-aggregate-put-bytes
 slice-aggregate-put-bytes c = search needs
 
@@ -18,7 +25,9 @@ same-length c = search needs
 
 returns : tie.Need-returns
 unfolding ascii
-returns c = puts-as (sym (verdict-determined _ (c .before .before .before .before .before .if1 .taken))) (c .before .before .put-bytes .ensures)
+returns c =
+    let put = determined-put c in
+    puts-as (sym (verdict-determined _ (put .before .before .before .if1 .taken))) (put .put-bytes .ensures)
 
 slice-aggregate-put-bytes-2 : tie.Need-slice-aggregate-put-bytes-2
 slice-aggregate-put-bytes-2 c = search needs
@@ -31,7 +40,9 @@ same-length-2 c = search needs
 
 returns-2 : tie.Need-returns-2
 unfolding ascii
-returns-2 c = puts-as (sym (verdict-open _ (c .before .before .before .before .before .if1 .left))) (c .before .before .put-bytes2 .ensures)
+returns-2 c =
+    let put = open-put c in
+    puts-as (sym (verdict-open _ (put .before .before .before .if1 .left))) (put .put-bytes2 .ensures)
 
 pub put-verdict-line-spec : {M : Type 1} → statement M
 put-verdict-line-spec =

@@ -18,26 +18,40 @@ use native.Mathlib.Omega.{arith}
 use Rattle.exchange.proofs.admission.is_admissible.Statement.{statement}
 use Rattle.exchange.proofs.admission.is_admissible.Tie as tie
 
+-- where the call begins, seen from where the rows are counted, and from where the sizes have passed their test
+abbrev begun : tie.After-rows → tie.Start
+begun c = c .before .before .before
+
+abbrev entry : tie.Else1 → tie.Start
+entry c = begun (c .before .before)
+
+-- where the sizes have passed, seen from behind the test of the set; and where the set has, seen from behind the last test
+abbrev sized : tie.Else2 → tie.Else1
+sized c = c .before .before
+
+abbrev contained : tie.Else4 → tie.Else2
+contained c = c .before .before .before
+
 -- what each test says
 
-fitted : (c : tie.After-fits2) → let a = c .before .before .before .before .args in c .fits2 .result ≡ fitting (a .n) (a .a) (a .b) (length (a .constants .now)) (length (row-numbers (a .parameters .now)))
-fitted c = let a = c .before .before .before .before .args in c .fits2 .ensures ∙ ap (fitting (a .n) (a .a) (a .b) (length (a .constants .now))) (c .before .rows .ensures)
+fitted : (c : tie.After-fits2) → let a = begun (c .before) .args in c .fits2 .result ≡ fitting (a .n) (a .a) (a .b) (length (a .constants .now)) (length (row-numbers (a .parameters .now)))
+fitted c = let a = begun (c .before) .args in c .fits2 .ensures ∙ ap (fitting (a .n) (a .a) (a .b) (length (a .constants .now))) (c .before .rows .ensures)
 
-fits : (c : tie.Else1) → let a = c .before .before .before .before .before .args in fitting (a .n) (a .a) (a .b) (length (a .constants .now)) (length (row-numbers (a .parameters .now))) ≡ true
+fits : (c : tie.Else1) → let a = entry c .args in fitting (a .n) (a .a) (a .b) (length (a .constants .now)) (length (row-numbers (a .parameters .now))) ≡ true
 fits c = sym (fitted (c .before)) ∙ not-false _ (c .if1 .left)
 
-inside : (c : tie.Else2) → let a = c .before .before .before .before .before .before .before .args in within (a .n) (whole (a .offered)) ≡ true
+inside : (c : tie.Else2) → let a = entry (sized c) .args in within (a .n) (whole (a .offered)) ≡ true
 inside c = sym (c .before .within .ensures) ∙ not-false _ (c .if2 .left)
 
-short : (c : tie.Else3) → ltb (c .before .before .before .before .before .before .before .before .args .p) 65536 ≡ true
-short c = lt-ltb (c .before .before .before .before .before .before .before .before .args .p) 65536 (omega (arith, c .if3 .left))
+short : (c : tie.Else3) → ltb (entry (sized (c .before)) .args .p) 65536 ≡ true
+short c = lt-ltb (entry (sized (c .before)) .args .p) 65536 (omega (arith, c .if3 .left))
 
-prime : (c : tie.Else4) → is-prime (c .before .before .before .before .before .before .before .before .before .before .args .p) ≡ true
+prime : (c : tie.Else4) → is-prime (entry (sized (contained c)) .args .p) ≡ true
 prime c = sym (c .before .is-prime .ensures) ∙ not-false _ (c .if4 .left)
 
 -- what the sizes are when all but the last test have passed
-sizes : (c : tie.Else4) → let a = c .before .before .before .before .before .before .before .before .before .before .args in Fitting (a .n) (a .a) (a .b) (length (a .constants .now)) (length (row-numbers (a .parameters .now)))
-sizes c = fitting-reads _ _ _ _ _ (fits (c .before .before .before .before .before))
+sizes : (c : tie.Else4) → let a = entry (sized (contained c)) .args in Fitting (a .n) (a .a) (a .b) (length (a .constants .now)) (length (row-numbers (a .parameters .now)))
+sizes c = fitting-reads _ _ _ _ _ (fits (sized (contained c)))
 
 rows-requires : tie.Need-rows-requires
 rows-requires c κs = search needs
@@ -47,7 +61,7 @@ fits-requires c κs = search needs
 
 returns : tie.Need-returns
 returns c =
-    let a = c .before .before .before .before .before .args in
+    let a = begun (c .before .before) .args in
     at-fitting (a .p) (a .n) (a .a) (a .b) (whole (a .offered)) (a .constants .now) (row-numbers (a .parameters .now)) (sym (fitted (c .before)) ∙ not-true _ (c .if1 .taken))
 
 within-requires : tie.Need-within-requires
@@ -55,13 +69,13 @@ within-requires c κs = search needs
 
 returns-2 : tie.Need-returns-2
 returns-2 c =
-    let a = c .before .before .before .before .before .before .before .args in
+    let a = entry (c .before .before) .args in
     at-inside (a .p) (a .n) (a .a) (a .b) (whole (a .offered)) (a .constants .now) (row-numbers (a .parameters .now)) (fits (c .before .before)) (sym (c .before .within .ensures) ∙ not-true _ (c .if2 .taken))
 
 returns-3 : tie.Need-returns-3
 returns-3 c =
-    let a = c .before .before .before .before .before .before .before .before .args in
-    at-short (a .p) (a .n) (a .a) (a .b) (whole (a .offered)) (a .constants .now) (row-numbers (a .parameters .now)) (fits (c .before .before .before)) (inside (c .before)) (le-ltb (a .p) 65536 (c .if3 .taken))
+    let a = entry (sized (c .before)) .args in
+    at-short (a .p) (a .n) (a .a) (a .b) (whole (a .offered)) (a .constants .now) (row-numbers (a .parameters .now)) (fits (sized (c .before))) (inside (c .before)) (le-ltb (a .p) 65536 (c .if3 .taken))
 
 is-prime-requires : tie.Need-is-prime-requires
 is-prime-requires c κs = search needs
@@ -69,12 +83,12 @@ is-prime-requires c κs = search needs
 returns-4 : tie.Need-returns-4
 returns-4 c =
     let k = c .before .before in
-    let a = k .before .before .before .before .before .before .before .before .args in
-    at-prime (a .p) (a .n) (a .a) (a .b) (whole (a .offered)) (a .constants .now) (row-numbers (a .parameters .now)) (fits (k .before .before .before)) (inside (k .before)) (short k) (sym (c .before .is-prime .ensures) ∙ not-true _ (c .if4 .taken))
+    let a = entry (sized (k .before)) .args in
+    at-prime (a .p) (a .n) (a .a) (a .b) (whole (a .offered)) (a .constants .now) (row-numbers (a .parameters .now)) (fits (sized (k .before))) (inside (k .before)) (short k) (sym (c .before .is-prime .ensures) ∙ not-true _ (c .if4 .taken))
 
 mul-constants-below : tie.Need-mul-constants-below
 mul-constants-below c =
-    let a = c .before .before .before .before .before .before .before .before .before .before .args in
+    let a = entry (sized (contained c)) .args in
     let small : a .a * a .n ≤ most-rows * most-columns = mul-le-mul {n₂ = most-rows} {m₂ = most-columns} (sizes c .constant-rows) (sizes c .columns) in
     omega arith
 
@@ -84,9 +98,9 @@ constants-below-requires c κs = (sizes c .constants-lent, omega (arith, is-prim
 returns-5 : tie.Need-returns-5
 returns-5 c =
     let k = c .before .before .before in
-    let a = k .before .before .before .before .before .before .before .before .args in
+    let a = entry (sized (k .before)) .args in
     c .constants-below .ensures
-    ∙ at-last (a .p) (a .n) (a .a) (a .b) (whole (a .offered)) (a .constants .now) (row-numbers (a .parameters .now)) (fits (k .before .before .before)) (inside (k .before)) (short k) (prime (c .before))
+    ∙ at-last (a .p) (a .n) (a .a) (a .b) (whole (a .offered)) (a .constants .now) (row-numbers (a .parameters .now)) (fits (sized (k .before))) (inside (k .before)) (short k) (prime (c .before))
 
 pub is-admissible-spec : {M : Type 1} → statement M
 is-admissible-spec =

@@ -29,6 +29,10 @@ Inv-loop constants k top₀ i₀ top i = (i ≤ k) × Largest constants i top
 abbrev μ-loop : tie.MeasureT-loop
 μ-loop constants k top₀ i₀ top i = k - i
 
+-- where a turn begins
+abbrev turn : tie.Joined1 Inv-loop μ-loop → tie.At-loop Inv-loop μ-loop
+turn c = c .before .before .before
+
 loop-holds : tie.Need-loop-holds Inv-loop μ-loop
 loop-holds c = (search needs, record { most = λ j l. absurd (omega arith); one = inl refl })
 
@@ -46,8 +50,8 @@ loop-less c = search needs
 
 loop-again : tie.Need-loop-again Inv-loop μ-loop
 loop-again c =
-    let l = c .before .before .before .loop in
-    let cs = c .before .before .before .before .args .constants .now in (
+    let l = turn c .loop in
+    let cs = turn c .before .args .constants .now in (
       omega arith,
       ⊎-elim
           (λ w. rw (w .1) (largest-more cs (l .i) (l .top) (w .0 .taken) (l .inv .1)))

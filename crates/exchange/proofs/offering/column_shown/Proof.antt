@@ -1,6 +1,6 @@
 -- `exchange::offering::column_shown` meets its contract. Assumes nothing.
 use mathlib.Core.Path.{sym}
-use Rattle.exchange.specs.Code.Answer.{shown-low, shown-high}
+use Rattle.exchange.proofs.AnswerLaws.{shown-low, shown-high}
 use borrow.Author.Needs.{needs}
 use native.Mathlib.Omega.{arith}
 use Rattle.exchange.proofs.offering.column_shown.Statement.{statement}

@@ -6,7 +6,8 @@ use Rattle.columns.specs.Columns.{members, inserted}
 use Rattle.columns.specs.ColumnSets.{whole}
 use Rattle.columns.specs.Words.Sets.{empty-none}
 use Rattle.exchange.specs.Code.Scanning.{owner-at}
-use Rattle.exchange.specs.Code.Answer.{Side, side-none, side-more, side-skip}
+use Rattle.exchange.specs.Code.Answer.{Side}
+use Rattle.exchange.proofs.AnswerLaws.{side-none, side-more, side-skip}
 use borrow.Author.Needs.{needs}
 use native.Mathlib.Omega.{arith}
 use Rattle.exchange.proofs.offering.constant_side.Statement.{statement}
@@ -17,6 +18,10 @@ Inv-loop owner n a side₀ q₀ side q = (q ≤ a) × Side n q owner (members (w
 
 abbrev μ-loop : tie.MeasureT-loop
 μ-loop owner n a side₀ q₀ side q = a - q
+
+-- where a turn begins
+abbrev turn : tie.After-widened Inv-loop μ-loop → tie.At-loop Inv-loop μ-loop
+turn c = c .before .before .before
 
 empty-requires : tie.Need-empty-requires Inv-loop μ-loop
 empty-requires c κs = search needs
@@ -41,8 +46,8 @@ loop-less c = search needs
 
 loop-again : tie.Need-loop-again Inv-loop μ-loop
 loop-again c =
-    let l = c .before .before .before .before .loop in
-    let a = c .before .before .before .before .before .before .args in
+    let l = turn (c .before) .loop in
+    let a = turn (c .before) .before .before .args in
     let y = c .before .widened .result in
     let ey : y ≡ owner-at (a .owner .now) (l .q) = c .before .widened .ensures .0 in (
       search needs,

@@ -18,6 +18,10 @@ Inv-loop owner n a b rows₀ r₀ rows r = (r ≤ b) × (length rows ≡ most-ro
 abbrev μ-loop : tie.MeasureT-loop
 μ-loop owner n a b rows₀ r₀ rows r = b - r
 
+-- where a turn begins
+abbrev turn : tie.After-column-shown Inv-loop μ-loop → tie.At-loop Inv-loop μ-loop
+turn c = c .before .before .before
+
 loop-holds : tie.Need-loop-holds Inv-loop μ-loop
 loop-holds c = (search needs, refl, record { owners = λ k l. absurd (omega arith); past = λ k l m. getD-replicate most-rows k no-column 0 m })
 
@@ -41,8 +45,8 @@ loop-less c = search needs
 
 loop-again : tie.Need-loop-again Inv-loop μ-loop
 loop-again c =
-    let l = c .before .before .before .loop in
-    let a = c .before .before .before .before .args in
+    let l = turn c .loop in
+    let a = turn c .before .args in
     let v = c .column-shown .result in
     let inside : l .r < length (l .rows) = omega arith in (
       search needs,

@@ -14,6 +14,10 @@ Inv-loop owner rows x q₀ q = (q ≤ rows) × ((k : ℕ) → k < q → owner-at
 abbrev μ-loop : tie.MeasureT-loop
 μ-loop owner rows x q₀ q = rows - q
 
+-- where a turn begins
+abbrev turn : tie.After-widened Inv-loop μ-loop → tie.At-loop Inv-loop μ-loop
+turn c = c .before .before .before
+
 loop-holds : tie.Need-loop-holds Inv-loop μ-loop
 loop-holds c = (search needs, λ k l. absurd (omega arith))
 
@@ -34,7 +38,7 @@ loop-less c = search needs
 
 loop-again : tie.Need-loop-again Inv-loop μ-loop
 loop-again c =
-    let q = c .before .before .before .before in
+    let q = turn (c .before) in
     (search needs, below-more (λ k. owner-at (q .before .args .owner .now) k ≡ q .before .args .x → ⊥) (q .loop .q) (q .loop .inv .1) (λ e. c .if1 .left (c .before .widened .ensures .0 ∙ e)))
 
 returns-2 : tie.Need-returns-2 Inv-loop μ-loop

@@ -5,6 +5,13 @@ use mathlib.Core.Path.{refl}
 use Rattle.exchange.proofs.seating.seat.Statement.{statement}
 use Rattle.exchange.proofs.seating.seat.Tie as tie
 
+-- where the old row is free, seen from behind the pivot; and where the function begins
+abbrev freed : tie.After-pivot → tie.After-vacate
+freed c = c .before .before .before
+
+abbrev begun : tie.After-vacate → tie.Start
+begun c = c .before .before
+
 vacate-requires : tie.Need-vacate-requires
 vacate-requires c κs = search needs
 
@@ -19,17 +26,17 @@ pivot-requires c κs = search needs
 
 returns : tie.Need-returns
 returns c =
-    let l = c .before .before .before .before .before .pre .0 in (
+    let l = begun (freed c) .pre .0 in (
       record { tableau = c .pivot .ensures .0 .full; owners = search needs; columns = l .columns; constant-rows = l .constant-rows; all-rows = l .all-rows },
       c .pivot .ensures .0 .below,
-      record { middle = _; vacated = c .before .before .before .vacate .ensures .1; owners = refl; pivoted = λ l. c .pivot .ensures .1; kept = λ l. absurd (omega arith) },
+      record { middle = _; vacated = freed c .vacate .ensures .1; owners = refl; pivoted = λ l. c .pivot .ensures .1; kept = λ l. absurd (omega arith) },
     )
 
 returns-2 : tie.Need-returns-2
 returns-2 c =
-    let l = c .before .before .before .pre .0 in (
+    let l = begun (c .before) .pre .0 in (
       record { tableau = l .tableau; owners = search needs; columns = l .columns; constant-rows = l .constant-rows; all-rows = l .all-rows },
-      c .before .before .before .pre .1,
+      begun (c .before) .pre .1,
       record { middle = _; vacated = c .before .vacate .ensures .1; owners = refl; pivoted = λ l. absurd (omega arith); kept = λ l. refl },
     )
 

@@ -11,14 +11,28 @@ use Rattle.host.proofs.AreaLaws.{refused-before, answer-put}
 use Rattle.solvability.proofs.calls.wundreska_check.Statement.{statement}
 use Rattle.solvability.proofs.calls.wundreska_check.Tie as tie
 
+-- where the call begins, where the file is answered, where the answer is put, and where the file was accepted
+abbrev begun : tie.After-layered-file → tie.Start
+begun c = c .before .before .before
+
+abbrev answered : tie.After-struct-known → tie.After-layered-file
+answered c = c .before
+
+abbrev put : tie.After-slice-known2 → tie.After-put-answer
+put c = c .before .before
+
+abbrev accepted : tie.After-slice-known2 → tie.Else1
+accepted c = put c .before .before
+
 layered-file-requires : tie.Need-layered-file-requires
 layered-file-requires c κs = search needs
 
 returns : tie.Need-returns
 unfolding judge
 returns c =
-    let a = c .before .before .before .before .before .args in
-    refused-before (closed fields (a .file .now)) [] answer-length (AnswerWritten (file-model (a .file .now))) (a .answer .now) _ (c .before .before .layered-file .ensures .is-refusal) (c .if1 .taken)
+    let f = answered (c .before) in
+    let a = begun f .args in
+    refused-before (closed fields (a .file .now)) [] answer-length (AnswerWritten (file-model (a .file .now))) (a .answer .now) _ (f .layered-file .ensures .is-refusal) (c .if1 .taken)
 
 put-answer-requires : tie.Need-put-answer-requires
 put-answer-requires c κs = search needs
@@ -29,10 +43,10 @@ same-length c = search needs
 returns-2 : tie.Need-returns-2
 unfolding judge first-refusal
 returns-2 c =
-    let at-else = c .before .before .before .before in
-    let h = at-else .before .before .layered-file .ensures in
-    let ok = sym (h .is-refusal) ∙ at-else .if1 .left in
-    answer-put answer-bytes (closed fields (at-else .before .before .before .before .before .args .file .now)) [] _ (h .if-accepted ok) ok refl (c .before .before .put-answer .ensures)
+    let f = answered (accepted c .before) in
+    let h = f .layered-file .ensures in
+    let ok = sym (h .is-refusal) ∙ accepted c .if1 .left in
+    answer-put answer-bytes (closed fields (begun f .args .file .now)) [] _ (h .if-accepted ok) ok refl (put c .put-answer .ensures)
 
 pub wundreska-check-spec : {M : Type 1} → statement M
 wundreska-check-spec = tie.close (tie.spec layered-file-requires returns put-answer-requires same-length returns-2)

@@ -1,0 +1,5 @@
+pub mod CellLaws
+pub mod HeldLaws
+pub mod PlacingLaws
+pub mod OfferingLaws
+pub mod AnswerLaws
