@@ -26,7 +26,8 @@ use Rattle.rank.specs.Layered.ColumnOrder.{placed-below}
 use Rattle.rank.specs.Layered.Offers.{finished, StateAnswers, state-answers}
 use Rattle.exchange.specs.Solution.{shown-row, shown, ShowsRow, Solved}
 use Rattle.exchange.specs.Code.Scanning.{owner-at}
-use Rattle.exchange.specs.Code.Searching.{Ended, Final, Searched, in-last}
+use Rattle.exchange.specs.Code.Searching.{Ended, Final, Searched}
+use Rattle.exchange.proofs.SearchingLaws.{in-last}
 use Rattle.exchange.specs.Code.Held.{Given, model-of}
 use Rattle.exchange.specs.Code.Offering.{Offered-all}
 use Rattle.exchange.specs.Code.Answer.{Side, shown-column, RowsShown}

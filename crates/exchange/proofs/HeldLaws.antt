@@ -27,7 +27,8 @@ use Rattle.rank.specs.Layered.Seating.{good-valid, freed, moved-valid, moved}
 use Rattle.rank.specs.Layered.Assignments.{offered-owner}
 use Rattle.exchange.specs.Sizes.{stride, lines}
 use Rattle.exchange.specs.Code.Cells.{cell, Below, Pivoted}
-use Rattle.exchange.specs.Code.Scanning.{Arrays, touched, touched-constant, touched-parameter, owner-at}
+use Rattle.exchange.specs.Code.Scanning.{Arrays, touched, owner-at}
+use Rattle.exchange.proofs.ScanningLaws.{touched-constant, touched-parameter}
 use Rattle.exchange.specs.Code.Searching.{Shows}
 use Rattle.exchange.specs.Code.Held.{Sat, Given, model-of, Held}
 use Rattle.exchange.proofs.CellLaws.{cleared-is}

@@ -1,4 +1,6 @@
 pub mod CellLaws
+pub mod ScanningLaws
+pub mod SearchingLaws
 pub mod HeldLaws
 pub mod PlacingLaws
 pub mod OfferingLaws

@@ -17,7 +17,8 @@ use Rattle.rank.specs.Graph.Search.{Hit, fall}
 use Rattle.rank.specs.Layered.Augmenting.{only, only-iff, OneMore, entered-more}
 use Rattle.exchange.specs.declared.search.Found.{Found}
 use Rattle.exchange.specs.Code.Scanning.{Arrays, touched, owner-at}
-use Rattle.exchange.specs.Code.Searching.{Shows, Ended, Searched, in-last}
+use Rattle.exchange.specs.Code.Searching.{Shows, Ended, Searched}
+use Rattle.exchange.proofs.SearchingLaws.{in-last}
 use Rattle.exchange.specs.Code.Held.{Given, Held, Sat}
 use Rattle.exchange.proofs.HeldLaws.{held-shows, Seated, seat-held}
 

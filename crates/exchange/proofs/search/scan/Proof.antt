@@ -12,7 +12,8 @@ use Rattle.columns.specs.Columns.{width, members, inserted}
 use Rattle.columns.specs.ColumnSets.{whole, row-numbers}
 use Rattle.columns.specs.Words.Sets.{columns-below, empty-none}
 use Rattle.columns.specs.Words.SetLaws.{inserted-same, inserted-old, removed-old, removed-other, removed-less, least-there, nothing-in}
-use Rattle.exchange.specs.Code.Scanning.{touched, owner-at, RowsRead, rows-kept, rows-down, Owners, owners-none, owners-more}
+use Rattle.exchange.specs.Code.Scanning.{touched, owner-at, RowsRead, Owners}
+use Rattle.exchange.proofs.ScanningLaws.{rows-kept, rows-down, owners-none, owners-more}
 use borrow.Author.Needs.{needs}
 use native.Mathlib.Omega.{arith}
 use Rattle.exchange.proofs.search.scan.Statement.{statement}

@@ -11,7 +11,8 @@ use Rattle.columns.specs.ColumnSets.{whole, row-numbers}
 use Rattle.columns.specs.Words.SetLaws.{union-more}
 use Rattle.rank.specs.Graph.States.{State}
 use Rattle.exchange.specs.Code.Scanning.{touched, owner-at}
-use Rattle.exchange.specs.Code.Searching.{Shows, Reaching, reaching-start, reaching-more, ended, final}
+use Rattle.exchange.specs.Code.Searching.{Shows}
+use Rattle.exchange.proofs.SearchingLaws.{Reaching, reaching-start, reaching-more, ended, final}
 use borrow.Author.Needs.{needs}
 use native.Mathlib.Omega.{arith}
 use Rattle.exchange.proofs.search.search.Statement.{statement}

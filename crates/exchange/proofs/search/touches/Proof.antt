@@ -2,7 +2,7 @@
 use Prim.Native.Nat.{ℕ}
 use mathlib.Core.Path.{_∙_, sym, ap}
 use Rattle.columns.specs.Columns.{members}
-use Rattle.exchange.specs.Code.Scanning.{touched-constant, touched-parameter}
+use Rattle.exchange.proofs.ScanningLaws.{touched-constant, touched-parameter}
 use borrow.Author.Needs.{needs}
 use native.Mathlib.Omega.{arith}
 use Rattle.exchange.proofs.search.touches.Statement.{statement}
