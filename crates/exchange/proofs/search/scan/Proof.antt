@@ -31,14 +31,31 @@ Inv-search t owner parameters n a rows rest₀ next₀ column₀ row₀ rest nex
 abbrev μ-search : tie.MeasureT-search
 μ-search t owner parameters n a rows rest₀ next₀ column₀ row₀ rest next column row = # width (members (whole rest))
 
+-- where the turn of a column begins, seen from where it is to be chosen, and where the call does
+abbrev turn : tie.Then1 Inv-loop μ-loop Inv-search μ-search → tie.At-search Inv-loop μ-loop Inv-search μ-search
+turn s = s .before .before
+
+abbrev begun : tie.At-search Inv-loop μ-loop Inv-search μ-search → tie.Start Inv-loop μ-loop Inv-search μ-search
+begun k = k .before .before .before
+
+-- where it is known whether the row touches the column, where the row's turn begins, and where its column was chosen
+abbrev tested : tie.After-widened Inv-loop μ-loop Inv-search μ-search → tie.After-touches Inv-loop μ-loop Inv-search μ-search
+tested c = c .before .before .before
+
+abbrev row-turn : tie.After-touches Inv-loop μ-loop Inv-search μ-search → tie.At-loop Inv-loop μ-loop Inv-search μ-search
+row-turn c = c .before .before
+
+abbrev chosen : tie.At-loop Inv-loop μ-loop Inv-search μ-search → tie.After-first Inv-loop μ-loop Inv-search μ-search
+chosen l = l .before
+
 -- the column of a turn is the least of what is left
-there : (c : tie.After-first Inv-loop μ-loop Inv-search μ-search) → (c .first .result < width) × (c .first .result ∈ members (whole (c .before .before .before .search .rest)))
+there : (c : tie.After-first Inv-loop μ-loop Inv-search μ-search) → (c .first .result < width) × (c .first .result ∈ members (whole (turn (c .before) .search .rest)))
 there c =
-    let some : # width (members (whole (c .before .before .before .search .rest))) ≢ 0 = eqb-false _ 0 (sym (c .before .before .is-empty .ensures) ∙ not-in _ (c .before .if1 .taken)) in
+    let some : # width (members (whole (turn (c .before) .search .rest))) ≢ 0 = eqb-false _ 0 (sym (c .before .before .is-empty .ensures) ∙ not-in _ (c .before .if1 .taken)) in
     rw (c .first .ensures) (least-there width _ some)
 
-in-front : (c : tie.After-first Inv-loop μ-loop Inv-search μ-search) → c .first .result ∈ members (whole (c .before .before .before .before .before .before .args .front))
-in-front c = c .before .before .before .search .inv .1 _ (there c .1)
+in-front : (c : tie.After-first Inv-loop μ-loop Inv-search μ-search) → c .first .result ∈ members (whole (begun (turn (c .before)) .args .front))
+in-front c = turn (c .before) .search .inv .1 _ (there c .1)
 
 empty-requires : tie.Need-empty-requires Inv-loop μ-loop Inv-search μ-search
 empty-requires c κs = search needs
@@ -77,14 +94,16 @@ loop-less c = search needs
 
 loop-again : tie.Need-loop-again Inv-loop μ-loop Inv-search μ-search
 loop-again c =
-    let l = c .before .before .before .before .before .before .before .loop in
-    let s = c .before .before .before .before .before .before .before .before in
-    let a = s .before .before .before .before .before .before .args in
+    let read = c .before .before in
+    let touch = tested read in
+    let l = row-turn touch .loop in
+    let s = chosen (row-turn touch) in
+    let a = begun (turn (s .before)) .args in
     let T = touched (a .a) (a .t .now) (row-numbers (a .parameters .now)) in
     let o = owner-at (a .owner .now) in
     let q = l .q - 1 in
-    let y = c .before .before .widened .result in
-    let ey : y ≡ o q = c .before .before .widened .ensures .0 in
+    let y = read .widened .result in
+    let ey : y ≡ o q = read .widened .ensures .0 in
     let lo : o q < a .n = omega arith in
     let e : members (whole (c .with .result)) ≡ inserted (members (whole (l .next))) (o q) = c .with .ensures ∙ ap (inserted (members (whole (l .next)))) ey in
     let up : q + 1 ≡ l .q = omega arith in
@@ -94,7 +113,7 @@ loop-again c =
       l .inv .1,
       (λ z h. kept z (l .inv .2 z h)),
       rows-down (a .n) (a .rows) T o (inserted (members (whole (l .next))) (o q)) (s .first .result) q (λ t. (lo, inserted-same (members (whole (l .next))) (o q) (omega arith))) (rw up (rows-kept (a .n) (a .rows) T o (members (whole (l .next))) (inserted (members (whole (l .next))) (o q)) (s .first .result) (l .q) kept (l .inv .3))),
-      λ F i h. owners-more (a .n) (a .rows) T o F (members (whole (l .next))) (s .first .result) q (l .inv .4 F i h) i (omega arith) (sym (c .before .before .before .before .before .touches .ensures) ∙ c .before .before .before .before .if2 .taken) lo,
+      λ F i h. owners-more (a .n) (a .rows) T o F (members (whole (l .next))) (s .first .result) q (l .inv .4 F i h) i (omega arith) (sym (touch .touches .ensures) ∙ read .before .before .if2 .taken) lo,
     )
 
 loop-less-2 : tie.Need-loop-less-2 Inv-loop μ-loop Inv-search μ-search
@@ -102,9 +121,9 @@ loop-less-2 c = search needs
 
 loop-again-2 : tie.Need-loop-again-2 Inv-loop μ-loop Inv-search μ-search
 loop-again-2 c =
-    let l = c .before .before .before .loop in
-    let s = c .before .before .before .before in
-    let a = s .before .before .before .before .before .before .args in
+    let l = row-turn (c .before) .loop in
+    let s = chosen (row-turn (c .before)) in
+    let a = begun (turn (s .before)) .args in
     let T = touched (a .a) (a .t .now) (row-numbers (a .parameters .now)) in
     let o = owner-at (a .owner .now) in
     let q = l .q - 1 in
@@ -123,14 +142,14 @@ search-less : tie.Need-search-less Inv-loop μ-loop Inv-search μ-search
 search-less c =
     let s = c .before .before .before in
     let w = there s in
-    rw (c .without .ensures) (removed-less width (members (whole (s .before .before .before .search .rest))) (s .first .result) (w .0) (w .1))
+    rw (c .without .ensures) (removed-less width (members (whole (turn (s .before) .search .rest))) (s .first .result) (w .0) (w .1))
 
 search-again : tie.Need-search-again Inv-loop μ-loop Inv-search μ-search
 search-again c =
     let l = c .before .before .loop in
     let s = c .before .before .before in
-    let k = s .before .before .before .search in
-    let a = s .before .before .before .before .before .before .args in
+    let k = turn (s .before) .search in
+    let a = begun (turn (s .before)) .args in
     let T = touched (a .a) (a .t .now) (row-numbers (a .parameters .now)) in
     let o = owner-at (a .owner .now) in
     let x = s .first .result in
@@ -148,22 +167,22 @@ search-again c =
 returns : tie.Need-returns Inv-loop μ-loop Inv-search μ-search
 returns c =
     let s = c .before .before .search in
-    let k = c .before .before .before .before .before in
     let gone : # width (members (whole (s .rest))) ≡ 0 = eqb-true _ 0 (sym (c .before .is-empty .ensures) ∙ not-false _ (c .if1 .left)) in
     record {
       at-end = λ h. absurd (omega arith);
-      all-read = λ h y e. ⊎-elim (λ b. absurd (nothing-in width (members (whole (s .rest))) gone y (columns-below (k .args .front) y (search needs) (s .inv .1 y b)) b)) (λ rows. rows) (s .inv .2 y e);
+      all-read = λ h y e. ⊎-elim (λ b. absurd (nothing-in width (members (whole (s .rest))) gone y (columns-below (begun (c .before .before) .args .front) y (search needs) (s .inv .1 y b)) b)) (λ rows. rows) (s .inv .2 y e);
       from = s .inv .3;
     }
 
 returns-2 : tie.Need-returns-2 Inv-loop μ-loop Inv-search μ-search
 returns-2 c =
-    let l = c .before .before .before .before .before .before .loop in
-    let s = c .before .before .before .before .before .before .before in
+    let touch = tested (c .before) in
+    let l = row-turn touch .loop in
+    let s = chosen (row-turn touch) in
     record {
-      at-end = λ h. (in-front s, sym (c .before .before .before .before .touches .ensures) ∙ c .before .before .before .if2 .taken, omega (arith, c .before .widened .ensures .0));
+      at-end = λ h. (in-front s, sym (touch .touches .ensures) ∙ c .before .before .before .if2 .taken, omega (arith, c .before .widened .ensures .0));
       all-read = λ h. absurd (omega arith);
-      from = l .inv .4 _ (in-front s) (s .before .before .before .search .inv .3);
+      from = l .inv .4 _ (in-front s) (turn (s .before) .search .inv .3);
     }
 
 pub scan-spec : {M : Type 1} → statement M

@@ -24,14 +24,25 @@ Inv-loop t owner parameters n a rows reached₀ front₀ depth₀ reached front 
 abbrev μ-loop : tie.MeasureT-loop
 μ-loop t owner parameters n a rows reached₀ front₀ depth₀ reached front depth = width - # width (members (whole reached))
 
+-- where a turn has read its layer, and where it begins
+abbrev read : tie.After-difference Inv-loop μ-loop → tie.After-scan Inv-loop μ-loop
+read d = d .before .before .before
+
+abbrev turn : tie.After-scan Inv-loop μ-loop → tie.At-loop Inv-loop μ-loop
+turn r = r .before
+
+-- where the new columns are known
+abbrev brought : tie.After-union Inv-loop μ-loop → tie.After-difference Inv-loop μ-loop
+brought c = c .before .before .before
+
 -- the columns that a turn brings
-grown : (c : tie.After-union Inv-loop μ-loop) → # width (members (whole (c .before .before .before .before .before .before .before .loop .reached))) < # width (members (whole (c .union .result)))
+grown : (c : tie.After-union Inv-loop μ-loop) → # width (members (whole (turn (read (brought c)) .loop .reached))) < # width (members (whole (c .union .result)))
 grown c =
-    let r = members (whole (c .before .before .before .before .before .before .before .loop .reached)) in
-    let m = members (whole (c .before .before .before .before .before .before .scan .result .next)) in
-    let d = members (whole (c .before .before .before .difference .result)) in
+    let r = members (whole (turn (read (brought c)) .loop .reached)) in
+    let m = members (whole (read (brought c) .scan .result .next)) in
+    let d = members (whole (brought c .difference .result)) in
     let some : # width d ≢ 0 = eqb-false (# width d) 0 (sym (c .before .before .is-empty .ensures) ∙ c .before .if2 .left) in
-    let new : # width (m ∩ ∁ r) ≢ 0 = λ z. some (ap (# width) (c .before .before .before .difference .ensures) ∙ z) in
+    let new : # width (m ∩ ∁ r) ≢ 0 = λ z. some (ap (# width) (brought c .difference .ensures) ∙ z) in
     rw (c .union .ensures) (union-more width r m new)
 
 loop-holds : tie.Need-loop-holds Inv-loop μ-loop
@@ -54,11 +65,11 @@ is-empty-requires c κs = search needs
 
 returns-2 : tie.Need-returns-2 Inv-loop μ-loop
 returns-2 c =
-    let l = c .before .before .before .before .before .before .loop in
+    let r = read (c .before .before) in
     let none-new : # width (members (whole (c .before .before .difference .result))) ≡ 0 = eqb-true _ 0 (sym (c .before .is-empty .ensures) ∙ c .if2 .taken) in
     λ E s h b. (
       (λ k. absurd (omega arith)),
-      λ k. final s _ E h _ _ _ _ _ _ (l .inv .1 E s h b) (c .before .before .before .before .before .scan .ensures) (c .before .before .before .if1 .left) (omega arith) (rw (c .before .before .difference .ensures) at none-new),
+      λ k. final s _ E h _ _ _ _ _ _ (turn r .loop .inv .1 E s h b) (r .scan .ensures) (c .before .before .before .if1 .left) (omega arith) (rw (c .before .before .difference .ensures) at none-new),
     )
 
 union-requires : tie.Need-union-requires Inv-loop μ-loop
@@ -72,10 +83,10 @@ loop-less c = omega (arith, grown c, #-le width (members (whole (c .union .resul
 
 loop-again : tie.Need-loop-again Inv-loop μ-loop
 loop-again c =
-    let l = c .before .before .before .before .before .before .before .loop in (
+    let d = brought c in (
       omega (arith, grown c),
-      λ E s h b. rw (c .union .ensures, c .before .before .before .difference .ensures)
-          (reaching-more s _ E h _ _ _ _ _ _ (l .inv .1 E s h b) (c .before .before .before .before .before .before .scan .ensures) (c .before .before .before .before .if1 .left)),
+      λ E s h b. rw (c .union .ensures, d .difference .ensures)
+          (reaching-more s _ E h _ _ _ _ _ _ (turn (read d) .loop .inv .1 E s h b) (read d .scan .ensures) (d .before .if1 .left)),
     )
 
 pub search-spec : {M : Type 1} → statement M

@@ -8,6 +8,10 @@ use native.Mathlib.Omega.{arith}
 use Rattle.exchange.proofs.search.touches.Statement.{statement}
 use Rattle.exchange.proofs.search.touches.Tie as tie
 
+-- where the call begins
+abbrev begun : tie.After-row → tie.Start
+begun r = r .before .before .before
+
 mul-i : tie.Need-mul-i
 mul-i c = search needs
 
@@ -30,7 +34,7 @@ returns : tie.Need-returns
 returns c = sym (touched-constant _ _ _ _ _ (omega arith))
 
 returns-2 : tie.Need-returns-2
-returns-2 c = c .contains .ensures ∙ ap (λ (w : ℕ). members w (c .before .before .before .before .args .x)) (c .before .row .ensures) ∙ sym (touched-parameter _ _ _ _ _ (omega arith))
+returns-2 c = c .contains .ensures ∙ ap (λ (w : ℕ). members w (begun (c .before) .args .x)) (c .before .row .ensures) ∙ sym (touched-parameter _ _ _ _ _ (omega arith))
 
 pub touches-spec : {M : Type 1} → statement M
 touches-spec =
