@@ -9,7 +9,7 @@ use native.Mathlib.Omega.{arith}
 use Rattle.exchange.proofs.admission.fits.Statement.{statement}
 use Rattle.exchange.proofs.admission.fits.Tie as tie
 
--- where the function begins, seen from behind the tests of the sizes alone
+-- where the function begins, seen from behind the tests of n, a and b
 abbrev begun : tie.Else3 → tie.Start
 begun c = c .before .before .before
 
