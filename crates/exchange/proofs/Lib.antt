@@ -1,3 +1,4 @@
+pub mod AdmissionLaws
 pub mod CellLaws
 pub mod ScanningLaws
 pub mod SearchingLaws

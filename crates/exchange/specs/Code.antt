@@ -1,4 +1,5 @@
 -- What the code's arrays mean, and what its functions do to them.
+pub mod Admission
 pub mod Cells
 pub mod Scanning
 pub mod Searching

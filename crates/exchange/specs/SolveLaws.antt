@@ -1,7 +1,6 @@
 -- The laws of the tests of `Solve`: how the code comes to them, and what they say. Assumes nothing.
 use Prim.Native.Nat.{ℕ, _*_, _≤_, _<_}
 use mathlib.Core.Path.{_≡_, refl}
-use mathlib.Core.Logic.{_⊎_, inl, inr}
 use mathlib.Core.Bool.{true, false, _&&_}
 use mathlib.Core.List.{List}
 use native.Mathlib.Omega.{arith}
@@ -10,8 +9,7 @@ use lib.Dec.{leb, ltb}
 use borrow.Author.Tests.{leb-true, lt-ltb, ltb-true}
 use Rattle.limits.specs.Limits.{most-columns, most-rows}
 use Rattle.residue.specs.Arithmetic.{is-prime}
-use Rattle.counting.specs.Bools.{iff-eq, and-left, and-right}
-use Rattle.counting.specs.Sets.{Some}
+use Rattle.counting.specs.Bools.{and-left, and-right}
 use Rattle.counting.specs.Counts.{all-iff}
 use Rattle.columns.specs.Columns.{within}
 use Rattle.exchange.specs.Solve.{all-below, fitting, admissible}
@@ -22,16 +20,6 @@ all-below-iff p k cs = (
   (λ e i l. ltb-true (getD cs i 0) p (all-iff k (λ i. ltb (getD cs i 0) p) .0 e i l)),
   λ h. all-iff k (λ i. ltb (getD cs i 0) p) .1 (λ i l. lt-ltb (getD cs i 0) p (h i l)),
 )
-
--- the largest of the first k constants, and 0 of none
-pub record Largest (cs : List ℕ) (k top : ℕ) : Type 0 where
-  pub most : (i : ℕ) → i < k → getD cs i 0 ≤ top
-  pub one : (top ≡ 0) ⊎ Some k (λ i. getD cs i 0 ≡ top)
-
-pub below-largest : (p k top : ℕ) (cs : List ℕ) → 0 < p → Largest cs k top → ltb top p ≡ all-below p k cs
-below-largest p k top cs pos h = iff-eq (ltb top p) (all-below p k cs)
-    (λ e. all-below-iff p k cs .1 (λ i l. omega (arith, ltb-true top p e, h .most i l)))
-    (λ e. lt-ltb top p (elim (h .one) [ inl z ↦ omega arith | inr w ↦ omega (arith, all-below-iff p k cs .0 e (w .0) (w .1), w .2) ]))
 
 pub record Fitting (n a b c w : ℕ) : Type 0 where
   pub columns : n ≤ most-columns

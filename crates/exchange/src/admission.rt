@@ -4,7 +4,7 @@ ghost use Prim.Native.Nat.{_*_, _<_, _≤_};
 ghost use lib.ListN.{length};
 ghost use Rattle.columns.specs.ColumnSets.{whole, row-numbers};
 ghost use Rattle.exchange.specs.Solve.{all-below, fitting, admissible};
-ghost use Rattle.exchange.specs.SolveLaws.{Largest};
+ghost use Rattle.exchange.specs.Code.Admission.{Largest};
 use columns::ColumnSet;
 use limits::MOST_COLUMNS;
 use limits::MOST_ROWS;

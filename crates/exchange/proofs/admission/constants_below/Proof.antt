@@ -1,5 +1,5 @@
 -- `exchange::admission::constants_below` meets its contract. Assumes nothing.
-use Rattle.exchange.specs.SolveLaws.{below-largest}
+use Rattle.exchange.proofs.AdmissionLaws.{below-largest}
 use borrow.Author.Needs.{needs}
 use Rattle.exchange.proofs.admission.constants_below.Statement.{statement}
 use Rattle.exchange.proofs.admission.constants_below.Tie as tie
