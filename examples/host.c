@@ -65,6 +65,10 @@ static int act(int verdict, int rank, const uint8_t *short_columns, int first)
         start_solver((unsigned)rank);
         return 1;
     }
+    if (verdict == WUNDRESKA_SURPLUS) {
+        printf("no start: rank %d, and equations are left over that may contradict the others\n", rank);
+        return 0;
+    }
     printf("no start: rank %d, equations are lacking among columns", rank);
     print_columns(short_columns, first);
     return 0;

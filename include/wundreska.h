@@ -1,7 +1,7 @@
 /* wundreska.h: the solvability check for layered and mixed plant models, as a C host calls it.
  *
- * A call judges a model file and, if it is accepted, says whether the model determines all its unknowns: wundreska_check for a
- * layered model, wundreska_mixed for a mixed one. Start a solver on WUNDRESKA_DETERMINED alone.
+ * A call judges a model file and, if it is accepted, says whether the model determines all its unknowns with no equation left over:
+ * wundreska_check for a layered model, wundreska_mixed for a mixed one. Start a solver on WUNDRESKA_DETERMINED alone.
  *
  * Words. A model has a prime p, n columns (the unknowns), a constant rows and b parameter rows. Rows and columns count
  * from 0. A constant is a whole number from 0 to p - 1 (minus one is p - 1); a parameter row only says at which columns it
@@ -48,8 +48,8 @@ extern "C" {
 #endif
 
 /* The version of this header and of the archive that it comes with. */
-#define WUNDRESKA_VERSION "1.0.0"
-#define WUNDRESKA_VERSION_MAJOR 1
+#define WUNDRESKA_VERSION "2.0.0"
+#define WUNDRESKA_VERSION_MAJOR 2
 #define WUNDRESKA_VERSION_MINOR 0
 #define WUNDRESKA_VERSION_PATCH 0
 
@@ -64,9 +64,10 @@ extern "C" {
  * ./check takes the number from here. */
 #define WUNDRESKA_FILE_MAX 9102
 
-/* The verdicts of both calls. A model is determined exactly where its rank equals n; surplus rows do not change that. */
-#define WUNDRESKA_OPEN 0
-#define WUNDRESKA_DETERMINED 1
+/* The verdicts of both calls, by the rank, the n columns and the rows: a + b of them, in a mixed model m. */
+#define WUNDRESKA_OPEN 0       /* the rank is below n: equations are lacking */
+#define WUNDRESKA_DETERMINED 1 /* the rank equals n and the number of rows: all columns can be placed, and every row is needed for it */
+#define WUNDRESKA_SURPLUS 2    /* the rank equals n and rows are more: all columns can be placed, and the rows left over may contradict */
 
 /* What a call returns. */
 #define WUNDRESKA_ACCEPTED 0
@@ -89,7 +90,7 @@ extern "C" {
 #define WUNDRESKA_RANK 1    /* 1 byte, 0 to n: how many columns can be placed at once */
 #define WUNDRESKA_PLACED 2  /* a set: the placed columns, as many as the rank; first in column order among such sets */
 #define WUNDRESKA_CONSTANTS (WUNDRESKA_PLACED + WUNDRESKA_SET_SIZE) /* a set: those determined by the constant rows */
-#define WUNDRESKA_SHORT (WUNDRESKA_CONSTANTS + WUNDRESKA_SET_SIZE)  /* a set: where equations are lacking; none when determined */
+#define WUNDRESKA_SHORT (WUNDRESKA_CONSTANTS + WUNDRESKA_SET_SIZE)  /* a set: where equations are lacking; none unless open */
 #define WUNDRESKA_ROWS (WUNDRESKA_SHORT + WUNDRESKA_SET_SIZE) /* for each parameter row, one byte: the column it determines, or */
 #define WUNDRESKA_NO_COLUMN 255 /* where it determines none, and for every row from b on */
 #define WUNDRESKA_ROWS_SIZE WUNDRESKA_ROWS_MAX
@@ -118,7 +119,7 @@ uint32_t wundreska_check(const uint8_t *file, size_t file_len, uint8_t *answer, 
  * - I and J are one choice that reaches the rank; the other bytes have no choice;
  * - the short set is that of the layered form of the model, which has 2m rows and m + n columns. Its constant rows are the unit
  *   matrix followed by the constants; its parameter row i has a parameter at column i, and those of parameter row i moved m
- *   columns up. So column m + c of the form is column c of the model. The set is empty when the model is determined. */
+ *   columns up. So column m + c of the form is column c of the model. The set is empty unless the model is open. */
 uint32_t wundreska_mixed(const uint8_t *file, size_t file_len, uint8_t *answer, size_t answer_len);
 
 #ifdef __cplusplus

@@ -13,6 +13,7 @@ static int compare_all(const char *models)
     compare_edges();
     compare_with_definitions();
     compare_random_models();
+    compare_ranks();
     compare_files();
     compare_damaged_files();
     compare_wrong_contents();

@@ -46,6 +46,7 @@ void try_areas_of_every_length(const Question *question);
 void compare_bench_models(const char *folder); /* compare_models.c */
 void compare_with_definitions(void);
 void compare_random_models(void);
+void compare_ranks(void); /* compare_ranks.c */
 void compare_files(void); /* compare_files.c */
 void compare_damaged_files(void);
 void compare_wrong_contents(void);

@@ -6,28 +6,31 @@
 
 /* ---- the bench models ---- */
 
-enum { LAYERED, MIXED, NOT_STATED = -1 };
+enum { NOT_STATED = -1 };
 
 static const struct {
     const char *name;
-    int kind, rank;
+    Kind kind;
+    unsigned verdict;
+    size_t rank;
     int placed, short_set;
 } bench_models[] = {
-    {"s1", LAYERED, 0, 0, 1},
-    {"s2", LAYERED, 2, 3, 0},
-    {"s3", LAYERED, 1, 1, 3},
-    {"s4", LAYERED, 4, 23, 12},
-    {"s5", LAYERED, 1, NOT_STATED, NOT_STATED},
-    {"s6", LAYERED, 2, NOT_STATED, NOT_STATED},
-    {"s7", MIXED, 1, NOT_STATED, NOT_STATED},
-    {"s8", MIXED, 1, NOT_STATED, NOT_STATED},
-    {"s9", MIXED, 2, NOT_STATED, NOT_STATED},
-    {"s10", LAYERED, 1, NOT_STATED, 2},
-    {"s11", LAYERED, 1, NOT_STATED, 0},
-    {"s12", MIXED, 6, NOT_STATED, NOT_STATED},
-    {"chilled_water_loop", LAYERED, 8, NOT_STATED, 192},
-    {"chilled_water_loop_filled", LAYERED, 9, 511, 0},
-    {"milk_preheater", LAYERED, 7, NOT_STATED, 254},
+    {"s1", LAYERED, WUNDRESKA_OPEN, 0, 0, 1},
+    {"s2", LAYERED, WUNDRESKA_DETERMINED, 2, 3, 0},
+    {"s3", LAYERED, WUNDRESKA_OPEN, 1, 1, 3},
+    {"s4", LAYERED, WUNDRESKA_OPEN, 4, 23, 12},
+    {"s5", LAYERED, WUNDRESKA_OPEN, 1, NOT_STATED, NOT_STATED},
+    {"s6", LAYERED, WUNDRESKA_DETERMINED, 2, NOT_STATED, NOT_STATED},
+    {"s7", MIXED, WUNDRESKA_DETERMINED, 1, NOT_STATED, NOT_STATED},
+    {"s8", MIXED, WUNDRESKA_OPEN, 1, NOT_STATED, NOT_STATED},
+    {"s9", MIXED, WUNDRESKA_DETERMINED, 2, NOT_STATED, NOT_STATED},
+    {"s10", LAYERED, WUNDRESKA_OPEN, 1, NOT_STATED, 2},
+    {"s11", LAYERED, WUNDRESKA_SURPLUS, 1, NOT_STATED, 0},
+    {"s12", MIXED, WUNDRESKA_OPEN, 6, NOT_STATED, NOT_STATED},
+    {"chilled_water_loop", LAYERED, WUNDRESKA_OPEN, 8, NOT_STATED, 192},
+    {"chilled_water_loop_filled", LAYERED, WUNDRESKA_SURPLUS, 9, 511, 0},
+    {"chilled_water_loop_square", LAYERED, WUNDRESKA_DETERMINED, 9, 511, 0},
+    {"milk_preheater", LAYERED, WUNDRESKA_OPEN, 7, NOT_STATED, 254},
 };
 
 /* The refusal of a model file, or 0 with its model. */
@@ -56,11 +59,13 @@ static const char *bench_complaint(const char *folder, size_t i, Model *m)
         static uint8_t file[WUNDRESKA_FILE_MAX];
         Model form = layered_form(m);
         const char *complaint = mixed_complaint(m, bench_models[i].rank, layered_truth(&form));
+        if (bench_models[i].verdict != verdict_on(mixed_rank(m), m->n, m->a))
+            return "the reference differs from the paper";
         return complaint ? complaint : file_complaint(&mixed_question, file, write_file(m, file), WUNDRESKA_MIXED_SIZE, m);
     }
     Truth truth = layered_truth(m);
-    if ((size_t)bench_models[i].rank != truth.rank || stated_and_other(bench_models[i].placed, truth.placed) ||
-        stated_and_other(bench_models[i].short_set, truth.short_set))
+    if (bench_models[i].rank != truth.rank || bench_models[i].verdict != verdict_on(truth.rank, m->n, m->a + m->b) ||
+        stated_and_other(bench_models[i].placed, truth.placed) || stated_and_other(bench_models[i].short_set, truth.short_set))
         return "the reference differs from the paper";
     return layered_complaint(m, truth);
 }
@@ -101,6 +106,8 @@ static const char *definition_complaint(const Model *m)
     Truth truth = layered_truth(m);
     if (truth.rank != e.rank || truth.placed != e.placed || truth.short_set != e.short_set || !e.short_is_least)
         return "the reference differs from the definitions";
+    if (verdict_on(e.rank, m->n, m->a + m->b) != e.verdict)
+        return "the reference's verdict is not that of the assignments";
     for (Set set = 0; set <= all_below(m->n); set++)
         if (e.sums[set] < e.rank || e.sums[set] != sum_of(m, set))
             return "the sum of a column set";
@@ -140,10 +147,12 @@ static const char *mixed_definition_complaint(const Model *m)
     Model form = layered_form(m);
     Enumerated e = enumerate_layered(&form);
     Truth truth = layered_truth(&form);
-    size_t rank = enumerate_mixed_rank(m);
-    if (mixed_rank(m) != rank || truth.rank != e.rank || truth.short_set != e.short_set)
+    EnumeratedMixed mixed = enumerate_mixed(m);
+    if (mixed_rank(m) != mixed.rank || truth.rank != e.rank || truth.short_set != e.short_set)
         return "the reference differs from the definitions";
-    return mixed_complaint(m, rank, truth);
+    if (verdict_on(mixed.rank, m->n, m->a) != mixed.verdict)
+        return "the reference's verdict is not that of the rows and columns";
+    return mixed_complaint(m, mixed.rank, truth);
 }
 
 void compare_with_definitions(void)

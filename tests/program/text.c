@@ -26,9 +26,11 @@ static char *put_rows(char *out, const uint8_t *rows)
     return out + sprintf(out, "\n");
 }
 
+static const char *const verdicts[] = {[WUNDRESKA_OPEN] = "open", [WUNDRESKA_DETERMINED] = "determined", [WUNDRESKA_SURPLUS] = "surplus"};
+
 static char *put_start(char *out, unsigned verdict, unsigned rank)
 {
-    return out + sprintf(out, "verdict %s\nrank %u\n", verdict == WUNDRESKA_DETERMINED ? "determined" : "open", rank);
+    return out + sprintf(out, "verdict %s\nrank %u\n", verdicts[verdict], rank);
 }
 
 void write_layered(const Answer *answer, char *text)
@@ -103,10 +105,17 @@ static int take_rows(const char **text, uint8_t *rows, Set *columns)
     return take(text, "\n");
 }
 
+static int take_verdict(const char **text, unsigned *verdict)
+{
+    for (*verdict = 0; *verdict < COUNT(verdicts); ++*verdict)
+        if (take(text, verdicts[*verdict]))
+            return 1;
+    return 0;
+}
+
 static int take_start(const char **text, unsigned *verdict, unsigned *rank)
 {
-    *verdict = strncmp(*text, "verdict determined\n", 19) == 0 ? WUNDRESKA_DETERMINED : WUNDRESKA_OPEN;
-    return (take(text, "verdict determined\n") || take(text, "verdict open\n")) && take(text, "rank ") &&
+    return take(text, "verdict ") && take_verdict(text, verdict) && take(text, "\nrank ") &&
            take_number(text, WUNDRESKA_COLUMNS_MAX + 1, rank) && take(text, "\n");
 }
 

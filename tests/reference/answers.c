@@ -36,7 +36,7 @@ const char *answer_complaint(const Model *m, const Answer *answer, Truth truth)
 {
     if (answer->rank != truth.rank)
         return "rank";
-    if (answer->verdict != (truth.rank == m->n ? WUNDRESKA_DETERMINED : WUNDRESKA_OPEN))
+    if (answer->verdict != verdict_on(truth.rank, m->n, m->a + m->b))
         return "verdict";
     if (answer->placed != truth.placed || size_of_set(truth.placed) != truth.rank)
         return "placed set";
@@ -51,7 +51,7 @@ const char *mixed_answer_complaint(const Model *m, const MixedAnswer *answer, si
 {
     if (answer->rank != rank || form.rank != rank + m->a)
         return "mixed rank";
-    if (answer->verdict != (rank == m->n ? WUNDRESKA_DETERMINED : WUNDRESKA_OPEN))
+    if (answer->verdict != verdict_on(rank, m->n, m->a))
         return "mixed verdict";
     if ((answer->rows & ~all_below(m->a)) || (answer->columns & ~all_below(m->n)))
         return "I or J has a stray bit";

@@ -1,12 +1,33 @@
 /* The definitions of document 01, by enumeration. */
 #include "brute.h"
 
+#include <limits.h>
 #include <string.h>
+
+/* Which were met of several: some that use every row, some that leave a row over. */
+typedef struct {
+    int using_all, leaving;
+} Found;
+
+static void note(Found *found, int uses_all)
+{
+    found->using_all |= uses_all;
+    found->leaving |= !uses_all;
+}
+
+/* All use every row, or all leave one over; a model that has both kinds has no verdict. */
+static unsigned verdict_by(Found found)
+{
+    if (found.using_all && found.leaving)
+        return UINT_MAX;
+    return found.using_all ? WUNDRESKA_DETERMINED : found.leaving ? WUNDRESKA_SURPLUS : WUNDRESKA_OPEN;
+}
 
 typedef struct {
     const Model *model;
     uint8_t independent[SETS]; /* by column set, of the constants on the rows asked for */
     uint8_t placeable[SETS];   /* by column set: some legal assignment places exactly it */
+    Found full;                /* the legal assignments that place all columns */
 } Tables;
 
 static int subset(Set inner, Set outer)
@@ -72,6 +93,8 @@ static void seat_from(Tables *t, size_t x, Set placed, Set constant_side, Set ta
     const Model *m = t->model;
     if (x == m->n) {
         t->placeable[placed] |= t->independent[constant_side];
+        if (t->independent[constant_side] && placed == all_below(m->n))
+            note(&t->full, size_of_set(constant_side) == m->a && taken == all_below(m->b));
         return;
     }
     Set column = just(x);
@@ -117,6 +140,7 @@ Enumerated enumerate_layered(const Model *model)
     seat_from(&t, 0, 0, 0, 0);
     find_rank_and_placed(&t, &e);
     find_short(&t, &e);
+    e.verdict = verdict_by(t.full);
     return e;
 }
 
@@ -134,16 +158,21 @@ static size_t matched_from(const Model *m, size_t r, Set rows, Set columns)
     return best;
 }
 
-size_t enumerate_mixed_rank(const Model *model)
+/* Every row is used where the constants on I and J have as large a rank as I has rows, and all other rows are matched. */
+EnumeratedMixed enumerate_mixed(const Model *model)
 {
     Tables t = {.model = model};
-    size_t rank = 0;
+    EnumeratedMixed e = {0};
     for (Set rows = 0; rows <= all_below(model->a); rows++) {
         find_independent(&t, rows);
         for (Set columns = 0; columns <= all_below(model->n); columns++) {
-            size_t size = rank_in(&t, columns) + matched_from(model, 0, ~rows, ~columns);
-            rank = size > rank ? size : rank;
+            size_t constants = rank_in(&t, columns), matched = matched_from(model, 0, ~rows, ~columns);
+            if (constants + matched > e.rank)
+                e.rank = constants + matched;
+            if (constants + matched == model->n)
+                note(&t.full, constants == size_of_set(rows) && matched == model->a - size_of_set(rows));
         }
     }
-    return rank;
+    e.verdict = verdict_by(t.full);
+    return e;
 }

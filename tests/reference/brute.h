@@ -8,6 +8,7 @@ enum { BRUTE_COLUMNS = 6, SETS = 1 << BRUTE_COLUMNS };
 
 typedef struct {
     size_t rank;
+    unsigned verdict; /* by the assignments that place all columns: whether there are any, and whether they leave a row over */
     Set placed, short_set;
     size_t sums[SETS];  /* of every column set */
     int short_is_least; /* whether the smallest set whose sum is the rank is one set */
@@ -15,7 +16,11 @@ typedef struct {
 
 Enumerated enumerate_layered(const Model *model);
 
-/* The largest, over rows I and columns J, of constants on I, J and parameters matched on the rest. */
-size_t enumerate_mixed_rank(const Model *model);
+typedef struct {
+    size_t rank;      /* the largest, over rows I and columns J, of constants on I, J and parameters matched on the rest */
+    unsigned verdict; /* by the I and J that reach it: whether they leave a row over */
+} EnumeratedMixed;
+
+EnumeratedMixed enumerate_mixed(const Model *model);
 
 #endif

@@ -165,6 +165,47 @@ Model draw_mixed(const uint32_t *primes, size_t primes_count, size_t limit)
     return m;
 }
 
+/* ---- models of a rank that is known ---- */
+
+static void shuffle(size_t *numbers, size_t count)
+{
+    for (size_t i = 0; i < count; i++)
+        numbers[i] = i;
+    for (size_t i = count; i > 1; i--) {
+        size_t k = draw(i), other = numbers[k];
+        numbers[k] = numbers[i - 1];
+        numbers[i - 1] = other;
+    }
+}
+
+/* Something at a place: in a layered model what the row is of, in a mixed one a constant, a parameter or both. */
+static void occupy(Model *m, Kind kind, size_t row, size_t column)
+{
+    int constant = kind == LAYERED ? row < m->a : draw(3) != 0;
+    int parameter = kind == LAYERED ? !constant : !constant || one_in(2);
+    if (constant)
+        *at(m, row, column) = between(1, m->p - 1);
+    if (parameter)
+        m->parameters[kind == LAYERED ? row - m->a : row] |= just(column);
+}
+
+/* A triangle with nothing empty on its diagonal has the rank of its size, and all other entries lie in its rows alone, or in its
+ * columns alone. */
+Model draw_of_rank(Kind kind, uint32_t p, size_t n, size_t a, size_t b, size_t rank)
+{
+    Model m = {.p = p, .n = n, .a = a, .b = b};
+    size_t row_count = kind == LAYERED ? a + b : a, rows[2 * WUNDRESKA_ROWS_MAX], columns[WUNDRESKA_COLUMNS_MAX];
+    int by_rows = one_in(2);
+    uint64_t spread = between(1, n);
+    shuffle(rows, row_count);
+    shuffle(columns, n);
+    for (size_t i = 0; i < (by_rows ? rank : row_count); i++)
+        for (size_t j = i < rank ? i : 0; j < (by_rows ? n : rank); j++)
+            if (i == j || one_in(spread))
+                occupy(&m, kind, rows[i], columns[j]);
+    return m;
+}
+
 Model layered_form(const Model *mixed)
 {
     size_t m = mixed->a;

@@ -52,6 +52,11 @@ Model draw_model(const uint32_t *primes, size_t primes_count, size_t columns, si
 /* The same with a = b and a + n up to the limit. */
 Model draw_mixed(const uint32_t *primes, size_t primes_count, size_t limit);
 
+/* A model of these sizes whose rank is the one given, which is at most n and at most the number of rows: by its layered reading,
+ * with a + b rows, or, with a = b rows, by its mixed one. */
+typedef enum { LAYERED, MIXED } Kind;
+Model draw_of_rank(Kind kind, uint32_t p, size_t n, size_t a, size_t b, size_t rank);
+
 /* The primes that most tests draw from. */
 static const uint32_t all_primes[] = {2, 3, 5, 7, 1021, 65519, WUNDRESKA_PRIME_MAX};
 #define COUNT(list) (sizeof(list) / sizeof(list)[0])

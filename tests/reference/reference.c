@@ -216,6 +216,14 @@ size_t largest_matching(const Model *m, Set rows, Set columns)
     return size;
 }
 
+/* No rank is above the number of rows. */
+unsigned verdict_on(size_t rank, size_t columns, size_t rows)
+{
+    if (rank < columns)
+        return WUNDRESKA_OPEN;
+    return rows > columns ? WUNDRESKA_SURPLUS : WUNDRESKA_DETERMINED;
+}
+
 size_t sum_of(const Model *m, Set set)
 {
     size_t touching = 0;

@@ -22,6 +22,9 @@ size_t largest_matching(const Model *model, Set rows, Set columns);
 /* The sum of a column set. */
 size_t sum_of(const Model *model, Set set);
 
+/* The verdict on a rank, with so many columns and rows. */
+unsigned verdict_on(size_t rank, size_t columns, size_t rows);
+
 /* ---- answers.c: what is wrong with an answer that somebody gave; NULL where nothing is ---- */
 
 /* A layered answer, wherever it was read from. */

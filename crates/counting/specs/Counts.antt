@@ -86,11 +86,6 @@ pub ⊖-other : (S : Set) (j i : ℕ) → i ≢ j → (S ⊖ j) i ≡ S i
 
 -- ---- counts
 
-pub indicator-one : (b : Bool) → (indicator b ≡ 1) ↔ (b ≡ true)
-unfolding indicator
-indicator-one true = (λ e. refl, λ e. refl)
-indicator-one false = (λ e. absurd (omega arith), λ e. absurd (false≢true e))
-
 pub #-ext : (n : ℕ) (S T : Set) → ((i : ℕ) → i < n → S i ≡ T i) → # n S ≡ # n T
 unfolding #
 #-ext zero S T h = refl

@@ -5,7 +5,7 @@ use mathlib.Core.Bool.{Bool}
 use native.Mathlib.Omega.{arith}
 use Rattle.counting.specs.Sets.{Set, _∈_, _⊆_, indicator, #, Some, touching}
 use Rattle.counting.specs.Bools.{true?, not-true}
-use Rattle.counting.specs.Counts.{_⊖_, ⊖-other, #-⊖, Touching, touching-iff}
+use Rattle.counting.specs.Counts.{_⊖_, ⊖-other, #-⊖, Touching, both?, some?, touching-iff}
 
 -- an injection, as a relation: every member of S (below n) is related to a member of T (below m),
 -- and no two members of S are related to the same one
@@ -42,6 +42,14 @@ inj-count (suc n) m S T R f = elim (true? (S n)) [ yes s ↦ have s (λ U g. inj
 pub inj-miss : (n m : ℕ) (S T : Set) (R : ℕ → ℕ → Type 0) → Injects n S m T R
     → (j : ℕ) → j < m → j ∈ T → ((i : ℕ) → i < n → i ∈ S → R i j → ⊥) → # n S < # m T
 inj-miss n m S T R f j l t h = omega (arith, #-⊖ m T j l t, inj-count n m S (T ⊖ j) R (avoid j f h))
+
+-- where T has no more members than S, each member of T is related to one of S
+pub inj-onto : (n m : ℕ) (S T : Set) (R : ℕ → ℕ → Type 0) → Injects n S m T R → ((i j : ℕ) → Dec (R i j)) → # m T ≤ # n S
+    → (j : ℕ) → j < m → j ∈ T → Some n (λ i. (i ∈ S) × R i j)
+inj-onto n m S T R f d e j l t = elim (some? n (λ i. (i ∈ S) × R i j) (λ i. both? (true? (S i)) (d i j))) [
+  | yes w ↦ w
+  | no nw ↦ absurd (omega (arith, inj-miss n m S T R f j l t (λ i li s r. nw (i, li, (s, r)))))
+]
 
 pub #-mono : (n : ℕ) (S T : Set) → ((i : ℕ) → i < n → i ∈ S → i ∈ T) → # n S ≤ # n T
 #-mono n S T h = inj-count n n S T (λ i j. i ≡ j) (record { total = λ i l s. (i, l, (h i l s, refl)); one-one = λ i i′ j l l′ lj r r′. cc })

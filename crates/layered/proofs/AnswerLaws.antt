@@ -20,13 +20,15 @@ use Rattle.columns.specs.ColumnSets.{whole, Fits}
 use Rattle.columns.specs.Words.Sets.{whole-below}
 use Rattle.columns.specs.Words.Operations.{within-iff, word-members}
 use Rattle.columns.specs.Words.SetLaws.{upto-iff}
+use Rattle.rank.specs.Verdict.{verdict-number}
 use Rattle.rank.specs.Layered.Model.{Model}
-use Rattle.rank.specs.Layered.Rank.{rank, placed, short, verdict}
+use Rattle.rank.specs.Layered.Rank.{rank, placed, short}
 use Rattle.rank.specs.Layered.ColumnOrder.{placed-size}
 use Rattle.exchange.specs.Solution.{Solved}
 use Rattle.exchange.specs.Solve.{all-below, fitting, admissible, Shown}
 use Rattle.exchange.specs.SolveLaws.{all-below-iff, admissible-reads}
 use Rattle.rank.specs.ListedModel.{listed-model}
+use Rattle.rank.specs.ListedModelLaws.{verdict-at-n}
 use Rattle.rank.specs.Demand.{demand3-reported}
 use Rattle.format.specs.Lists.{All}
 use Rattle.limits.specs.Limits.{largest-prime, most-columns, most-rows}
@@ -34,7 +36,7 @@ use Rattle.format.specs.Refusals.{prime-test, size-test, area-test, constant-te
 use Rattle.format.specs.RefusalLaws.{acceptance-reads}
 use Rattle.format.specs.TestLaws.{prime-reads, size-reads, constant-reads, area-reads, Accepted, model-accepted, constant-below}
 use Rattle.layered.specs.declared.Answer.{Answer}
-use Rattle.layered.specs.Answers.{verdict-number, Answered}
+use Rattle.layered.specs.Answers.{Answered}
 use Rattle.layered.specs.Beforehand.{beforehand}
 
 -- what holds of the first k elements
@@ -105,17 +107,12 @@ pub rank-small : (M : Model) → rank M ≤ M .n
 rank-small M = omega (arith, placed-size M, #-le (M .n) (placed M))
 
 pub answered : (p n a b : ℕ) (cs ws : List ℕ) (r : Answer) → Fits (r .placed) → Fits (r .short) → length (r .rows) ≡ most-rows
-    → r .verdict ≡ verdict-number (r .rank) n → Solved (listed-model p n a b cs ws) (r .rank) (members (whole (r .placed))) (members (whole (r .constants))) (members (whole (r .short))) (r .rows)
+    → r .verdict ≡ verdict-number (r .rank) n (a + b) → Solved (listed-model p n a b cs ws) (r .rank) (members (whole (r .placed))) (members (whole (r .constants))) (members (whole (r .short))) (r .rows)
     → Answered (listed-model p n a b cs ws) r
-unfolding verdict indicator decide
 answered p n a b cs ws r hp hs k hv s =
     let M = listed-model p n a b cs ws in
-    let all-pass : # n (M .E) ≡ n = #-all n (M .E) (λ x l. refl) in
     record {
-      is-verdict = hv ∙ elim (ℕ-discrete (rank M) (# n (M .E))) as (λ z. verdict-number (r .rank) n ≡ indicator (decide z)) [
-        | yes e ↦ ap (λ t. cond t 1 0) (eq-eqb (r .rank) n (s .is-rank ∙ e ∙ all-pass))
-        | no ne ↦ ap (λ t. cond t 1 0) (ne-eqb (r .rank) n (λ z. ne (sym (s .is-rank) ∙ z ∙ sym all-pass)))
-      ];
+      is-verdict = hv ∙ ap (λ (k : ℕ). verdict-number k n (a + b)) (s .is-rank) ∙ sym (verdict-at-n p n a b cs ws);
       placed-number = word-members width (whole (r .placed)) (whole-below (r .placed) hp) ∙ ap (word-of width) (fun-ext (s .is-placed));
       short-number = word-members width (whole (r .short)) (whole-below (r .short) hs) ∙ ap (word-of width) (fun-ext (s .is-short));
       row-count = k;

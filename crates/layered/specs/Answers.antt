@@ -2,9 +2,7 @@
 use Prim.Native.Nat.{ℕ}
 use mathlib.Core.Path.{_≡_}
 use mathlib.Core.Logic.{_≢_}
-use mathlib.Core.Bool.{cond}
 use mathlib.Core.List.{List}
-use lib.Dec.{eqb}
 use lib.ListN.{length, replicate}
 use Rattle.limits.specs.Limits.{most-rows, no-column}
 use Rattle.columns.specs.Columns.{width, members, word-of}
@@ -18,10 +16,6 @@ use Rattle.format.specs.Refusals.{refusal}
 use Rattle.format.specs.File.Format.{judge}
 use Rattle.layered.specs.FileModel.{file-model}
 use Rattle.layered.specs.declared.Answer.{Answer}
-
--- the verdict's number: 1, "determined", where the rank is the number of columns; 0, "open", where it is not
-abbrev pub verdict-number : (the-rank n : ℕ) → ℕ
-verdict-number the-rank n = cond (eqb the-rank n) 1 0
 
 -- a refusal has every other number 0, every set empty and no row with a column
 pub record Refused (r : Answer) : Type 0 where

@@ -1,7 +1,8 @@
 // The layered rank call: the answer to a model handed over, or in a file.
 ghost use mathlib.Core.Path.{_≡_};
 ghost use Rattle.columns.specs.ColumnSets.{row-numbers};
-ghost use Rattle.layered.specs.Answers.{verdict-number, Refused, LayeredCall, LayeredFileCall};
+ghost use Rattle.rank.specs.Verdict.{verdict-number};
+ghost use Rattle.layered.specs.Answers.{Refused, LayeredCall, LayeredFileCall};
 ghost use Rattle.layered.specs.Beforehand.{beforehand};
 use columns::ColumnSet;
 use columns::MOST_WORDS;
@@ -13,7 +14,7 @@ use limits::MOST_ROWS;
 use limits::NO_COLUMN;
 use loader::read_file;
 
-// The refusal or 0; the verdict, 1 "determined" or 0 "open"; the rank; the placed columns, those of them on the constant side, and
+// The refusal or 0; the verdict, 0 "open", 1 "determined" or 2 "surplus"; the rank; the placed columns, those of them on the constant side, and
 // the short set; and the column of each parameter row, or that it has none.
 pub struct Answer {
     pub refusal: u32,
@@ -39,12 +40,18 @@ fn refuse(number: u32) -> Answer
     }
 }
 
-// The verdict of a rank of n columns: 1 "determined", 0 "open".
-pub fn verdict_of(rank: usize, n: usize) -> u8
-    ensures { λ r. ⌜ r ≡ verdict-number rank n ⌝ }
+// The verdict on a rank, with so many columns and rows: 0 "open", 1 "determined", 2 "surplus".
+pub fn verdict_of(rank: usize, columns: usize, rows: usize) -> u8
+    ensures { λ r. ⌜ r ≡ verdict-number rank columns rows ⌝ }
 {
-    if rank == n {
+    if rank != columns {
+        return 0;
+    }
+    if rank == rows {
         return 1;
+    }
+    if rank < rows {
+        return 2;
     }
     0
 }
@@ -82,7 +89,7 @@ pub fn layered_rank(
     if !s.valid {
         return refuse(judge_model(p, n, a, b, constants, parameters));
     }
-    let verdict = verdict_of(s.rank, n);
+    let verdict = verdict_of(s.rank, n, a + b);
     let rank = s.rank as u8;
     let placed = s.placed;
     let side = s.constants;

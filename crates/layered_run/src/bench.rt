@@ -1,4 +1,4 @@
-// The layered bench models, S1 to S6, S10 and S11; and S4 with its columns in other orders.
+// The layered bench models, S1 to S6, S10 and S11; four columns with several numbers of rows; and S4 with its columns in other orders.
 ghost use Prim.Native.Nat.{_<_};
 use crate::report::answer_line;
 use crate::report::line;
@@ -36,10 +36,22 @@ fn run_with_both() {
     line(b"S4", USUAL, 5, 2, 2, &constants, &parameters);
 }
 
+// Four unknowns: the first rows of the unit matrix, and laws that have all unknowns, or the first alone.
+fn run_rows() {
+    let unit = [1u16, 0, 0, 0, 0, 1, 0, 0, 0, 0, 1, 0, 0, 0, 0, 1];
+    let wide = [15u64, 15];
+    let narrow = [1u64, 1];
+    line(b"3 equations", USUAL, 4, 1, 2, &unit, &wide);
+    line(b"4 equations", USUAL, 4, 2, 2, &unit, &wide);
+    line(b"5 equations", USUAL, 4, 3, 2, &unit, &wide);
+    line(b"5 equations, rank 3", USUAL, 4, 3, 2, &unit, &narrow);
+}
+
 pub fn run_all() {
     run_without_constants();
     run_without_parameters();
     run_with_both();
+    run_rows();
 }
 
 // The column of S4 that stands at c: from start on in steps, around.

@@ -25,6 +25,7 @@ use Rattle.columns.specs.Words.Sets.{whole-below}
 use Rattle.columns.specs.Words.Operations.{within-iff, word-members}
 use Rattle.columns.specs.Words.SetLaws.{upto-iff, inserted-same, inserted-old, inserted-split}
 use Rattle.rank.specs.Modulus.{modulus, field-of, residue-of}
+use Rattle.rank.specs.Verdict.{verdict-number}
 use Rattle.rank.specs.Layered.Model.{Model, Seat, out, constant, row, Assignment, is-placed, is-constant, placing, constants, Legal, size}
 use Rattle.rank.specs.Layered.Rank.{rank, placed, short}
 use Rattle.rank.specs.Layered.Restricting.{constant-placed}
@@ -41,7 +42,6 @@ use Rattle.format.specs.Refusals.{unless, not-mixed, mixed-test, mixed-tests, m
 use Rattle.format.specs.RefusalLaws.{first-fails, then-refused, then-passed, then-zero, zero-then, unless-zero, zero-unless}
 use Rattle.format.specs.TestLaws.{Accepted, model-accepted, constant-below}
 use Rattle.mixed.specs.declared.MixedAnswer.{MixedAnswer}
-use Rattle.layered.specs.Answers.{verdict-number}
 use Rattle.mixed.specs.MixedAnswers.{MixedAnswered}
 
 one-at-most : (b : Bool) → indicator b ≤ 1
@@ -193,10 +193,10 @@ module _ (X : Mixed) (the-rank : ℕ) (placed-set side short-set : Set) (rows : 
     ],
   )
 
-  pub mixed-answered : (t : MixedAnswer) → m + n < no-column → Fits (t .short) → t .rank ≡ the-rank - m → t .verdict ≡ verdict-number (t .rank) n
+  pub mixed-answered : (t : MixedAnswer) → m + n < no-column → Fits (t .short) → t .rank ≡ the-rank - m → t .verdict ≡ verdict-number (t .rank) n m
       → ((i : ℕ) → (i ∈ members (whole (t .rows))) ↔ ((i < m) × (serves m (getD rows i 0) → ⊥))) → ((x : ℕ) → members (whole (t .columns)) x ≡ side (m + x)) → ((x : ℕ) → members (whole (t .short)) x ≡ short-set x)
       → MixedAnswered X t
-  unfolding A mixed-verdict indicator decide
+  unfolding A mixed-verdict
   mixed-answered t small hs hr hv rows-are columns-are short-are =
       let r : t .rank ≡ mixed-rank X = omega (arith, rank-of-form) in
       let I : members (whole (t .rows)) ≡ shown-I X (shown (m + n) m side rows) = fun-ext (λ i. iff-eq (members (whole (t .rows)) i) (shown-I X (shown (m + n) m side rows) i)
@@ -204,10 +204,7 @@ module _ (X : Mixed) (the-rank : ℕ) (placed-set side short-set : Set) (rows : 
       (λ e. let w = shown-I-iff X (shown (m + n) m side rows) i .0 e in rows-are i .1 (w .0, λ k. true≢false (sym (served-shown i (w .0) small .1 k) ∙ w .1)))) in
       let J : members (whole (t .columns)) ≡ shown-J X (shown (m + n) m side rows) = fun-ext (λ x. columns-are x ∙ s .side-shown (m + x)) in
       record {
-        is-verdict = hv ∙ elim (ℕ-discrete (mixed-rank X) n) as (λ z. verdict-number (t .rank) n ≡ indicator (decide z)) [
-          | yes e ↦ ap (λ b. cond b 1 0) (eq-eqb (t .rank) n (r ∙ e))
-          | no ne ↦ ap (λ b. cond b 1 0) (ne-eqb (t .rank) n (λ z. ne (sym r ∙ z)))
-        ];
+        is-verdict = hv ∙ ap (λ (k : ℕ). verdict-number k n m) r;
         is-rank = r;
         rows-below = λ i e. rows-are i .0 e .0;
         columns-below = λ x e. omega (arith, s .is-legal .offered (m + x) (constant-placed (shown (m + n) m side rows (m + x)) (sym (s .side-shown (m + x)) ∙ sym (columns-are x) ∙ e)) .0);

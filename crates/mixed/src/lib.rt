@@ -22,8 +22,8 @@ use limits::MOST_ROWS;
 use limits::NO_COLUMN;
 use loader::read_file;
 
-// The refusal or 0; the verdict, 1 where the rank equals n; the rank; rows I and columns J that reach it; and the short set of the
-// layered form.
+// The refusal or 0; the verdict, 0 "open", 1 "determined" or 2 "surplus"; the rank; rows I and columns J that reach it; and the short
+// set of the layered form.
 pub struct MixedAnswer {
     pub refusal: u32,
     pub verdict: u8,
@@ -154,7 +154,7 @@ pub fn mixed_rank(
     let all = columns::below(a + n);
     let s = exchange::solve(p, a + n, a, a, all, &form, &words);
     let rank = s.rank - a;
-    let verdict = verdict_of(rank, n);
+    let verdict = verdict_of(rank, n, a);
     let reached = rank as u8;
     let short = s.short;
     let shown = s.rows;

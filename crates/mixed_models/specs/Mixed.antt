@@ -8,11 +8,12 @@ use native.Mathlib.Decide.{ℕ-discrete, decLt}
 use Rattle.residue.specs.Arithmetic.{Prime}
 use Rattle.residue.specs.Fields.{Field}
 use Rattle.residue.specs.Residues.{residues}
-use Rattle.counting.specs.Sets.{Set, indicator, any}
+use Rattle.counting.specs.Sets.{Set, any}
 use Rattle.counting.specs.Beside.{beside}
 use Rattle.counting.specs.Choices.{largest-part}
 use Rattle.rank.specs.Linear.Independence.{Indep}
 use Rattle.rank.specs.Modulus.{modulus}
+use Rattle.rank.specs.Verdict.{verdict-number}
 use Rattle.rank.specs.Layered.Model.{Model, row, Assignment, is-constant, same-row}
 use Rattle.rank.specs.Layered.Rank.{constant-rank, matching}
 use Rattle.rank.specs.Independent.{independent}
@@ -57,9 +58,9 @@ module _ (X : Mixed) where
   unfoldable pub mixed-rank : ℕ
   mixed-rank = largest-part m (λ i. true) (λ I. largest-part n (λ x. true) (λ J. mixed-sum I J))
 
-  -- the verdict: 1 where the rank equals n, else 0
+  -- the verdict: of the mixed rank, n columns and m rows
   unfoldable pub mixed-verdict : ℕ
-  mixed-verdict = indicator (decide (ℕ-discrete mixed-rank n))
+  mixed-verdict = verdict-number mixed-rank n m
 
   -- the layered form: 2m rows, m + n columns. Its constant rows are the unit matrix followed by the constants;
   abbrev pub form-constants : ℕ → ℕ → K .F

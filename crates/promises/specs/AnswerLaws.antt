@@ -13,11 +13,12 @@ use lib.Dec.{eqb, leb}
 use borrow.Author.Tests.{eqb-true}
 use Rattle.residue.specs.Residues.{res}
 use Rattle.counting.specs.Bools.{iff-eq, and-left}
-use Rattle.counting.specs.Sets.{Set, indicator}
+use Rattle.counting.specs.Sets.{Set}
 use Rattle.counting.specs.Blocks.{beside-low, beside-high, low-or-high}
 use Rattle.columns.specs.Columns.{width, members, word-of}
 use Rattle.columns.specs.ColumnSets.{whole}
 use Rattle.rank.specs.Modulus.{modulus}
+use Rattle.rank.specs.Verdict.{verdict-number}
 use Rattle.rank.specs.Layered.Rank.{rank, short}
 use Rattle.rank.specs.ListedModel.{listed-model}
 use Rattle.mixed_models.specs.Mixed.{Mixed, unit, mixed-rank, mixed-verdict, form-constants, form-parameters, layered-form, mixed}
@@ -175,7 +176,7 @@ module _ (p n a b : ℕ) (cs ds ws vs : List ℕ) (ec : take (a * n) cs ≡ take
 
     mixed-verdict-same : mixed-verdict X ≡ mixed-verdict Y
     unfolding mixed-verdict
-    mixed-verdict-same = ap (λ (k : ℕ). indicator (decide (ℕ-discrete k n))) mixed-rank-same
+    mixed-verdict-same = ap (λ (k : ℕ). verdict-number k n a) mixed-rank-same
 
   pub mixed-same : {r s : MixedAnswer} → MixedCall p n a b cs ws r → MixedCall p n a b ds vs s → SameMixed r s
   mixed-same h g =

@@ -1,15 +1,16 @@
 -- Models that agree in their rows and columns have the same answers, whatever stands elsewhere. Assumes nothing.
 use Prim.Native.Nat.{ℕ, zero, suc, _+_, _≤_, _<_}
 use mathlib.Core.Path.{_≡_, sym, ap, ap₂, _∙_, fun-ext}
-use mathlib.Core.Bool.{Bool, true, cond, decide}
+use mathlib.Core.Bool.{Bool, true, cond}
 use native.Mathlib.Omega.{arith}
-use native.Mathlib.Decide.{ℕ-discrete, decLt}
+use native.Mathlib.Decide.{decLt}
 use Rattle.residue.specs.Arithmetic.{Prime}
 use Rattle.residue.specs.Residues.{residues}
 use Rattle.counting.specs.Bools.{iff-eq}
-use Rattle.counting.specs.Sets.{Set, _∈_, _∩_, ∁, #, indicator, touching}
+use Rattle.counting.specs.Sets.{Set, _∈_, _∩_, ∁, #, touching}
 use Rattle.counting.specs.Counts.{#-ext, touching-iff}
 use Rattle.counting.specs.Choices.{largest-part}
+use Rattle.rank.specs.Verdict.{verdict-number}
 use Rattle.rank.specs.Linear.Independence.{dot, Indep}
 use Rattle.rank.specs.Linear.Sums.{Σ-cong}
 use Rattle.rank.specs.IndependentLaws.{independent-iff}
@@ -91,7 +92,7 @@ module _ (q : ℕ) (P : Prime q) (n a b : ℕ) (E : Set) where
 
     pub verdict-same : verdict N ≡ verdict N′
     unfolding verdict
-    verdict-same = ap (λ (k : ℕ). indicator (decide (ℕ-discrete k (# n E)))) rank-same
+    verdict-same = ap (λ (k : ℕ). verdict-number k (# n E) (a + b)) rank-same
 
     placed-upto : (k x : ℕ) → k ≤ n → x < k → placed N x ≡ placed N′ x
     placed-upto zero x l h = absurd (omega arith)

@@ -1,25 +1,31 @@
 -- What is proved over the promises of the calls, one theorem after another. Assumes nothing.
 use Prim.Native.Nat.{ℕ, _+_, _*_, _^_, _≤_, _<_}
-use mathlib.Core.Path.{_≡_, sym, subst}
+use mathlib.Core.Path.{_≡_, sym, _∙_, subst}
+use mathlib.Core.Logic.{_⊎_}
 use mathlib.Core.List.{List}
 use native.Mathlib.Omega.{arith}
 use lib.ListN.{length, getD, take}
 use lib.Seq.{take-take}
-use Rattle.columns.specs.Columns.{width}
+use Rattle.counting.specs.Sets.{#, Some}
+use Rattle.columns.specs.Columns.{width, members}
+use Rattle.columns.specs.ColumnSets.{whole}
 use Rattle.columns.specs.Words.Bytes.{AreBytes}
+use Rattle.rank.specs.Layered.Model.{Model}
+use Rattle.mixed_models.specs.Mixed.{Mixed}
+use Rattle.mixed_models.specs.MixedVerdicts.{UsesEveryRow, LeavesRow, mixed-determined-uses-every-row, mixed-surplus-leaves-a-row}
 use Rattle.mixed_models.specs.Starred.Models.{S2}
 use Rattle.format.specs.Lists.{over}
-use Rattle.limits.specs.Limits.{longest-file}
+use Rattle.limits.specs.Limits.{longest-file, no-column}
 use Rattle.format.specs.Refusals.{refusal, mixed-refusal}
 use Rattle.format.specs.File.Format.{judge, ReadCall, WriteCall}
 use Rattle.loader.specs.FileRead.{FileRead}
 use Rattle.loader.specs.declared.header.Sizes.{Sizes}
 use Rattle.writer.specs.FileWritten.{FileWritten}
 use Rattle.writer.specs.declared.Written.{Written}
-use Rattle.layered.specs.Answers.{LayeredCall}
+use Rattle.layered.specs.Answers.{Answered, LayeredCall}
 use Rattle.layered.specs.declared.Answer.{Answer}
 use Rattle.layered.specs.FileModel.{file-model}
-use Rattle.mixed.specs.MixedAnswers.{MixedCall}
+use Rattle.mixed.specs.MixedAnswers.{MixedAnswered, MixedCall}
 use Rattle.mixed.specs.declared.MixedAnswer.{MixedAnswer}
 use Rattle.promises.specs.Fixed.{SameAnswer, SameMixed}
 use Rattle.solvability.specs.Host.{HostAnswer, HostMixedAnswer}
@@ -30,6 +36,7 @@ use Rattle.promises.specs.TripLaws.{read-then-written, written-then-read
 use Rattle.promises.specs.CutLaws.{judge-cut}
 use Rattle.promises.specs.CutCallLaws.{reading-cut, host-cut, host-mixed-cut, report-cut, mixed-report-cut}
 use Rattle.promises.specs.AnswerLaws.{refusal-same, mixed-refusal-same, write-same, layered-same, mixed-same}
+use Rattle.promises.specs.RowLaws.{determined-rows, surplus-rows}
 use Rattle.promises.specs.DocumentFile.{document-file, document-accepted, document-model}
 
 -- ---- read and written, written and read
@@ -114,6 +121,26 @@ module _ (p n a b : ℕ) (cs ws : List ℕ) where
   -- nor the mixed one.
   pub surplus-not-read-mixed : {r s : MixedAnswer} → MixedCall p n a b cs ws r → MixedCall p n a b (take (a * n) cs) (take b ws) s → SameMixed r s
   surplus-not-read-mixed = mixed-same p n a b cs (take (a * n) cs) ws (take b ws) cut-cs cut-ws
+
+-- ---- rows used and left over
+
+-- A layered answer that says "determined" shows as many columns on the constant side as there are constant rows, and a column for every parameter row;
+pub determined-shows-every-row : (M : Model) (r : Answer) → Answered M r → r .verdict ≡ 1
+    → (# (M .n) (members (whole (r .constants))) ≡ M .a) × ((i : ℕ) → i < M .b → getD (r .rows) i 0 < M .n)
+determined-shows-every-row = determined-rows
+
+-- one that says "surplus" shows fewer columns there, or a parameter row without a column.
+pub surplus-shows-a-row-left : (M : Model) (r : Answer) → Answered M r → r .verdict ≡ 2
+    → (# (M .n) (members (whole (r .constants))) < M .a) ⊎ Some (M .b) (λ i. getD (r .rows) i 0 ≡ no-column)
+surplus-shows-a-row-left = surplus-rows
+
+-- The rows I and columns J of a mixed answer that says "determined" use every row,
+pub mixed-determined-shows-every-row : (X : Mixed) (r : MixedAnswer) → MixedAnswered X r → r .verdict ≡ 1 → UsesEveryRow X (members (whole (r .rows))) (members (whole (r .columns)))
+mixed-determined-shows-every-row X r h v = mixed-determined-uses-every-row X (sym (h .is-verdict) ∙ v) _ _ (h .they-reach)
+
+-- and those of one that says "surplus" leave a row over.
+pub mixed-surplus-shows-a-row-left : (X : Mixed) (r : MixedAnswer) → MixedAnswered X r → r .verdict ≡ 2 → LeavesRow X (members (whole (r .rows))) (members (whole (r .columns)))
+mixed-surplus-shows-a-row-left X r h v = mixed-surplus-leaves-a-row X (sym (h .is-verdict) ∙ v) _ _ (h .they-reach)
 
 -- ---- document 01's file
 

@@ -12,6 +12,7 @@ use Rattle.counting.specs.Sets.{Set, indicator, #, all, any, choose, set, touch
 use Rattle.counting.specs.Choices.{greatest, largest, some, every, membership, largest-part, every-part}
 use Rattle.columns.specs.Columns.{members}
 use Rattle.rank.specs.Linear.Independence.{Σ, dot}
+use Rattle.rank.specs.Verdict.{verdict-number}
 use Rattle.rank.specs.Layered.Model.{Model, same-row, has-parameter, legal}
 use Rattle.rank.specs.Layered.Rank.{seat, constant-rank, sum, last-seat, largest-assignment, some-assignment, row-outside, matching, rank, placeable, taken, placed, short, verdict}
 use Rattle.rank.specs.Independent.{is-zero, in-kernel, independent}
@@ -50,7 +51,7 @@ module _ (P : Prime 2) where
 
   -- all that has to be opened to run the definitions
   unfoldable run : ℕ
-  unfolding residues res mk plus times Σ dot members indicator # all any choose set touching greatest largest some every membership largest-part every-part is-zero in-kernel independent same-row has-parameter legal seat constant-rank sum last-seat largest-assignment some-assignment row-outside matching rank placeable taken placed short verdict decide ℕ-discrete decLe decLt
+  unfolding residues res mk plus times Σ dot members indicator # all any choose set touching greatest largest some every membership largest-part every-part is-zero in-kernel independent same-row has-parameter legal seat constant-rank sum last-seat largest-assignment some-assignment row-outside matching rank placeable taken placed short verdict verdict-number decide ℕ-discrete decLe decLt
   run = 0
 
   -- two equal constant columns and no parameter: one is placed, both are short
@@ -62,6 +63,11 @@ module _ (P : Prime 2) where
   a-column-moves : Gives (small 1 (1 ∷ 1 ∷ []) (1 ∷ [])) 2 (true, true) (false, false) 1
   unfolding run
   a-column-moves = record { is-rank = refl; is-placed = refl; is-short = refl; is-verdict = refl }
+
+  -- a second parameter there is one equation more than columns: surplus
+  an-equation-is-left-over : Gives (small 2 (1 ∷ 1 ∷ []) (1 ∷ 1 ∷ [])) 2 (true, true) (false, false) 2
+  unfolding run
+  an-equation-is-left-over = record { is-rank = refl; is-placed = refl; is-short = refl; is-verdict = refl }
 
   -- column 0 has nothing and column 1 a constant: column 1 is placed, after column 0 was not
   a-later-column-is-placed : Gives (small 0 (0 ∷ 1 ∷ []) []) 1 (false, true) (true, false) 0
@@ -89,3 +95,8 @@ module _ (P : Prime 2) where
   its-sums : (sum one-column (members 0) ≡ 2) × (sum one-column (members 1) ≡ 4) × (sum one-column (members 2) ≡ 1) × (sum one-column (members 3) ≡ 3)
   unfolding run
   its-sums = (refl, refl, refl, refl)
+
+  -- no column is offered: without a row the model is determined, with one it is surplus
+  none-offered : (verdict (model-modulo 2 P 2 0 0 (λ i x. res 2 P 1) (λ r x. true) (λ x. false)) ≡ 1) × (verdict (model-modulo 2 P 2 1 0 (λ i x. res 2 P 1) (λ r x. true) (λ x. false)) ≡ 2)
+  unfolding run
+  none-offered = (refl, refl)

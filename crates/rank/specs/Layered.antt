@@ -1,6 +1,7 @@
--- Layered models: `Model` and `Rank` are document 01 as definitions; the other files prove what they say of each other.
+-- Layered models: `Model`, `Rank` and `RowUse` are document 01 as definitions; the other files prove what they say of each other.
 pub mod Model
 pub mod Rank
+pub mod RowUse
 pub mod Meaning
 pub mod Restricting
 pub mod Duality
@@ -15,3 +16,4 @@ pub mod RankRows
 pub mod ColumnOrder
 pub mod Offers
 pub mod Minimax
+pub mod Verdicts

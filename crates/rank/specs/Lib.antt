@@ -3,6 +3,8 @@ pub mod Modulus
 pub mod ModulusLaws
 pub mod Linear
 pub mod Graph
+pub mod Verdict
+pub mod VerdictLaws
 pub mod Layered
 pub mod Independent
 pub mod IndependentLaws

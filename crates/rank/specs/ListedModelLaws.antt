@@ -1,6 +1,6 @@
 -- The independence and the verdict of the model of numbers, in plain numbers. Assumes nothing.
 use Prim.Native.Nat.{ℕ, zero, suc, _+_, _*_, _%_, _<_}
-use mathlib.Core.Path.{_≡_, refl, sym, ap₂, _∙_, subst}
+use mathlib.Core.Path.{_≡_, refl, sym, ap, ap₂, _∙_, subst}
 use mathlib.Core.Logic.{_≢_, _↔_}
 use mathlib.Core.Bool.{true}
 use mathlib.Core.List.{List}
@@ -17,8 +17,8 @@ use Rattle.rank.specs.Modulus.{modulus}
 use Rattle.rank.specs.ModulusLaws.{modulus-is}
 use Rattle.rank.specs.Linear.Independence.{Σ, dot, In, Indep}
 use Rattle.rank.specs.Linear.Sums.{dot-cong}
+use Rattle.rank.specs.Verdict.{verdict-number}
 use Rattle.rank.specs.Layered.Rank.{rank, verdict}
-use Rattle.rank.specs.Layered.Meaning.{verdict-iff}
 use Rattle.rank.specs.IndependentLaws.{cut, cut-below, cut-beyond, independent-iff}
 use Rattle.rank.specs.ListedModel.{constant-at, listed-model}
 
@@ -83,6 +83,7 @@ independent-reads p n a b cs ws prime S =
       λ h. independent-iff _ _ a n _ S .1 (residues-too (modulus p .0) (modulus p .1) n a cs S h),
     )
 
--- all n columns are offered, so the verdict is 1 exactly where the rank is n
-pub verdict-at-n : (p n a b : ℕ) (cs ws : List ℕ) → (verdict (listed-model p n a b cs ws) ≡ 1) ↔ (rank (listed-model p n a b cs ws) ≡ n)
-verdict-at-n p n a b cs ws = subst (λ (k : ℕ). (verdict (listed-model p n a b cs ws) ≡ 1) ↔ (rank (listed-model p n a b cs ws) ≡ k)) (#-all n (λ x. true) (λ x l. refl)) (verdict-iff (listed-model p n a b cs ws))
+-- all n columns are offered, so the verdict goes by n
+pub verdict-at-n : (p n a b : ℕ) (cs ws : List ℕ) → verdict (listed-model p n a b cs ws) ≡ verdict-number (rank (listed-model p n a b cs ws)) n (a + b)
+unfolding verdict
+verdict-at-n p n a b cs ws = ap (λ (k : ℕ). verdict-number (rank (listed-model p n a b cs ws)) k (a + b)) (#-all n (λ x. true) (λ x l. refl))

@@ -7,11 +7,10 @@ use mathlib.Core.Bool.{true, false, true≢false, decide}
 use mathlib.Core.List.{[], _∷_}
 use native.Mathlib.Omega.{arith}
 use native.Mathlib.Decide.{ℕ-discrete}
-use Rattle.residue.specs.Arithmetic.{is-prime, undivided}
-use Rattle.counting.specs.Sets.{Set, all, indicator}
+use Rattle.counting.specs.Sets.{Set, indicator}
 use Rattle.counting.specs.Beside.{beside}
 use borrow.Author.Tests.{eq-eqb}
-use Rattle.columns.specs.Columns.{members, word-of, within}
+use Rattle.columns.specs.Columns.{members, word-of}
 use Rattle.columns.specs.ColumnSets.{whole}
 use Rattle.columns.specs.Words.Bits.{bit-zero}
 use Rattle.rank.specs.Layered.Rank.{rank, short}
@@ -19,21 +18,16 @@ use Rattle.rank.specs.ListedModel.{listed-model}
 use Rattle.mixed_models.specs.Mixed.{mixed, unit, layered-form}
 use Rattle.mixed_models.specs.Starred.Lists.{among}
 use Rattle.mixed_models.specs.Starred.Table.{table}
-use Rattle.format.specs.Lists.{all-pass}
-use Rattle.format.specs.Refusals.{first-refusal, prime-test, size-test, constant-test, parameter-test, area-test, model-tests, refusal, mixed-test, mixed-tests, mixed-refusal}
+use Rattle.format.specs.Refusals.{refusal, mixed-refusal}
 use Rattle.layered.specs.Answers.{LayeredCall}
 use Rattle.layered.specs.declared.Answer.{Answer}
 use Rattle.mixed.specs.MixedAnswers.{MixedCall}
 use Rattle.mixed.specs.declared.MixedAnswer.{MixedAnswer}
 use Rattle.refutations.specs.Computing.{computing}
-
--- what judging the models opens
-unfoldable run : ℕ
-unfolding all members within indicator is-prime undivided all-pass first-refusal prime-test size-test constant-test parameter-test area-test model-tests refusal mixed-test mixed-tests mixed-refusal
-run = 0
+use Rattle.refutations.specs.Accepted.{judging, S9-accepted, joined-accepted}
 
 S4-accepted : refusal 1021 5 2 2 (1 ∷ 1 ∷ 1 ∷ 1 ∷ 0 ∷ 0 ∷ 2 ∷ 1 ∷ 1 ∷ 0 ∷ []) (17 ∷ 18 ∷ []) ≡ 0
-unfolding run
+unfolding judging
 S4-accepted = refl
 
 -- the constant side is filled first and no column moves: S4 reaches 3
@@ -49,16 +43,12 @@ pub unplaced-as-short : (r : Answer) → LayeredCall 1021 5 2 2 (1 ∷ 1 ∷ 1 �
 unplaced-as-short r x h = true≢false (sym two-is-short ∙ sym (table .s4 .is-short 2) ∙ sym (x .if-accepted S4-accepted .solved .is-short 2) ∙ h)
 
 S3-accepted : refusal 1021 2 2 0 (1 ∷ 1 ∷ 1 ∷ 1 ∷ []) [] ≡ 0
-unfolding run
+unfolding judging
 S3-accepted = refl
 
 -- the same balance twice passes for two: S3 is called determined
 pub sum-passes-as-another : (r : Answer) → LayeredCall 1021 2 2 0 (1 ∷ 1 ∷ 1 ∷ 1 ∷ []) [] r → r .verdict ≡ 1 → ⊥
 sum-passes-as-another r x z = let e = x .if-accepted S3-accepted .is-verdict in let f = table .s3 .is-verdict in omega arith
-
-S9-accepted : mixed-refusal 1021 2 2 2 (1 ∷ 1 ∷ 1 ∷ 1 ∷ []) (1 ∷ 0 ∷ []) ≡ 0
-unfolding run
-S9-accepted = refl
 
 -- in a mixed place with both the parameter is dropped: S9 falls to 1
 pub parameter-dropped : (r : MixedAnswer) → MixedCall 1021 2 2 2 (1 ∷ 1 ∷ 1 ∷ 1 ∷ []) (1 ∷ 0 ∷ []) r → r .rank ≡ 1 → ⊥
@@ -66,7 +56,7 @@ parameter-dropped r x z = let e = x .if-accepted S9-accepted .is-rank in let f =
 
 -- the verdict is taken from the number of rows, m: S8 is called determined
 S8-accepted : mixed-refusal 1021 2 2 2 (1 ∷ 1 ∷ 1 ∷ 1 ∷ []) (0 ∷ 0 ∷ []) ≡ 0
-unfolding run
+unfolding judging
 S8-accepted = refl
 
 pub square-called-determined : (r : MixedAnswer) → MixedCall 1021 2 2 2 (1 ∷ 1 ∷ 1 ∷ 1 ∷ []) (0 ∷ 0 ∷ []) r → r .verdict ≡ 1 → ⊥
@@ -78,11 +68,6 @@ refuses-mixed r x h = h (x .is-refusal ∙ S8-accepted)
 
 -- ---- two models modulo 2, computed
 
--- S10 joined to a constant row 1 0: column 1 has no equation
-joined-accepted : refusal 2 2 1 2 (1 ∷ 0 ∷ []) (1 ∷ 1 ∷ []) ≡ 0
-unfolding run
-joined-accepted = refl
-
 joined-rank : rank (listed-model 2 2 1 2 (1 ∷ 0 ∷ []) (1 ∷ 1 ∷ [])) ≡ 1
 unfolding computing
 joined-rank = refl
@@ -93,7 +78,7 @@ constants-added r x z = let e = x .if-accepted joined-accepted .solved .is-rank 
 
 -- mixed 1 by 2, constants 1 0, parameters at both
 both-accepted : mixed-refusal 2 2 1 1 (1 ∷ 0 ∷ []) (3 ∷ []) ≡ 0
-unfolding run
+unfolding judging
 both-accepted = refl
 
 both-short : short (layered-form (mixed 2 1 2 (1 ∷ 0 ∷ []) (3 ∷ []))) 0 ≡ true

@@ -1,36 +1,51 @@
-// Prints S2's report, and S9's mixed one, into an area a byte longer than the text, one as long and one a byte shorter: which number and
-// which length the call gives, and then the whole area, which held full stops before.
+// Prints S2's report, and S9's mixed one, into an area a byte longer than the text, one as long and one a byte shorter; then the reports
+// of two models with surplus equations. A report is which number and which length the call gives, and then the whole area, which held full
+// stops before.
 use text::Printed;
 
 const FULL_STOP: u8 = 46;
 
 fn main() {
+    // S2, document 01's file: p 1,021, n 2, one constant row 1 0, one parameter row {1}.
+    let s2 =
+        b"\x01\x02\x00\xFD\x03\x02\x03\x00\x02\x01\x01\x03\x04\x00\x01\x00\x00\x00\x04\x08\x00\x02\x00\x00\x00\x00\x00\x00\x00\x05\x00\x00";
     let mut longer = [FULL_STOP; 60];
-    layered(&mut longer);
+    layered(s2, &mut longer);
     let mut whole = [FULL_STOP; 59];
-    layered(&mut whole);
+    layered(s2, &mut whole);
     let mut short = [FULL_STOP; 58];
-    layered(&mut short);
+    layered(s2, &mut short);
+    // S9: p 1,021, n 2, two constant rows 1 1, parameter rows {0} and none.
+    let s9 =
+        b"\x01\x02\x00\xFD\x03\x02\x03\x00\x02\x02\x02\x03\x04\x00\x01\x00\x01\x00\x03\x04\x00\x01\x00\x01\x00\x04\x08\x00\x01\x00\x00\x00\x00\x00\x00\x00\x04\x08\x00\x00\x00\x00\x00\x00\x00\x00\x00\x05\x00\x00";
     let mut mixed_longer = [FULL_STOP; 50];
-    mixed(&mut mixed_longer);
+    mixed(s9, &mut mixed_longer);
     let mut mixed_whole = [FULL_STOP; 49];
-    mixed(&mut mixed_whole);
+    mixed(s9, &mut mixed_whole);
     let mut mixed_short = [FULL_STOP; 48];
-    mixed(&mut mixed_short);
+    mixed(s9, &mut mixed_short);
+    surplus();
 }
 
-// The report of S2, document 01's file: p 1,021, n 2, one constant row 1 0, one parameter row {1}.
-fn layered(area: &mut [u8]) {
-    let file =
-        b"\x01\x02\x00\xFD\x03\x02\x03\x00\x02\x01\x01\x03\x04\x00\x01\x00\x00\x00\x04\x08\x00\x02\x00\x00\x00\x00\x00\x00\x00\x05\x00\x00";
+fn surplus() {
+    // S11: p 1,021, n 1, two parameter rows {0}.
+    let s11 =
+        b"\x01\x02\x00\xFD\x03\x02\x03\x00\x01\x00\x02\x04\x08\x00\x01\x00\x00\x00\x00\x00\x00\x00\x04\x08\x00\x01\x00\x00\x00\x00\x00\x00\x00\x05\x00\x00";
+    let mut area = [FULL_STOP; 60];
+    layered(s11, &mut area);
+    // p 1,021, n 1, two constant rows 1, two parameter rows without a parameter.
+    let tall =
+        b"\x01\x02\x00\xFD\x03\x02\x03\x00\x01\x02\x02\x03\x02\x00\x01\x00\x03\x02\x00\x01\x00\x04\x08\x00\x00\x00\x00\x00\x00\x00\x00\x00\x04\x08\x00\x00\x00\x00\x00\x00\x00\x00\x00\x05\x00\x00";
+    let mut mixed_area = [FULL_STOP; 60];
+    mixed(tall, &mut mixed_area);
+}
+
+fn layered(file: &[u8], area: &mut [u8]) {
     let printed = report::report_file(file, area);
     show(b"layered", printed, area);
 }
 
-// The mixed report of S9: p 1,021, n 2, two constant rows 1 1, parameter rows {0} and none.
-fn mixed(area: &mut [u8]) {
-    let file =
-        b"\x01\x02\x00\xFD\x03\x02\x03\x00\x02\x02\x02\x03\x04\x00\x01\x00\x01\x00\x03\x04\x00\x01\x00\x01\x00\x04\x08\x00\x01\x00\x00\x00\x00\x00\x00\x00\x04\x08\x00\x00\x00\x00\x00\x00\x00\x00\x00\x05\x00\x00";
+fn mixed(file: &[u8], area: &mut [u8]) {
     let printed = mixed_report::report_mixed_file(file, area);
     show(b"mixed", printed, area);
 }

@@ -49,9 +49,9 @@ column-items S = flatMap item (columns-from width 0 S)
 
 -- ---- the lines that every report may have
 
--- the verdict's word: 1 is "determined", 0 is "open"
+-- the verdict's word: 1 is "determined", 2 is "surplus", 0 is "open"
 unfoldable pub verdict-line : ℕ → List ℕ
-verdict-line v = line (ascii "verdict") (ascii " " ++ cond (eqb v 1) (ascii "determined") (ascii "open"))
+verdict-line v = line (ascii "verdict") (ascii " " ++ cond (eqb v 1) (ascii "determined") (cond (eqb v 2) (ascii "surplus") (ascii "open")))
 
 unfoldable pub refused-line : ℕ → List ℕ
 refused-line refusal = line (ascii "refused") (item refusal)

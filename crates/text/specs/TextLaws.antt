@@ -77,9 +77,13 @@ pub verdict-determined : (v : ℕ) → v ≡ 1 → verdict-line v ≡ ascii "ver
 unfolding verdict-line line ascii
 verdict-determined v e = rw (eq-eqb v 1 e) refl
 
-pub verdict-open : (v : ℕ) → v ≢ 1 → verdict-line v ≡ ascii "verdict open\n"
+pub verdict-surplus : (v : ℕ) → v ≡ 2 → verdict-line v ≡ ascii "verdict surplus\n"
 unfolding verdict-line line ascii
-verdict-open v ne = rw (ne-eqb v 1 ne) refl
+verdict-surplus v e = rw (ne-eqb v 1 (λ d. omega arith), eq-eqb v 2 e) refl
+
+pub verdict-open : (v : ℕ) → v ≢ 1 → v ≢ 2 → verdict-line v ≡ ascii "verdict open\n"
+unfolding verdict-line line ascii
+verdict-open v nd ns = rw (ne-eqb v 1 nd, ne-eqb v 2 ns) refl
 
 -- ---- how long they are
 
@@ -108,7 +112,7 @@ pub verdict-line-length : (v : ℕ) → length (verdict-line v) ≤ 19
 unfolding ascii
 verdict-line-length v = by-cases (ℕ-discrete v 1)
     (λ e. rw (verdict-determined v e) (omega arith))
-    (λ ne. rw (verdict-open v ne) (omega arith))
+    (λ nd. by-cases (ℕ-discrete v 2) (λ e. rw (verdict-surplus v e) (omega arith)) (λ ns. rw (verdict-open v nd ns) (omega arith)))
 
 -- a number of 32 bits has at most ten digits
 pub refused-line-length : (x : ℕ) → x < 4294967296 → length (refused-line x) ≤ 19

@@ -42,6 +42,9 @@ pub fn put_verdict_line(out: &mut [u8], at: usize, verdict: u8) -> usize
     if verdict == 1 {
         return put_bytes(out, at, b"verdict determined\n");
     }
+    if verdict == 2 {
+        return put_bytes(out, at, b"verdict surplus\n");
+    }
     put_bytes(out, at, b"verdict open\n")
 }
 

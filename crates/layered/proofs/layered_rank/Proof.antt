@@ -100,6 +100,9 @@ returns-2 c =
       if-accepted = λ z. absurd (true≢false (sym (accepted-taken (a .p) (a .n) (a .a) (a .b) (a .constants .now) (row-numbers (a .parameters .now)) _ (s .before .below .ensures) z) ∙ sym (s .solve .ensures .is-valid) ∙ not-true _ (c .before .before .if2 .taken)));
     }
 
+add-verdict-of : tie.Need-add-verdict-of
+add-verdict-of c = let fits = admissible-reads _ _ _ _ _ _ _ (taken c) .fits in omega (arith, fits .constant-rows, fits .parameter-rows)
+
 verdict-of-requires : tie.Need-verdict-of-requires
 verdict-of-requires c κs = search needs
 
@@ -136,6 +139,7 @@ layered-rank-spec =
     judge-model-requires-2
     refuse-requires-2
     returns-2
+    add-verdict-of
     verdict-of-requires
     cast-rank
     returns-3)

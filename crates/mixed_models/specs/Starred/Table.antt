@@ -14,6 +14,7 @@ use Rattle.counting.specs.Sets.{#, indicator, all, any, set, choose, touching}
 use Rattle.counting.specs.Beside.{beside}
 use Rattle.columns.specs.Columns.{members}
 use Rattle.rank.specs.Modulus.{modulus, modulus-at}
+use Rattle.rank.specs.Verdict.{verdict-number}
 use Rattle.rank.specs.Linear.Kernels.{hits}
 use Rattle.rank.specs.Linear.Tableaus.{pivot}
 use Rattle.rank.specs.Layered.Model.{Model, same-row}
@@ -41,7 +42,7 @@ pub record MixedAnswers (X : Mixed) (the-verdict the-rank : ℕ) (the-short : Li
   pub is-rank : mixed-rank X ≡ the-rank
   pub is-short : (x : ℕ) → short (layered-form X) x ≡ among the-short x
 
--- what document 01 says of S1 to S11: verdict, rank, placed set, short set
+-- what document 01 says of S1 to S11, with document 02's E8: verdict, rank, placed set, short set
 pub record Table : Type 0 where
   pub s1 : Answers S1 0 0 [] (0 ∷ [])
   pub s2 : Answers S2 1 2 (0 ∷ 1 ∷ []) []
@@ -53,24 +54,24 @@ pub record Table : Type 0 where
   pub s8 : MixedAnswers S8 0 1 (2 ∷ 3 ∷ [])
   pub s9 : MixedAnswers S9 1 2 []
   pub s10 : Answers S10 0 1 (0 ∷ []) (1 ∷ [])
-  pub s11 : Answers S11 1 1 (0 ∷ []) []
+  pub s11 : Answers S11 2 1 (0 ∷ []) []
 
-answers : (M : Model) (c : Claim) (v : ℕ) → passes M c ≡ true → indicator (decide (ℕ-discrete (c .the-rank) (# (M .n) (M .E)))) ≡ v
+answers : (M : Model) (c : Claim) (v : ℕ) → passes M c ≡ true → verdict-number (c .the-rank) (# (M .n) (M .E)) (M .a + M .b) ≡ v
     → Answers M v (c .the-rank) (c .the-placed) (c .the-short)
 unfolding verdict
 answers M c v e f = record {
-  is-verdict = ap (λ (k : ℕ). indicator (decide (ℕ-discrete k (# (M .n) (M .E))))) (claimed M c e .0) ∙ f;
+  is-verdict = ap (λ (k : ℕ). verdict-number k (# (M .n) (M .E)) (M .a + M .b)) (claimed M c e .0) ∙ f;
   is-rank = claimed M c e .0;
   is-placed = claimed M c e .1;
   is-short = claimed M c e .2;
 }
 
-mixed-answers : (X : Mixed) (c : Claim) (v r : ℕ) → passes (layered-form X) c ≡ true → c .the-rank ≡ X .m + r → indicator (decide (ℕ-discrete r (X .n))) ≡ v
+mixed-answers : (X : Mixed) (c : Claim) (v r : ℕ) → passes (layered-form X) c ≡ true → c .the-rank ≡ X .m + r → verdict-number r (X .n) (X .m) ≡ v
     → MixedAnswers X v r (c .the-short)
 unfolding mixed-verdict
 mixed-answers X c v r e s f =
     let is-r : mixed-rank X ≡ r = omega (arith, form-rank X, claimed (layered-form X) c e .0) in record {
-      is-verdict = ap (λ (k : ℕ). indicator (decide (ℕ-discrete k (X .n)))) is-r ∙ f;
+      is-verdict = ap (λ (k : ℕ). verdict-number k (X .n) (X .m)) is-r ∙ f;
       is-rank = is-r;
       is-short = claimed (layered-form X) c e .2;
     }
@@ -99,7 +100,7 @@ unfolding run
 passing P R = record { s1 = refl; s2 = refl; s3 = refl; s4 = refl; s5 = refl; s6 = refl; s7 = refl; s8 = refl; s9 = refl; s10 = refl; s11 = refl }
 
 pub table : Table
-unfolding modulus modulus-at true? is-prime undivided # indicator decide ℕ-discrete
+unfolding modulus modulus-at true? is-prime undivided # indicator verdict-number
 table = let holds : Passing (modulus 1021 .1) (modulus 3 .1) = passing (modulus 1021 .1) (modulus 3 .1) in record {
   s1 = answers S1 claim-S1 0 (holds .s1) refl;
   s2 = answers S2 claim-S2 1 (holds .s2) refl;
@@ -111,5 +112,5 @@ table = let holds : Passing (modulus 1021 .1) (modulus 3 .1) = passing (modulus 
   s8 = mixed-answers S8 claim-S8 0 1 (holds .s8) refl refl;
   s9 = mixed-answers S9 claim-S9 1 2 (holds .s9) refl refl;
   s10 = answers S10 claim-S10 0 (holds .s10) refl;
-  s11 = answers S11 claim-S11 1 (holds .s11) refl;
+  s11 = answers S11 claim-S11 2 (holds .s11) refl;
 }

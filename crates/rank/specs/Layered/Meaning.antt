@@ -8,18 +8,24 @@ use native.Mathlib.Decide.{ℕ-discrete, decLt}
 use native.Mathlib.Omega.{arith}
 use Rattle.counting.specs.Bools.{and-in, and-left, and-right, implied, implies, not-both, not-of, not-true, true?}
 use Rattle.counting.specs.Sets.{#, Set, _∈_, all}
-use Rattle.counting.specs.Counts.{indicator-one, #-none, all-iff}
+use Rattle.counting.specs.Counts.{#-none, all-iff}
 use Rattle.counting.specs.Choices.{Part}
 use Rattle.counting.specs.ChoiceLaws.{Chosen, cond-false, cond-true, every-part-iff, largest-at, largest-le, part-at, part-le, some-iff}
 use Rattle.rank.specs.Linear.Independence.{Indep}
 use Rattle.rank.specs.Layered.Model.{Assignment, Legal, Model, Seat, constant, constants, has-parameter, is-constant, is-placed, legal, out, placing, row, same-row, size}
-use Rattle.rank.specs.Layered.Rank.{verdict, constant-rank, largest-assignment, last-seat, matching, placeable, rank, row-outside, seat, short, some-assignment, sum}
+use Rattle.rank.specs.Layered.Rank.{constant-rank, largest-assignment, last-seat, matching, placeable, rank, row-outside, seat, short, some-assignment, sum}
 
 -- a seat is out, the constant side, or a row
 pub seat-cases : {A : Type 0} (s : Seat) → (s ≡ out → A) → (s ≡ constant → A) → ((r : ℕ) → s ≡ row r → A) → A
 seat-cases out f g h = f refl
 seat-cases constant f g h = g refl
 seat-cases (row r) f g h = h r refl
+
+-- a seat is a certain row, or it is not
+pub row? : (s : Seat) (r : ℕ) → Dec (s ≡ row r)
+row? out r = no (λ e. false≢true (ap is-placed e))
+row? constant r = no (λ e. true≢false (ap is-constant e))
+row? (row q) r = elim (ℕ-discrete q r) [ yes e ↦ yes (ap row e) | no ne ↦ no (λ e. ne (cc)) ]
 
 -- both seats are one row
 pub same-row-iff : (s t : Seat) → (same-row s t ≡ true) ↔ ((r : ℕ) × (s ≡ row r) × (t ≡ row r))
@@ -234,12 +240,4 @@ module _ (M : Model) where
   short-iff x = (
     λ e J p t. implied (decide (ℕ-discrete (sum M J) (rank M))) (J x) (every-part-iff n E (λ J. not (decide (ℕ-discrete (sum M J) (rank M))) || J x) .0 e J p) (decide-iff (ℕ-discrete (sum M J) (rank M)) .1 t),
     λ h. every-part-iff n E (λ J. not (decide (ℕ-discrete (sum M J) (rank M))) || J x) .1 (λ J p. implies (decide (ℕ-discrete (sum M J) (rank M))) (J x) (λ t. h J p (decide-iff (ℕ-discrete (sum M J) (rank M)) .0 t))),
-  )
-
-  -- the rank is the number of columns
-  pub verdict-iff : (verdict M ≡ 1) ↔ (rank M ≡ # n E)
-  unfolding verdict
-  verdict-iff = (
-    λ e. decide-iff (ℕ-discrete (rank M) (# n E)) .0 (indicator-one (decide (ℕ-discrete (rank M) (# n E))) .0 e),
-    λ e. indicator-one (decide (ℕ-discrete (rank M) (# n E))) .1 (decide-iff (ℕ-discrete (rank M) (# n E)) .1 e),
   )

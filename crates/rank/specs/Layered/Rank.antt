@@ -2,8 +2,9 @@
 use Prim.Native.Nat.{ℕ, zero, suc, _+_}
 use mathlib.Core.Bool.{Bool, true, false, not, _&&_, _||_, cond, decide, Bool-discrete}
 use native.Mathlib.Decide.{ℕ-discrete}
-use Rattle.counting.specs.Sets.{Set, _∩_, ∁, indicator, #, all, set, touching}
+use Rattle.counting.specs.Sets.{Set, _∩_, ∁, #, all, set, touching}
 use Rattle.counting.specs.Choices.{largest, some, largest-part, every-part}
+use Rattle.rank.specs.Verdict.{verdict-number}
 use Rattle.rank.specs.Layered.Model.{Model, Seat, out, constant, row, Assignment, placing, size, legal}
 
 -- the seats by number: out, the constant side, row 0, row 1, ..
@@ -19,7 +20,7 @@ row-outside J x constant = false
 row-outside J x (row r) = not (J x)
 
 module _ (M : Model) where
-  open Model M using (b, n, T, E, indep)
+  open Model M using (a, b, n, T, E, indep)
 
   -- the rank of the constant columns in J: the size of the largest independent set within J
   unfoldable pub constant-rank : Set → ℕ
@@ -69,6 +70,6 @@ module _ (M : Model) where
   unfoldable pub short : Set
   short x = every-part n E (λ J. not (decide (ℕ-discrete (sum J) rank)) || J x)
 
-  -- 1 "determined" where the rank is the number of columns, else 0 "open"
+  -- the verdict: of the rank, the number of columns offered, and the number of rows
   unfoldable pub verdict : ℕ
-  verdict = indicator (decide (ℕ-discrete rank (# n E)))
+  verdict = verdict-number rank (# n E) (a + b)

@@ -2,17 +2,23 @@
 use mathlib.Core.Path.{sym}
 use Rattle.text.specs.Text.{ascii}
 use Rattle.text.specs.PutLaws.{puts-as}
-use Rattle.text.specs.TextLaws.{verdict-determined, verdict-open}
+use Rattle.text.specs.TextLaws.{verdict-determined, verdict-surplus, verdict-open}
 use borrow.Author.Needs.{needs}
 use Rattle.text.proofs.put_verdict_line.Statement.{statement}
 use Rattle.text.proofs.put_verdict_line.Tie as tie
 
--- where either line is put
+-- where each line is put, and the branch that it is put in
 abbrev determined-put : tie.After-slice-known2 → tie.After-put-bytes
 determined-put c = c .before .before
 
-abbrev open-put : tie.After-slice-known3 → tie.After-put-bytes2
+abbrev surplus-put : tie.After-slice-known3 → tie.After-put-bytes2
+surplus-put c = c .before .before
+
+abbrev open-put : tie.After-slice-known4 → tie.After-put-bytes3
 open-put c = c .before .before
+
+abbrev open-branch : tie.After-put-bytes3 → tie.Else2
+open-branch c = c .before .before .before
 
 slice-aggregate-put-bytes : tie.Need-slice-aggregate-put-bytes
 slice-aggregate-put-bytes c = search needs
@@ -41,8 +47,24 @@ same-length-2 c = search needs
 returns-2 : tie.Need-returns-2
 unfolding ascii
 returns-2 c =
+    let put = surplus-put c in
+    puts-as (sym (verdict-surplus _ (put .before .before .before .if2 .taken))) (put .put-bytes2 .ensures)
+
+slice-aggregate-put-bytes-3 : tie.Need-slice-aggregate-put-bytes-3
+slice-aggregate-put-bytes-3 c = search needs
+
+put-bytes-requires-3 : tie.Need-put-bytes-requires-3
+put-bytes-requires-3 c κs = search needs
+
+same-length-3 : tie.Need-same-length-3
+same-length-3 c = search needs
+
+returns-3 : tie.Need-returns-3
+unfolding ascii
+returns-3 c =
     let put = open-put c in
-    puts-as (sym (verdict-open _ (put .before .before .before .if1 .left))) (put .put-bytes2 .ensures)
+    let branch = open-branch put in
+    puts-as (sym (verdict-open _ (branch .before .if1 .left) (branch .if2 .left))) (put .put-bytes3 .ensures)
 
 pub put-verdict-line-spec : {M : Type 1} → statement M
 put-verdict-line-spec =
@@ -55,4 +77,8 @@ put-verdict-line-spec =
     slice-aggregate-put-bytes-2
     put-bytes-requires-2
     same-length-2
-    returns-2)
+    returns-2
+    slice-aggregate-put-bytes-3
+    put-bytes-requires-3
+    same-length-3
+    returns-3)
