@@ -1,5 +1,6 @@
--- Document 01's mixed models; the mixed rank by its layered form, and the starred table.
+-- Document 01's mixed models; the mixed rank by its layered form, the mixed verdict, and the starred table.
 pub mod Mixed
+pub mod MixedRowUse
 pub mod MixedTheorem
 pub mod MixedVerdicts
 pub mod Starred

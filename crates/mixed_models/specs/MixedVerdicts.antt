@@ -1,7 +1,7 @@
 -- What the verdict says of a mixed model: whether the rows I and columns J that reach the rank use every row. Assumes nothing.
 use Prim.Native.Nat.{ℕ, _+_, _≤_, _<_}
 use mathlib.Core.Path.{_≡_, refl, sym, _∙_, ap}
-use mathlib.Core.Logic.{_↔_, _⊎_, inl, inr}
+use mathlib.Core.Logic.{_↔_, inl, inr}
 use mathlib.Core.Bool.{true, not, true≢false}
 use native.Mathlib.Omega.{arith}
 use native.Mathlib.Decide.{decLt}
@@ -19,20 +19,12 @@ use Rattle.rank.specs.Layered.Meaning.{Outside, matching-at, seat-cases}
 use Rattle.rank.specs.Layered.RankRows.{constant-rank-rows}
 use Rattle.rank.specs.Layered.Verdicts.{rank-le-columns}
 use Rattle.mixed_models.specs.Mixed.{Mixed, divided, layered-form, mixed-rank, mixed-sum, mixed-verdict, rows-in}
+use Rattle.mixed_models.specs.MixedRowUse.{LeavesRow, UsesEveryRow}
 use Rattle.mixed_models.specs.MixedTheorem.{form-rank}
 use Rattle.mixed_models.specs.MixedTheorem.Form.{rows-no}
 
 module _ (X : Mixed) where
   open Mixed X using (K, m, n, Q, T)
-
-  -- rows I and columns J use every row: the constants on I and J have the rank that I has rows, and the parameters on the rest a matching of all other rows
-  pub record UsesEveryRow (I J : Set) : Type 0 where
-    pub constant-rows : constant-rank (divided X I) J ≡ # m I
-    pub parameter-rows : matching (divided X I) J ≡ # m (∁ I)
-
-  -- they leave a row over: the rank is smaller, or the largest matching
-  abbrev pub LeavesRow : (I J : Set) → Type 0
-  LeavesRow I J = (constant-rank (divided X I) J < # m I) ⊎ (matching (divided X I) J < # m (∁ I))
 
   -- ---- no more than the rows
 
@@ -66,11 +58,11 @@ module _ (X : Mixed) where
     unfolding mixed-sum
     sum-le-rows = omega (arith, constants-most, parameters-most, #-∁ m I)
 
-    sum-uses : mixed-sum X I J ≡ m → UsesEveryRow I J
+    sum-uses : mixed-sum X I J ≡ m → UsesEveryRow X I J
     unfolding mixed-sum
     sum-uses e = record { constant-rows = omega (arith, constants-most, parameters-most, #-∁ m I); parameter-rows = omega (arith, constants-most, parameters-most, #-∁ m I) }
 
-    sum-leaves : mixed-sum X I J < m → LeavesRow I J
+    sum-leaves : mixed-sum X I J < m → LeavesRow X I J
     unfolding mixed-sum
     sum-leaves l = elim (decLt (constant-rank (divided X I) J) (# m I)) [ yes k ↦ inl k | no nk ↦ inr (omega (arith, #-∁ m I)) ]
 
@@ -96,9 +88,9 @@ module _ (X : Mixed) where
   mixed-verdict-reads = (number-1-iff (mixed-rank X) n m, number-2-iff (mixed-rank X) n m, number-0-iff (mixed-rank X) n m mixed-rank-le-columns mixed-rank-le-rows)
 
   -- where it is 1, all I and J that reach the rank use every row,
-  pub mixed-determined-uses-every-row : mixed-verdict X ≡ 1 → (I J : Set) → mixed-sum X I J ≡ mixed-rank X → UsesEveryRow I J
+  pub mixed-determined-uses-every-row : mixed-verdict X ≡ 1 → (I J : Set) → mixed-sum X I J ≡ mixed-rank X → UsesEveryRow X I J
   mixed-determined-uses-every-row v I J e = sum-uses I J (e ∙ mixed-verdict-reads .0 .0 v .1)
 
   -- and where it is 2, all leave a row over
-  pub mixed-surplus-leaves-a-row : mixed-verdict X ≡ 2 → (I J : Set) → mixed-sum X I J ≡ mixed-rank X → LeavesRow I J
+  pub mixed-surplus-leaves-a-row : mixed-verdict X ≡ 2 → (I J : Set) → mixed-sum X I J ≡ mixed-rank X → LeavesRow X I J
   mixed-surplus-leaves-a-row v I J e = let w = mixed-verdict-reads .1 .0 v in sum-leaves I J (omega arith)

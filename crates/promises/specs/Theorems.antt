@@ -12,7 +12,8 @@ use Rattle.columns.specs.ColumnSets.{whole}
 use Rattle.columns.specs.Words.Bytes.{AreBytes}
 use Rattle.rank.specs.Layered.Model.{Model}
 use Rattle.mixed_models.specs.Mixed.{Mixed}
-use Rattle.mixed_models.specs.MixedVerdicts.{UsesEveryRow, LeavesRow, mixed-determined-uses-every-row, mixed-surplus-leaves-a-row}
+use Rattle.mixed_models.specs.MixedRowUse.{UsesEveryRow, LeavesRow}
+use Rattle.mixed_models.specs.MixedVerdicts.{mixed-determined-uses-every-row, mixed-surplus-leaves-a-row}
 use Rattle.mixed_models.specs.Starred.Models.{S2}
 use Rattle.format.specs.Lists.{over}
 use Rattle.limits.specs.Limits.{longest-file, no-column}

@@ -1,5 +1,6 @@
 -- `text::put_verdict_line` meets its contract. Assumes nothing.
 use mathlib.Core.Path.{sym}
+use native.Mathlib.Omega.{arith}
 use Rattle.text.specs.Text.{ascii}
 use Rattle.text.specs.PutLaws.{puts-as}
 use Rattle.text.specs.TextLaws.{verdict-determined, verdict-surplus, verdict-open}
@@ -11,8 +12,14 @@ use Rattle.text.proofs.put_verdict_line.Tie as tie
 abbrev determined-put : tie.After-slice-known2 → tie.After-put-bytes
 determined-put c = c .before .before
 
+abbrev determined-branch : tie.After-put-bytes → tie.Then1
+determined-branch c = c .before .before .before
+
 abbrev surplus-put : tie.After-slice-known3 → tie.After-put-bytes2
 surplus-put c = c .before .before
+
+abbrev surplus-branch : tie.After-put-bytes2 → tie.Then2
+surplus-branch c = c .before .before .before
 
 abbrev open-put : tie.After-slice-known4 → tie.After-put-bytes3
 open-put c = c .before .before
@@ -33,7 +40,8 @@ returns : tie.Need-returns
 unfolding ascii
 returns c =
     let put = determined-put c in
-    puts-as (sym (verdict-determined _ (put .before .before .before .if1 .taken))) (put .put-bytes .ensures)
+    let branch = determined-branch put in
+    puts-as (sym (verdict-determined (branch .before .before .args .verdict) (omega (arith, branch .if1 .taken)))) (put .put-bytes .ensures)
 
 slice-aggregate-put-bytes-2 : tie.Need-slice-aggregate-put-bytes-2
 slice-aggregate-put-bytes-2 c = search needs
@@ -48,7 +56,8 @@ returns-2 : tie.Need-returns-2
 unfolding ascii
 returns-2 c =
     let put = surplus-put c in
-    puts-as (sym (verdict-surplus _ (put .before .before .before .if2 .taken))) (put .put-bytes2 .ensures)
+    let branch = surplus-branch put in
+    puts-as (sym (verdict-surplus (branch .before .before .before .args .verdict) (omega (arith, branch .if2 .taken)))) (put .put-bytes2 .ensures)
 
 slice-aggregate-put-bytes-3 : tie.Need-slice-aggregate-put-bytes-3
 slice-aggregate-put-bytes-3 c = search needs
@@ -64,7 +73,7 @@ unfolding ascii
 returns-3 c =
     let put = open-put c in
     let branch = open-branch put in
-    puts-as (sym (verdict-open _ (branch .before .if1 .left) (branch .if2 .left))) (put .put-bytes3 .ensures)
+    puts-as (sym (verdict-open (branch .before .before .before .args .verdict) (λ e. omega (arith, branch .before .if1 .left)) (λ e. omega (arith, branch .if2 .left)))) (put .put-bytes3 .ensures)
 
 pub put-verdict-line-spec : {M : Type 1} → statement M
 put-verdict-line-spec =
