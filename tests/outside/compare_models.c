@@ -30,6 +30,7 @@ static const struct {
     {"chilled_water_loop", LAYERED, WUNDRESKA_OPEN, 8, NOT_STATED, 192},
     {"chilled_water_loop_filled", LAYERED, WUNDRESKA_SURPLUS, 9, 511, 0},
     {"chilled_water_loop_square", LAYERED, WUNDRESKA_DETERMINED, 9, 511, 0},
+    {"two_meters", MIXED, WUNDRESKA_SURPLUS, 1, NOT_STATED, NOT_STATED},
     {"milk_preheater", LAYERED, WUNDRESKA_OPEN, 7, NOT_STATED, 254},
 };
 
@@ -58,9 +59,10 @@ static const char *bench_complaint(const char *folder, size_t i, Model *m)
     if (bench_models[i].kind == MIXED) {
         static uint8_t file[WUNDRESKA_FILE_MAX];
         Model form = layered_form(m);
-        const char *complaint = mixed_complaint(m, bench_models[i].rank, layered_truth(&form));
-        if (bench_models[i].verdict != verdict_on(mixed_rank(m), m->n, m->a))
+        size_t rank = mixed_rank(m);
+        if (bench_models[i].rank != rank || bench_models[i].verdict != verdict_on(rank, m->n, m->a))
             return "the reference differs from the paper";
+        const char *complaint = mixed_complaint(m, rank, layered_truth(&form));
         return complaint ? complaint : file_complaint(&mixed_question, file, write_file(m, file), WUNDRESKA_MIXED_SIZE, m);
     }
     Truth truth = layered_truth(m);

@@ -17,13 +17,13 @@ static int possible(Kind kind, size_t rows, size_t n)
     return kind == LAYERED ? rows <= 2 * WUNDRESKA_ROWS_MAX : rows <= WUNDRESKA_ROWS_MAX && rows + n <= WUNDRESKA_COLUMNS_MAX;
 }
 
-/* One of all sizes with this relation that allow the rank; one with as many columns as the rank, if asked for. Whether there is one. */
+/* One of all sizes with this relation that allow the rank, or of those with as many columns as the rank. Whether there is one. */
 static int draw_sizes(Kind kind, size_t rank, Relation relation, int full, size_t *n, size_t *rows)
 {
     size_t found = 0;
-    for (size_t columns = rank > 1 ? rank : 1; columns <= WUNDRESKA_COLUMNS_MAX; columns++)
+    for (size_t columns = rank > 1 ? rank : 1; columns <= (full ? rank : WUNDRESKA_COLUMNS_MAX); columns++)
         for (size_t k = rank; possible(kind, k, columns); k++)
-            if ((!full || columns == rank) && relates(k, columns, relation) && one_in(++found))
+            if (relates(k, columns, relation) && one_in(++found))
                 *n = columns, *rows = k;
     return found > 0;
 }
@@ -57,23 +57,24 @@ static void try_rank(Kind kind, size_t n, size_t rows, size_t rank)
     try_file(kind == LAYERED ? &layered_question : &mixed_question, file, write_file(&m, file));
 }
 
-/* How many pairs of a rank and a relation there are. */
+/* Tries models of each pair of a rank and a relation that sizes allow, every other one with as many columns as the rank; how many
+ * pairs there are. */
 static unsigned long try_ranks(Kind kind)
 {
     unsigned long pairs = 0;
     size_t n, rows;
     for (size_t rank = 0; rank <= WUNDRESKA_COLUMNS_MAX; rank++)
-        for (int relation = FEWER; relation <= MORE; relation++) {
-            pairs += draw_sizes(kind, rank, relation, 0, &n, &rows);
+        for (int relation = FEWER; relation <= MORE; relation++)
             for (int i = 0; i < DRAWN; i++)
-                if (draw_sizes(kind, rank, relation, i % 2, &n, &rows))
+                if (draw_sizes(kind, rank, relation, i % 2, &n, &rows)) {
+                    pairs += i == 0;
                     try_rank(kind, n, rows, rank);
-        }
+                }
     return pairs;
 }
 
-/* With fewer rows than columns a rank is below n; with as many it may be n; with more likewise. In a mixed model rows and columns
- * share their limit. */
+/* Each rank has all three relations but the highest: there as many columns leave no room for fewer rows, and in a mixed model, where
+ * rows and columns share their limit, for none but as many. */
 void compare_ranks(void)
 {
     static const Model none;

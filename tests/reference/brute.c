@@ -163,6 +163,7 @@ EnumeratedMixed enumerate_mixed(const Model *model)
 {
     Tables t = {.model = model};
     EnumeratedMixed e = {0};
+    Found full = {0};
     for (Set rows = 0; rows <= all_below(model->a); rows++) {
         find_independent(&t, rows);
         for (Set columns = 0; columns <= all_below(model->n); columns++) {
@@ -170,9 +171,9 @@ EnumeratedMixed enumerate_mixed(const Model *model)
             if (constants + matched > e.rank)
                 e.rank = constants + matched;
             if (constants + matched == model->n)
-                note(&t.full, constants == size_of_set(rows) && matched == model->a - size_of_set(rows));
+                note(&full, constants == size_of_set(rows) && matched == model->a - size_of_set(rows));
         }
     }
-    e.verdict = verdict_by(t.full);
+    e.verdict = verdict_by(full);
     return e;
 }

@@ -18,7 +18,7 @@ Enumerated enumerate_layered(const Model *model);
 
 typedef struct {
     size_t rank;      /* the largest, over rows I and columns J, of constants on I, J and parameters matched on the rest */
-    unsigned verdict; /* by the I and J that reach it: whether they leave a row over */
+    unsigned verdict; /* by the I and J that reach n: whether there are any, and whether they leave a row over */
 } EnumeratedMixed;
 
 EnumeratedMixed enumerate_mixed(const Model *model);

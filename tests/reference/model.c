@@ -1,4 +1,4 @@
-/* Column sets, random numbers, and random models with planted faults. */
+/* Column sets, random numbers, random models with planted faults, and models of a known rank. */
 #include "model.h"
 
 #include <string.h>

@@ -1,5 +1,5 @@
-/* A layered model as document 01 has it, its file, and models drawn at random with planted faults. All limits are those of
- * the header that hosts get. */
+/* A layered model as document 01 has it, its file, and models drawn at random, with planted faults or of a known rank. All
+ * limits are those of the header that hosts get. */
 #ifndef MODEL_H
 #define MODEL_H
 
@@ -52,9 +52,10 @@ Model draw_model(const uint32_t *primes, size_t primes_count, size_t columns, si
 /* The same with a = b and a + n up to the limit. */
 Model draw_mixed(const uint32_t *primes, size_t primes_count, size_t limit);
 
-/* A model of these sizes whose rank is the one given, which is at most n and at most the number of rows: by its layered reading,
- * with a + b rows, or, with a = b rows, by its mixed one. */
+/* How a model is read: with a + b rows, or with a = b. */
 typedef enum { LAYERED, MIXED } Kind;
+
+/* A model of these sizes whose rank, by its kind, is the one given: at most n and at most the number of rows. */
 Model draw_of_rank(Kind kind, uint32_t p, size_t n, size_t a, size_t b, size_t rank);
 
 /* The primes that most tests draw from. */

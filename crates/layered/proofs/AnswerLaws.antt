@@ -2,19 +2,16 @@
 -- Assumes nothing.
 use Prim.Native.Nat.{ℕ, zero, suc, _+_, _*_, _≤_, _<_}
 use mathlib.Core.Path.{_≡_, refl, sym, ap, _∙_, fun-ext}
-use mathlib.Core.Logic.{_≢_, _↔_}
-use mathlib.Core.Bool.{Bool, true, false, _&&_, cond, decide, decide-iff}
+use mathlib.Core.Bool.{true, _&&_}
 use mathlib.Core.List.{List, [], _∷_}
 use native.Mathlib.Omega.{arith}
-use native.Mathlib.Decide.{ℕ-discrete}
 use lib.ListN.{length, getD, take}
-use lib.Dec.{eqb, leb, ltb}
-use borrow.Author.Tests.{le-leb, lt-ltb, leb-true, eq-eqb, ne-eqb}
-use Rattle.residue.specs.Arithmetic.{is-prime}
+use lib.Dec.{leb}
+use borrow.Author.Tests.{le-leb, lt-ltb, leb-true}
 use Rattle.residue.specs.Primes.{prime→test}
 use Rattle.counting.specs.Bools.{and-in, and-left, and-right}
-use Rattle.counting.specs.Sets.{Set, _∈_, indicator, #}
-use Rattle.counting.specs.Counts.{#-le, #-all}
+use Rattle.counting.specs.Sets.{Set}
+use Rattle.counting.specs.Counts.{#-le}
 use Rattle.columns.specs.Columns.{width, members, upto, word-of, within}
 use Rattle.columns.specs.ColumnSets.{whole, Fits}
 use Rattle.columns.specs.Words.Sets.{whole-below}
@@ -25,16 +22,16 @@ use Rattle.rank.specs.Layered.Model.{Model}
 use Rattle.rank.specs.Layered.Rank.{rank, placed, short}
 use Rattle.rank.specs.Layered.ColumnOrder.{placed-size}
 use Rattle.exchange.specs.Solution.{Solved}
-use Rattle.exchange.specs.Solve.{all-below, fitting, admissible, Shown}
+use Rattle.exchange.specs.Solve.{fitting, admissible, Shown}
 use Rattle.exchange.specs.SolveLaws.{all-below-iff, admissible-reads}
 use Rattle.rank.specs.ListedModel.{listed-model}
 use Rattle.rank.specs.ListedModelLaws.{verdict-at-n}
 use Rattle.rank.specs.Demand.{demand3-reported}
 use Rattle.format.specs.Lists.{All}
 use Rattle.limits.specs.Limits.{largest-prime, most-columns, most-rows}
-use Rattle.format.specs.Refusals.{prime-test, size-test, area-test, constant-test, parameter-test, model-tests, refusal, first-refusal}
+use Rattle.format.specs.Refusals.{prime-test, parameter-test, model-tests, refusal}
 use Rattle.format.specs.RefusalLaws.{acceptance-reads}
-use Rattle.format.specs.TestLaws.{prime-reads, size-reads, constant-reads, area-reads, Accepted, model-accepted, constant-below}
+use Rattle.format.specs.TestLaws.{size-reads, constant-reads, area-reads, model-accepted, constant-below}
 use Rattle.layered.specs.declared.Answer.{Answer}
 use Rattle.layered.specs.Answers.{Answered}
 use Rattle.layered.specs.Beforehand.{beforehand}

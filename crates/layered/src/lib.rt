@@ -14,8 +14,8 @@ use limits::MOST_ROWS;
 use limits::NO_COLUMN;
 use loader::read_file;
 
-// The refusal or 0; the verdict, 0 "open", 1 "determined" or 2 "surplus"; the rank; the placed columns, those of them on the constant side, and
-// the short set; and the column of each parameter row, or that it has none.
+// The refusal or 0; the verdict, 0 "open", 1 "determined" or 2 "surplus"; the rank; the placed columns, those of them on the
+// constant side, and the short set; and the column of each parameter row, or that it has none.
 pub struct Answer {
     pub refusal: u32,
     pub verdict: u8,

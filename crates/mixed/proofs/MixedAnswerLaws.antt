@@ -1,44 +1,42 @@
 -- The layered form in numbers is the layered form; and the answer to a mixed model is read off the answer to its form. Assumes nothing.
-use Prim.Native.Nat.{ℕ, zero, suc, _+_, _-_, _*_, _/_, _%_, _^_, _≤_, _<_}
+use Prim.Native.Nat.{ℕ, zero, suc, _+_, _-_, _*_, _/_, _%_, _≤_, _<_}
 use mathlib.Core.Path.{_≡_, refl, sym, ap, _∙_, fun-ext}
 use mathlib.Core.Logic.{_≢_, _↔_, inl, inr}
-use mathlib.Core.Bool.{Bool, true, false, not, _&&_, cond, decide, decide-iff, true≢false, false≢true}
+use mathlib.Core.Bool.{Bool, true, false, _&&_, cond, decide, decide-iff, true≢false}
 use mathlib.Core.List.{List, []}
 use native.Mathlib.Omega.{arith}
-use native.Mathlib.Decide.{ℕ-discrete, decLt}
+use native.Mathlib.Decide.{ℕ-discrete}
 use native.Mathlib.Nat.{mul-add-div-right, mul-add-mod-self-right, mod-lt, mod-eq-of-lt, mod-add-div', div-eq-of-lt, div-lt-iff-lt-mul, mul-zero, mul-le-mul}
 use lib.ListN.{length, getD}
 use lib.Dec.{eqb, leb, ltb}
 use borrow.Author.Tests.{eq-eqb, ne-eqb, eqb-true, le-leb, lt-leb, leb-true, lt-ltb}
-use Rattle.residue.specs.Arithmetic.{Prime, is-prime}
-use Rattle.residue.specs.Fields.{Field}
 use Rattle.residue.specs.Primes.{prime→test}
 use Rattle.residue.specs.Residues.{res-zero, res-one}
-use Rattle.counting.specs.Bools.{true?, not-true, iff-eq, and-in, and-left, and-right, not-of, not-both, not-in}
-use Rattle.counting.specs.Sets.{Set, _∈_, indicator, #}
+use Rattle.counting.specs.Bools.{not-true, iff-eq, and-in, and-left, and-right}
+use Rattle.counting.specs.Sets.{Set, _∈_, indicator}
 use Rattle.counting.specs.Counts.{#-ext}
 use Rattle.counting.specs.Beside.{beside}
 use Rattle.counting.specs.Blocks.{beside-low, beside-high, low-or-high}
-use Rattle.columns.specs.Columns.{width, members, upto, inserted, moved-up, word-of, within}
+use Rattle.columns.specs.Columns.{width, members, upto, moved-up, word-of}
 use Rattle.columns.specs.ColumnSets.{whole, Fits}
 use Rattle.columns.specs.Words.Sets.{whole-below}
 use Rattle.columns.specs.Words.Operations.{within-iff, word-members}
 use Rattle.columns.specs.Words.SetLaws.{upto-iff, inserted-same, inserted-old, inserted-split}
 use Rattle.rank.specs.Modulus.{modulus, field-of, residue-of}
 use Rattle.rank.specs.Verdict.{verdict-number}
-use Rattle.rank.specs.Layered.Model.{Model, Seat, out, constant, row, Assignment, is-placed, is-constant, placing, constants, Legal, size}
+use Rattle.rank.specs.Layered.Model.{Assignment, placing, constants, size}
 use Rattle.rank.specs.Layered.Rank.{rank, placed, short}
 use Rattle.rank.specs.Layered.Restricting.{constant-placed}
 use Rattle.rank.specs.Layered.ColumnOrder.{placed-size}
-use Rattle.exchange.specs.Solution.{shown, ShowsRow, Solved}
-use Rattle.exchange.specs.Solve.{all-below, fitting, admissible, Shown}
+use Rattle.exchange.specs.Solution.{shown, Solved}
+use Rattle.exchange.specs.Solve.{fitting, admissible, Shown}
 use Rattle.exchange.specs.SolveLaws.{all-below-iff}
-use Rattle.mixed_models.specs.Mixed.{Mixed, unit, mixed-sum, mixed-rank, mixed-verdict, form-constants, form-parameters, layered-form, served, shown-I, shown-J, mixed}
+use Rattle.mixed_models.specs.Mixed.{Mixed, unit, mixed-rank, mixed-verdict, form-constants, form-parameters, layered-form, served, shown-I, shown-J, mixed}
 use Rattle.mixed_models.specs.MixedTheorem.{form-rank, shown-reach}
 use Rattle.mixed_models.specs.MixedTheorem.Form.{served-iff, shown-I-iff}
 use Rattle.mixed.specs.MixedForm.{form-entry, form-row, serves}
 use Rattle.limits.specs.Limits.{most-columns, most-rows, most-constants, no-column}
-use Rattle.format.specs.Refusals.{unless, not-mixed, mixed-test, mixed-tests, mixed-refusal, model-tests, refusal, first-refusal}
+use Rattle.format.specs.Refusals.{unless, not-mixed, mixed-test, mixed-tests, mixed-refusal, model-tests, refusal}
 use Rattle.format.specs.RefusalLaws.{first-fails, then-refused, then-passed, then-zero, zero-then, unless-zero, zero-unless}
 use Rattle.format.specs.TestLaws.{Accepted, model-accepted, constant-below}
 use Rattle.mixed.specs.declared.MixedAnswer.{MixedAnswer}

@@ -14,6 +14,6 @@ module _ (X : Mixed) where
     pub constant-rows : constant-rank (divided X I) J ≡ # m I
     pub parameter-rows : matching (divided X I) J ≡ # m (∁ I)
 
-  -- I and J leave a row over: the rank is smaller, or the largest matching
+  -- I and J leave a row over: the rank is below the number of rows in I, or the largest matching below the number of the others
   abbrev pub LeavesRow : (I J : Set) → Type 0
   LeavesRow I J = (constant-rank (divided X I) J < # m I) ⊎ (matching (divided X I) J < # m (∁ I))

@@ -6,7 +6,7 @@ use mathlib.Core.Bool.{true, not, true≢false}
 use native.Mathlib.Omega.{arith}
 use native.Mathlib.Decide.{decLt}
 use Rattle.counting.specs.Bools.{and-left, not-true, true?}
-use Rattle.counting.specs.Sets.{#, Set, Some, _∈_, touching, ∁}
+use Rattle.counting.specs.Sets.{#, Set, _∈_, touching, ∁}
 use Rattle.counting.specs.Counts.{#-all, #-∁, touching-iff}
 use Rattle.counting.specs.Injections.{Injects, inj-count, #-mono}
 use Rattle.counting.specs.Choices.{Part, largest-part}

@@ -36,7 +36,7 @@ use Rattle.mixed.specs.declared.MixedAnswer.{MixedAnswer}
 use Rattle.promises.specs.Fixed.{SameAnswer, SameMixed}
 use Rattle.promises.specs.CutLaws.{front-least}
 use Rattle.format.proofs.Rows.{rows-of-take}
-use Rattle.promises.specs.SurplusLaws.{Agree, rank-same, verdict-same, placed-same, short-same}
+use Rattle.promises.specs.AgreeLaws.{Agree, rank-same, verdict-same, placed-same, short-same}
 
 -- ---- two lists with the same front
 

@@ -1,14 +1,14 @@
 -- What an answer shows of the rows, by its verdict: determined, every row is used; surplus, one is left over. Assumes nothing.
 use Prim.Native.Nat.{ℕ, _<_}
 use mathlib.Core.Path.{_≡_, sym, _∙_}
-use mathlib.Core.Logic.{_≢_, _⊎_, inl, inr}
+use mathlib.Core.Logic.{_⊎_, inl, inr}
 use lib.ListN.{getD}
 use Rattle.limits.specs.Limits.{no-column}
 use Rattle.counting.specs.Sets.{#, Some}
 use Rattle.counting.specs.Counts.{#-ext}
 use Rattle.columns.specs.Columns.{members}
 use Rattle.columns.specs.ColumnSets.{whole}
-use Rattle.rank.specs.Layered.Model.{Model, Assignment, Legal, constants, row, size}
+use Rattle.rank.specs.Layered.Model.{Model, Assignment, constants}
 use Rattle.rank.specs.Layered.Rank.{rank}
 use Rattle.rank.specs.Layered.RowUse.{PlacesAll}
 use Rattle.rank.specs.Layered.ColumnOrder.{placed-size}

@@ -1,1 +1,2 @@
-// Theorems alone, in specs/, over the promises of the calls: files read and written, input cut off, areas longer than the model.
+// Theorems alone, in specs/, over the promises of the calls: files read and written, input cut off, areas longer than the model, rows used
+// and left over.

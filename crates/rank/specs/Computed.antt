@@ -64,7 +64,7 @@ module _ (P : Prime 2) where
   unfolding run
   a-column-moves = record { is-rank = refl; is-placed = refl; is-short = refl; is-verdict = refl }
 
-  -- a second parameter there is one equation more than columns: surplus
+  -- a second parameter row there is one equation more than columns: surplus
   an-equation-is-left-over : Gives (small 2 (1 ∷ 1 ∷ []) (1 ∷ 1 ∷ [])) 2 (true, true) (false, false) 2
   unfolding run
   an-equation-is-left-over = record { is-rank = refl; is-placed = refl; is-short = refl; is-verdict = refl }

@@ -1,4 +1,5 @@
--- Layered models: `Model`, `Rank` and `RowUse` are document 01 as definitions; the other files prove what they say of each other.
+-- Layered models: `Model` and `Rank` are document 01 as definitions, `RowUse` has what the verdict's theorems speak of; the other files prove
+-- what they say of each other.
 pub mod Model
 pub mod Rank
 pub mod RowUse

@@ -1,4 +1,4 @@
--- What judging a small model opens, and the models that are accepted for more than one file. Assumes nothing.
+-- What judging a small model opens, and the acceptances that `Shortcuts` and `Verdicts` share. Assumes nothing.
 use Prim.Native.Nat.{ℕ}
 use mathlib.Core.Path.{_≡_, refl}
 use mathlib.Core.List.{[], _∷_}

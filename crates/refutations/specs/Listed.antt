@@ -16,16 +16,12 @@ use Rattle.rank.specs.ListedModel.{listed-model}
 use Rattle.layered.specs.Answers.{LayeredCall}
 use Rattle.layered.specs.declared.Answer.{Answer}
 use Rattle.format.specs.Lists.{all-pass, over}
-use Rattle.format.specs.Refusals.{first-refusal, head-test, body-test, due-test, prime-test, size-test, constant-test, parameter-test, area-test, end-test, model-tests, refusal}
+use Rattle.format.specs.Refusals.{first-refusal, head-test, body-test, due-test, prime-test, size-test, constant-test, area-test, end-test, refusal}
 use Rattle.promises.specs.DocumentFile.{document-file}
 use Rattle.refutations.specs.Computing.{computing}
+use Rattle.refutations.specs.Accepted.{judging}
 use Rattle.format.specs.File.Piece.{head-tests, closed}
 use Rattle.format.specs.File.Format.{entries, prime-field, sizes-field, constant-row, parameter-row, end-field, row-fields, size-fields, fields, judge, decode, read-refusal, model-read, ReadCall}
-
--- what judging opens, beside what the definitions open
-unfoldable run : ℕ
-unfolding computing within all-pass first-refusal prime-test size-test constant-test parameter-test area-test model-tests refusal
-run = 0
 
 unfoldable file-run : ℕ
 unfolding flatMap flatten is-prime undivided all members within all-pass over first-refusal head-test body-test due-test prime-test size-test constant-test area-test end-test head-tests closed entries prime-field sizes-field constant-row parameter-row end-field row-fields size-fields fields judge decode read-refusal model-read
@@ -33,11 +29,11 @@ file-run = 0
 
 -- p 2, n 2, a 1, constants 0 1: column 0 is blocked, column 1 is not
 blocked-accepted : refusal 2 2 1 0 (0 ∷ 1 ∷ []) [] ≡ 0
-unfolding run
+unfolding judging
 blocked-accepted = refl
 
 blocked-rank : rank (listed-model 2 2 1 0 (0 ∷ 1 ∷ []) []) ≡ 1
-unfolding run
+unfolding computing
 blocked-rank = refl
 
 -- 1: it stops at its first blocked column, so its rank is 0
@@ -46,15 +42,15 @@ stops-at-blocked r x z = let e = x .if-accepted blocked-accepted .solved .is-ran
 
 -- p 2, n 2, a 1, constants 1 1: column 1 cannot be placed beside column 0
 equal-accepted : refusal 2 2 1 0 (1 ∷ 1 ∷ []) [] ≡ 0
-unfolding run
+unfolding judging
 equal-accepted = refl
 
 equal-placed : placed (listed-model 2 2 1 0 (1 ∷ 1 ∷ []) []) 1 ≡ false
-unfolding run
+unfolding computing
 equal-placed = refl
 
 equal-rank : rank (listed-model 2 2 1 0 (1 ∷ 1 ∷ []) []) ≡ 1
-unfolding run
+unfolding computing
 equal-rank = refl
 
 -- 2: it lists column 1 as placed untested

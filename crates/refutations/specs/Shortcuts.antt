@@ -1,6 +1,6 @@
 -- Document 01, "Shortcuts that look sound", and further wrong answers: what each of them gives contradicts the promise, on a small model. Assumes
 -- nothing.
-use Prim.Native.Nat.{ℕ, suc, _+_, _*_, _%_}
+use Prim.Native.Nat.{ℕ, suc}
 use mathlib.Core.Path.{_≡_, refl, sym, ap, _∙_}
 use mathlib.Core.Logic.{_≢_}
 use mathlib.Core.Bool.{true, false, true≢false, decide}
@@ -54,7 +54,7 @@ sum-passes-as-another r x z = let e = x .if-accepted S3-accepted .is-verdict in 
 pub parameter-dropped : (r : MixedAnswer) → MixedCall 1021 2 2 2 (1 ∷ 1 ∷ 1 ∷ 1 ∷ []) (1 ∷ 0 ∷ []) r → r .rank ≡ 1 → ⊥
 parameter-dropped r x z = let e = x .if-accepted S9-accepted .is-rank in let f = table .s9 .is-rank in omega arith
 
--- the verdict is taken from the number of rows, m: S8 is called determined
+-- the verdict is taken from the numbers of rows and columns alone: S8 is called determined
 S8-accepted : mixed-refusal 1021 2 2 2 (1 ∷ 1 ∷ 1 ∷ 1 ∷ []) (0 ∷ 0 ∷ []) ≡ 0
 unfolding judging
 S8-accepted = refl

@@ -49,7 +49,7 @@ column-items S = flatMap item (columns-from width 0 S)
 
 -- ---- the lines that every report may have
 
--- the verdict's word: 1 is "determined", 2 is "surplus", 0 is "open"
+-- the verdict's word: 1 is "determined", 2 is "surplus", all else, which is 0, is "open"
 unfoldable pub verdict-line : ℕ → List ℕ
 verdict-line v = line (ascii "verdict") (ascii " " ++ cond (eqb v 1) (ascii "determined") (cond (eqb v 2) (ascii "surplus") (ascii "open")))
 

@@ -1,6 +1,6 @@
 -- `layered::layered_rank` meets its contract, by what the solver and the judgement ensure. Assumes nothing.
-use Prim.Native.Nat.{ℕ, _<_, _≤_}
-use mathlib.Core.Path.{_≡_, sym, ap, _∙_}
+use Prim.Native.Nat.{_≤_}
+use mathlib.Core.Path.{_≡_, sym, _∙_}
 use mathlib.Core.Bool.{true, true≢false}
 use lib.ListN.{length}
 use borrow.Author.Tests.{not-true, not-false}

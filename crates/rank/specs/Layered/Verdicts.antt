@@ -1,17 +1,17 @@
 -- What the verdict says of the legal assignments that place all columns: whether there are any, and whether they leave an equation over. Assumes nothing.
 use Prim.Native.Nat.{ℕ, _+_, _≤_, _<_}
 use mathlib.Core.Path.{_≡_, refl, sym, _∙_, ap}
-use mathlib.Core.Logic.{_≢_, _↔_, _⊎_, inl, inr}
-use mathlib.Core.Bool.{true, false, not, true≢false}
+use mathlib.Core.Logic.{_↔_, inl, inr}
+use mathlib.Core.Bool.{true, not, true≢false}
 use native.Mathlib.Omega.{arith}
 use native.Mathlib.Decide.{decLt}
-use Rattle.counting.specs.Bools.{and-in, and-left, and-right, in-not, not-true, true?}
+use Rattle.counting.specs.Bools.{and-in, and-left, and-right, in-not, true?}
 use Rattle.counting.specs.Sets.{#, Set, Some, _∈_, _∩_, touching, ∁}
-use Rattle.counting.specs.Counts.{#-all, #-ext, #-le, #-split, not?, some?}
+use Rattle.counting.specs.Counts.{#-all, #-le, #-split, not?, some?}
 use Rattle.counting.specs.Injections.{Injects, inj-count, inj-miss, inj-onto, #-mono, #-strict}
 use Rattle.rank.specs.Linear.Kernels.{hits, indep-count}
 use Rattle.rank.specs.VerdictLaws.{number-0-iff, number-1-iff, number-2-iff}
-use Rattle.rank.specs.Layered.Model.{Assignment, Legal, Model, Seat, constants, is-constant, is-placed, placing, row, size}
+use Rattle.rank.specs.Layered.Model.{Assignment, Legal, Model, constants, is-constant, is-placed, placing, row, size}
 use Rattle.rank.specs.Layered.Rank.{rank, verdict}
 use Rattle.rank.specs.Layered.RowUse.{LeavesOver, PlacesAll, UsesAll}
 use Rattle.rank.specs.Layered.Meaning.{row?, seat-cases}
@@ -19,7 +19,7 @@ use Rattle.rank.specs.Layered.Restricting.{constant-placed}
 use Rattle.rank.specs.Layered.Duality.{rank-reached, size-le-rank}
 
 module _ (M : Model) where
-  open Model M using (K, a, b, n, Q, T, E)
+  open Model M using (K, a, b, n, Q, E)
 
   -- ---- a legal assignment and the rows
 
