@@ -13,7 +13,6 @@ static int compare_all(const char *models)
     compare_edges();
     compare_with_definitions();
     compare_random_models();
-    compare_ranks();
     compare_files();
     compare_damaged_files();
     compare_wrong_contents();
@@ -22,6 +21,7 @@ static int compare_all(const char *models)
     compare_mixed_sizes();
     compare_mixed_files();
     compare_spoilt_models();
+    compare_ranks();
     return end_tally() > 0;
 }
 

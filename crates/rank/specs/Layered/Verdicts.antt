@@ -2,10 +2,10 @@
 use Prim.Native.Nat.{ℕ, _+_, _≤_, _<_}
 use mathlib.Core.Path.{_≡_, refl, sym, _∙_, ap}
 use mathlib.Core.Logic.{_↔_, inl, inr}
-use mathlib.Core.Bool.{true, not, true≢false}
+use mathlib.Core.Bool.{true}
 use native.Mathlib.Omega.{arith}
 use native.Mathlib.Decide.{decLt}
-use Rattle.counting.specs.Bools.{and-in, and-left, and-right, in-not, true?}
+use Rattle.counting.specs.Bools.{and-in, and-left, in-not, true?}
 use Rattle.counting.specs.Sets.{#, Set, Some, _∈_, _∩_, touching, ∁}
 use Rattle.counting.specs.Counts.{#-all, #-le, #-split, not?, some?}
 use Rattle.counting.specs.Injections.{Injects, inj-count, inj-miss, inj-onto, #-mono, #-strict}
@@ -14,8 +14,8 @@ use Rattle.rank.specs.VerdictLaws.{number-0-iff, number-1-iff, number-2-
 use Rattle.rank.specs.Layered.Model.{Assignment, Legal, Model, constants, is-constant, is-placed, placing, row, size}
 use Rattle.rank.specs.Layered.Rank.{rank, verdict}
 use Rattle.rank.specs.Layered.RowUse.{LeavesOver, PlacesAll, UsesAll}
-use Rattle.rank.specs.Layered.Meaning.{row?, seat-cases}
-use Rattle.rank.specs.Layered.Restricting.{constant-placed}
+use Rattle.rank.specs.Layered.Meaning.{row?}
+use Rattle.rank.specs.Layered.Restricting.{constant-placed, row-part-injects}
 use Rattle.rank.specs.Layered.Duality.{rank-reached, size-le-rank}
 
 module _ (M : Model) where
@@ -40,14 +40,8 @@ module _ (M : Model) where
     constants-most = omega (arith, indep-count {P = Q} {S = constants A} {T = constants A} (h .independent) (λ x e. e), #-le a (touching n (hits K Q) (constants A)))
 
     -- each column on a row has a row of its own below b
-    on-row : (x : ℕ) → x ∈ on-rows → Some b (λ r. A x ≡ row r)
-    on-row x e = seat-cases (A x)
-        (λ d. absurd (true≢false (sym (and-right (not (constants A x)) (placing A x) e) ∙ ap is-placed d)))
-        (λ d. absurd (true≢false (sym (and-left (not (constants A x)) (placing A x) e) ∙ ap (λ s. not (is-constant s)) d)))
-        (λ r d. (r, h .parameter x r d .0, d))
-
     row-of : Injects n on-rows b (λ r. true) (λ x r. A x ≡ row r)
-    row-of = record { total = λ x l e. let w = on-row x e in (w .0, w .1, (refl, w .2)); one-one = λ x y r l l′ lr e e′. h .one-each x y r e e′ }
+    row-of = let own = row-part-injects M A h (λ x. true) in record { total = λ x l e. let w = own .total x l e in (w .0, w .1, (refl, w .2 .1)); one-one = own .one-one }
 
     all-rows : # b (λ r. true) ≡ b
     all-rows = #-all b (λ r. true) (λ r l. refl)
