@@ -15,6 +15,9 @@ use Rattle.mixed_models.specs.Mixed.{Mixed}
 use Rattle.mixed_models.specs.MixedRowUse.{UsesEveryRow, LeavesRow}
 use Rattle.mixed_models.specs.MixedVerdicts.{mixed-determined-uses-every-row, mixed-surplus-leaves-a-row}
 use Rattle.mixed_models.specs.Starred.Models.{S2}
+use Rattle.determinants.specs.Determinant.{Largest}
+use Rattle.determinants.specs.ModelTables.{LayeredOrder, MixedOrder}
+use Rattle.determinants.specs.Theorems.{rank-is-largest-order, mixed-rank-is-largest-order}
 use Rattle.format.specs.Lists.{over}
 use Rattle.limits.specs.Limits.{longest-file, no-column}
 use Rattle.format.specs.Refusals.{refusal, mixed-refusal}
@@ -142,6 +145,16 @@ mixed-determined-shows-every-row X r h v = mixed-determined-uses-every-row X (sy
 -- and those of one that says "surplus" leave a row over.
 pub mixed-surplus-shows-a-row-left : (X : Mixed) (r : MixedAnswer) → MixedAnswered X r → r .verdict ≡ 2 → LeavesRow X (members (whole (r .rows))) (members (whole (r .columns)))
 mixed-surplus-shows-a-row-left X r h v = mixed-surplus-leaves-a-row X (sym (h .is-verdict) ∙ v) _ _ (h .they-reach)
+
+-- ---- the rank of textbooks
+
+-- The rank of a layered answer is the largest order of a square part of its model whose determinant is not zero,
+pub answer-is-largest-order : (M : Model) (r : Answer) → Answered M r → Largest (LayeredOrder M) (r .rank)
+answer-is-largest-order M r h = subst (Largest (LayeredOrder M)) (sym (h .solved .is-rank)) (rank-is-largest-order M)
+
+-- and so is that of a mixed answer.
+pub mixed-answer-is-largest-order : (X : Mixed) (r : MixedAnswer) → MixedAnswered X r → Largest (MixedOrder X) (r .rank)
+mixed-answer-is-largest-order X r h = subst (Largest (MixedOrder X)) (sym (h .is-rank)) (mixed-rank-is-largest-order X)
 
 -- ---- document 01's file
 

@@ -1,0 +1,89 @@
+-- The members of a list of numbers, and the list of a set. Assumes nothing.
+use Prim.Native.Nat.{_+_, _<_, suc, zero, ℕ}
+use mathlib.Core.Path.{ap, fun-ext, refl, sym, _∙_, _≡_}
+use mathlib.Core.Bool.{Bool, cond, false, false≢true, true}
+use mathlib.Core.List.{List, [], _∷_}
+use mathlib.Core.Logic.{by-cases, _≢_}
+use native.Mathlib.Decide.{ℕ-discrete}
+use native.Mathlib.Omega.{arith}
+use lib.ListN.{length}
+use Rattle.counting.specs.Counts.{#-insert, #-none, set-other, set-same}
+use Rattle.counting.specs.Sets.{#, Set, indicator, set, _∈_, _⊆_}
+use Rattle.determinants.specs.Statements.{Below, Distinct, members, more, none}
+
+pub member-head : (j : ℕ) (S : List ℕ) → j ∈ members (j ∷ S)
+unfolding members
+member-head j S = set-same (members S) j true
+
+pub member-tail : (j : ℕ) (S : List ℕ) → members S ⊆ members (j ∷ S)
+unfolding members
+member-tail j S k e = by-cases (ℕ-discrete k j) (λ d. rw d (set-same (members S) j true)) (λ nd. set-other (members S) j true k nd ∙ e)
+
+pub member-other : (j : ℕ) (S : List ℕ) (k : ℕ) → k ≢ j → k ∈ members (j ∷ S) → k ∈ members S
+unfolding members
+member-other j S k nd e = sym (set-other (members S) j true k nd) ∙ e
+
+pub member-more : (j : ℕ) (R S : List ℕ) → members R ⊆ members S → members (j ∷ R) ⊆ members (j ∷ S)
+member-more j R S h k m = by-cases (ℕ-discrete k j) (λ d. rw d (member-head j S)) (λ nd. member-tail j S k (h k (member-other j R k nd m)))
+
+pub not-member : (k : ℕ) → members [] k ≢ true
+unfolding members
+not-member k e = false≢true e
+
+-- how many members a list has
+pub #-members : (n : ℕ) (J : List ℕ) → Distinct J → Below n J → # n (members J) ≡ length J
+unfolding members
+#-members n [] none b = #-none n
+#-members n (j ∷ J) (more nm d) b =
+    #-insert n (members J) j (b j (member-head j J)) nm ∙ ap suc (#-members n J d (λ k m. b k (member-tail j J k m)))
+
+-- two members are put in in either order
+pub set-set : (S : Set) (i a : ℕ) → set (set S i true) a true ≡ set (set S a true) i true
+set-set S i a = fun-ext (λ k. by-cases (ℕ-discrete k i)
+    (λ e. rw e (by-cases (ℕ-discrete i a)
+    (λ q. ap (set (set S i true) a true) q ∙ set-same _ a true ∙ sym (set-same _ i true))
+    (λ nq. set-other _ a true i nq ∙ set-same S i true ∙ sym (set-same _ i true))))
+    (λ ne. by-cases (ℕ-discrete k a)
+    (λ q. rw q (set-same _ a true ∙ sym (set-other _ i true a (λ w. ne (q ∙ w)) ∙ set-same S a true)))
+    (λ nq. set-other _ a true k nq ∙ set-other S i true k ne ∙ sym (set-other _ i true k ne ∙ set-other S a true k nq))))
+
+-- the numbers below n in S, as a list, the largest first
+pub list : ℕ → Set → List ℕ
+list zero S = []
+list (suc n) S = cond (S n) (n ∷ list n S) (list n S)
+
+pub list-below : (n : ℕ) (S : Set) → Below n (list n S)
+unfolding list
+list-below zero S k m = absurd (not-member k m)
+list-below (suc n) S k m = go (S n) m (list-below n S k)
+  where
+    go : (b : Bool) → k ∈ members (cond b (n ∷ list n S) (list n S)) → (k ∈ members (list n S) → k < n) → k < suc n
+    go true m r = by-cases (ℕ-discrete k n) (λ e. omega arith) (λ ne. omega (arith, r (member-other n (list n S) k ne m)))
+    go false m r = omega (arith, r m)
+
+pub list-of : (n : ℕ) (S : Set) (k : ℕ) → k ∈ members (list n S) → k ∈ S
+unfolding list
+list-of zero S k m = absurd (not-member k m)
+list-of (suc n) S k m = go (S n) refl m (list-of n S k)
+  where
+    go : (b : Bool) → S n ≡ b → k ∈ members (cond b (n ∷ list n S) (list n S)) → (k ∈ members (list n S) → k ∈ S) → k ∈ S
+    go true e m r = by-cases (ℕ-discrete k n) (λ q. ap S q ∙ e) (λ nq. r (member-other n (list n S) k nq m))
+    go false e m r = r m
+
+pub list-distinct : (n : ℕ) (S : Set) → Distinct (list n S)
+unfolding list
+list-distinct zero S = none
+list-distinct (suc n) S = go (S n) (list-distinct n S)
+  where
+    go : (b : Bool) → Distinct (list n S) → Distinct (cond b (n ∷ list n S) (list n S))
+    go true d = more (λ (m : n ∈ members (list n S)). omega (arith, list-below n S n m)) d
+    go false d = d
+
+pub list-length : (n : ℕ) (S : Set) → length (list n S) ≡ # n S
+unfolding list # indicator
+list-length zero S = refl
+list-length (suc n) S = go (S n) (list-length n S)
+  where
+    go : (b : Bool) → length (list n S) ≡ # n S → length (cond b (n ∷ list n S) (list n S)) ≡ indicator b + # n S
+    go true e = omega arith
+    go false e = omega arith

@@ -1,0 +1,170 @@
+-- Wrong determinants: by each of these definitions the largest order is not the rank of a small model. Assumes nothing.
+use Prim.Native.Nat.{ℕ, _<_, _+_, _≤_}
+use mathlib.Core.Path.{_≡_, refl, sym, ap₂, _∙_}
+use mathlib.Core.Bool.{Bool, true, false, cond, decide, decide-iff, true≢false}
+use mathlib.Core.List.{List, [], _∷_, map, flatMap}
+use mathlib.Core.Logic.{_≢_}
+use native.Mathlib.Omega.{arith}
+use lib.ListN.{length}
+use Rattle.residue.specs.Arithmetic.{Prime, is-prime, undivided}
+use Rattle.residue.specs.Fields.{Field}
+use Rattle.residue.specs.Residues.{residues, res}
+use Rattle.counting.specs.Beside.{beside}
+use Rattle.counting.specs.Bools.{true?}
+use Rattle.rank.specs.Modulus.{modulus, modulus-at}
+use Rattle.rank.specs.Independent.{is-zero}
+use Rattle.rank.specs.Layered.Model.{Model}
+use Rattle.rank.specs.Layered.Rank.{rank}
+use Rattle.rank.specs.ListedModel.{listed-model, listed-modulo}
+use Rattle.mixed_models.specs.Mixed.{mixed-rank}
+use Rattle.mixed_models.specs.Starred.Models.{S1, S3, S8, S9, S11}
+use Rattle.mixed_models.specs.Starred.Table.{table}
+use Rattle.determinants.specs.Determinant.{insertions, arrangements, smaller, inversions, sign, Letter, same-letters, Term, collect, product, determinant}
+use Rattle.determinants.specs.Determinant.{Each, done, both, Ascending, SquarePart, NonzeroOrder, Largest}
+use Rattle.determinants.specs.Lists.Each.{each-imp}
+use Rattle.determinants.specs.ModelTables.{all-constants, all-letters, LayeredOrder, MixedOrder}
+use Rattle.determinants.specs.Theorems.{rank-is-largest-order, mixed-rank-is-largest-order, one-largest}
+use Rattle.refutations.specs.Computing.{computing}
+
+-- the orders of a model's square parts that pass as not zero by N
+abbrev Orders : (M : Model) → (List ℕ → List ℕ → Type 0) → ℕ → Type 0
+Orders M N k = (S : SquarePart (M .a + M .b) (M .n) (M .E) k) × N (S .rows) (S .columns)
+
+-- the whole of a table of two rows and two columns
+whole : SquarePart 2 2 (λ x. true) 2
+whole = record {
+  rows = 0 ∷ 1 ∷ [];
+  columns = 0 ∷ 1 ∷ [];
+  rows-ascend = (both {x = 1} (omega arith) done, (done, tt));
+  columns-ascend = (both {x = 1} (omega arith) done, (done, tt));
+  rows-within = both {x = 0} (omega arith) (both {x = 1} (omega arith) done);
+  columns-within = both {x = 0} (omega arith, refl) (both {x = 1} (omega arith, refl) done);
+  k-rows = refl;
+  k-columns = refl;
+}
+
+-- all that has to be opened to run the definitions
+unfoldable run : ℕ
+unfolding computing flatMap beside insertions arrangements smaller inversions sign same-letters collect product determinant
+run = 0
+
+not-zero : (q : ℕ) (P : Prime q) (x : residues q P .F) → is-zero q P x ≡ false → x ≢ residues q P .𝟘
+unfolding is-zero
+not-zero q P x e z = true≢false (sym (decide-iff (residues q P .decide x (residues q P .𝟘)) .1 z) ∙ e)
+
+is-zero-yes : (q : ℕ) (P : Prime q) (x : residues q P .F) → is-zero q P x ≡ true → x ≡ residues q P .𝟘
+unfolding is-zero
+is-zero-yes q P x = decide-iff (residues q P .decide x (residues q P .𝟘)) .0
+
+module _ (M : Model) where
+  open Model M using (K)
+  open Field K using (𝟘)
+
+  -- the terms of the determinant,
+  abbrev terms : List ℕ → List ℕ → List (Term K)
+  terms = determinant K (all-constants M) (all-letters M)
+
+  -- without the signs of the arrangements,
+  abbrev unsigned : List ℕ → List ℕ → List (Term K)
+  unsigned I J = flatMap (λ π. product K (all-constants M) (all-letters M) π J) (arrangements I)
+
+  -- and with one letter for all parameters of a row
+  abbrev shared : List ℕ → List ℕ → List (Term K)
+  shared I J = map (λ t. record { coefficient = t .coefficient; letters = map (λ x. (x .0, 0)) (t .letters) }) (terms I J)
+
+  -- the terms of the part, collected, are not all zero
+  abbrev Collected : (List ℕ → List ℕ → List (Term K)) → List ℕ → List ℕ → Type 0
+  Collected ts I J = (l : List Letter) × (collect K l (ts I J) ≢ 𝟘)
+
+  -- the terms of the part, as they stand, are not all zero
+  abbrev Uncollected : List ℕ → List ℕ → Type 0
+  Uncollected I J = ¬ Each (λ t. t .coefficient ≡ 𝟘) (terms I J)
+
+-- by the determinant's own terms, collected, the largest order is the rank
+own-terms : (M : Model) → Largest (Orders M (Collected M (terms M))) (rank M)
+own-terms = rank-is-largest-order
+
+-- ---- S3, constants 1 1 and 1 1, whose rank is 1: signs left out give 2; its two terms, 1 and −1, are not zero
+
+abbrev S3-modulo : Prime 1021 → Model
+S3-modulo P = listed-modulo 1021 P 2 2 0 (1 ∷ 1 ∷ 1 ∷ 1 ∷ []) []
+
+unsigned-sum : (P : Prime 1021) → is-zero 1021 P (collect (residues 1021 P) [] (unsigned (S3-modulo P) (0 ∷ 1 ∷ []) (0 ∷ 1 ∷ []))) ≡ false
+unfolding run
+unsigned-sum P = refl
+
+pub signs-left-out : Largest (Orders S3 (Collected S3 (unsigned S3))) (rank S3) → ⊥
+unfolding modulus modulus-at true? is-prime undivided whole
+signs-left-out h = let P : Prime 1021 = modulus 1021 .1 in
+    let b : 2 ≤ rank S3 = h .bound 2 (whole, ([], not-zero 1021 P _ (unsigned-sum P))) in
+    let r = table .s3 .is-rank in omega arith
+
+first-term : (P : Prime 1021) → ¬ Each (λ t. t .coefficient ≡ residues 1021 P .𝟘) (terms (S3-modulo P) (0 ∷ 1 ∷ []) (0 ∷ 1 ∷ []))
+unfolding run
+first-term P (both e h) = true≢false (sym (decide-iff (residues 1021 P .decide _ _) .1 e))
+
+pub terms-not-collected : Largest (Orders S3 (Uncollected S3)) (rank S3) → ⊥
+unfolding modulus modulus-at true? is-prime undivided whole
+terms-not-collected h = let b : 2 ≤ rank S3 = h .bound 2 (whole, first-term (modulus 1021 .1)) in
+    let r = table .s3 .is-rank in omega arith
+
+-- ---- constants 1 1 over a parameter row {0, 1}, modulo 3: the rank is 2, for the determinant is y − x; with one letter for both it would be 0
+
+abbrev two-parameters : Model
+two-parameters = listed-model 3 2 1 1 (1 ∷ 1 ∷ []) (3 ∷ [])
+
+two-parameters-rank : rank two-parameters ≡ 2
+unfolding computing
+two-parameters-rank = refl
+
+-- two numbers below 2, one smaller than the other
+first-two : (I : List ℕ) → Ascending I → Each (λ i. i < 2) I → length I ≡ 2 → I ≡ 0 ∷ 1 ∷ []
+first-two [] a w e = absurd (omega arith)
+first-two (i ∷ []) a w e = absurd (omega arith)
+first-two (i ∷ j ∷ []) (both l done, a) (both p (both q done)) e = let x : i ≡ 0 = omega arith in let y : j ≡ 1 = omega arith in ap₂ (λ i j. i ∷ j ∷ []) x y
+first-two (i ∷ j ∷ k ∷ I) a w e = absurd (omega arith)
+
+-- the terms 0, x, 0 and −x, collected where their letters are those asked for
+cancels : (P : Prime 3) (u v : Bool) → let at : Bool → ℕ → residues 3 P .F = λ w k. cond w (res 3 P k) (residues 3 P .𝟘) in
+    is-zero 3 P (residues 3 P ._+_ (at u 0) (residues 3 P ._+_ (at v 1) (residues 3 P ._+_ (at u 0) (residues 3 P ._+_ (at v 2) (residues 3 P .𝟘))))) ≡ true
+unfolding run
+cancels P true true = refl
+cancels P true false = refl
+cancels P false true = refl
+cancels P false false = refl
+
+shared-sum : (P : Prime 3) (l : List Letter)
+    → is-zero 3 P (collect (residues 3 P) l (shared (listed-modulo 3 P 2 1 1 (1 ∷ 1 ∷ []) (3 ∷ [])) (0 ∷ 1 ∷ []) (0 ∷ 1 ∷ []))) ≡ true
+unfolding run
+shared-sum P l = cancels P (same-letters [] l) (same-letters ((1, 0) ∷ []) l)
+
+pub letters-shared : Largest (Orders two-parameters (Collected two-parameters (shared two-parameters))) (rank two-parameters) → ⊥
+unfolding modulus modulus-at true? is-prime undivided
+letters-shared h = go (rank two-parameters) two-parameters-rank (h .reached)
+  where
+    go : (k : ℕ) → k ≡ 2 → Orders two-parameters (Collected two-parameters (shared two-parameters)) k → ⊥
+    go k e (S, (l, nz)) = let P : Prime 3 = modulus 3 .1 in
+        let zero : (I J : List ℕ) → I ≡ 0 ∷ 1 ∷ [] → J ≡ 0 ∷ 1 ∷ [] → collect (residues 3 P) l (shared two-parameters I J) ≡ residues 3 P .𝟘
+        = λ I J i j. rw (i, j) (is-zero-yes 3 P _ (shared-sum P l)) in
+        nz (zero (S .rows) (S .columns) (first-two (S .rows) (S .rows-ascend) (S .rows-within) (S .k-rows ∙ e))
+        (first-two (S .columns) (S .columns-ascend) (each-imp (λ x w. w .0) (S .columns) (S .columns-within)) (S .k-columns ∙ e)))
+
+-- ---- order 0 counted as zero: S1, whose rank is 0, would have no rank
+
+pub order-zero-is-zero : (k : ℕ) → Largest (λ j. (0 < j) × LayeredOrder S1 j) k → ⊥
+order-zero-is-zero k h = let b : k ≤ rank S1 = rank-is-largest-order S1 .bound k (h .reached .1) in let r = table .s1 .is-rank in omega (arith, h .reached .0)
+
+-- ---- square parts of the constant rows alone: S11 has none of order 1, and its rank is 1
+
+pub constant-rows-alone : Largest (NonzeroOrder (S11 .K) (all-constants S11) (all-letters S11) (S11 .a) (S11 .n) (S11 .E)) (rank S11) → ⊥
+constant-rows-alone h = let r = table .s11 .is-rank in none (h .reached .0 .rows) (h .reached .0 .rows-within) (h .reached .0 .k-rows ∙ r)
+  where
+    none : (I : List ℕ) → Each (λ i. i < 0) I → length I ≡ 1 → ⊥
+    none [] done e = omega arith
+    none (i ∷ I) (both l w) e = omega arith
+
+-- ---- a place with both holds its constant alone: S9 would be the table of S8, whose rank is 1
+
+pub letter-beside-a-constant-dropped : Largest (MixedOrder S8) (mixed-rank S9) → ⊥
+letter-beside-a-constant-dropped h = let e = one-largest (mixed-rank S9) (mixed-rank S8) h (mixed-rank-is-largest-order S8) in
+    let r = table .s8 .is-rank in let t = table .s9 .is-rank in omega arith
