@@ -1,6 +1,7 @@
 /* Sound models: the bench models, all that the definitions can be run on, and random ones of all sizes. */
 #include "brute.h"
 #include "compare.h"
+#include "determinants.h"
 
 #include <stdio.h>
 
@@ -110,6 +111,8 @@ static const char *definition_complaint(const Model *m)
         return "the reference differs from the definitions";
     if (verdict_on(e.rank, m->n, m->a + m->b) != e.verdict)
         return "the reference's verdict is not that of the assignments";
+    if (largest_order(LAYERED, m) != e.rank)
+        return "the largest order by determinants is not the rank";
     for (Set set = 0; set <= all_below(m->n); set++)
         if (e.sums[set] < e.rank || e.sums[set] != sum_of(m, set))
             return "the sum of a column set";
@@ -154,6 +157,8 @@ static const char *mixed_definition_complaint(const Model *m)
         return "the reference differs from the definitions";
     if (verdict_on(mixed.rank, m->n, m->a) != mixed.verdict)
         return "the reference's verdict is not that of the rows and columns";
+    if (largest_order(MIXED, m) != mixed.rank)
+        return "the largest order by determinants is not the rank";
     return mixed_complaint(m, mixed.rank, truth);
 }
 

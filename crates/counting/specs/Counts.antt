@@ -1,8 +1,8 @@
 -- The laws of sets and counts: bounded choices and tests, updates, and how counts change with the set. Assumes nothing.
 use Prim.Native.Nat.{ℕ, zero, suc, _+_, _≤_, _<_}
-use mathlib.Core.Path.{_≡_, refl, sym, _∙_, ap}
+use mathlib.Core.Path.{_≡_, refl, sym, _∙_, ap, fun-ext}
 use mathlib.Core.Bool.{Bool, true, false, not, _&&_, false≢true}
-use mathlib.Core.Logic.{_≢_, _↔_, inl, inr}
+use mathlib.Core.Logic.{_≢_, _↔_, inl, inr, by-cases}
 use native.Mathlib.Omega.{arith}
 use native.Mathlib.Decide.{ℕ-discrete}
 use Rattle.counting.specs.Sets.{Set, _∈_, _∩_, ∁, indicator, #, all, any, Some, choose, set, touching}
@@ -72,6 +72,16 @@ set-same f j v = elim (ℕ-discrete j j) as (λ d. choose d v (f j) ≡ v) [ yes
 pub set-other : {A : Type 0} (f : ℕ → A) (j : ℕ) (v : A) (k : ℕ) → k ≢ j → set f j v k ≡ f k
 unfolding set choose
 set-other f j v k h = elim (ℕ-discrete k j) as (λ d. choose d v (f k) ≡ f k) [ yes e ↦ absurd (h e) | no ne ↦ refl ]
+
+-- members are put in in either order
+pub set-set : (S : Set) (i a : ℕ) → set (set S i true) a true ≡ set (set S a true) i true
+set-set S i a = fun-ext (λ k. by-cases (ℕ-discrete k i)
+    (λ e. rw e (by-cases (ℕ-discrete i a)
+    (λ q. ap (set (set S i true) a true) q ∙ set-same _ a true ∙ sym (set-same _ i true))
+    (λ nq. set-other _ a true i nq ∙ set-same S i true ∙ sym (set-same _ i true))))
+    (λ ne. by-cases (ℕ-discrete k a)
+    (λ q. rw q (set-same _ a true ∙ sym (set-other _ i true a (λ w. ne (q ∙ w)) ∙ set-same S a true)))
+    (λ nq. set-other _ a true k nq ∙ set-other S i true k ne ∙ sym (set-other _ i true k ne ∙ set-other S a true k nq))))
 
 -- S without j
 infixl 60 _⊖_

@@ -1,32 +1,32 @@
 -- The arrangements of rows are all lists of these rows in some order, each once. Assumes nothing.
 use Prim.Native.Nat.{ℕ}
-use mathlib.Core.Path.{ap, fun-ext, refl, subst, sym, _∙_, _≡_}
+use mathlib.Core.Path.{_≡_, refl, sym, ap, subst, fun-ext, _∙_}
 use mathlib.Core.Bool.{true}
-use mathlib.Core.List.{_++_, List, [], flatMap, head-eq-of-cons-eq, map, tail-eq-of-cons-eq, _∷_}
-use mathlib.Core.Logic.{by-cases, inl, inr, _≢_, _⊎_, ⊎-elim, ⊎-map}
+use mathlib.Core.List.{List, [], _∷_, _++_, map, flatMap, head-eq-of-cons-eq, tail-eq-of-cons-eq}
+use mathlib.Core.Logic.{_≢_, _⊎_, inl, inr, ⊎-elim, ⊎-map, by-cases}
 use native.Mathlib.Decide.{ℕ-discrete}
 use Rattle.counting.specs.Bools.{not-true}
-use Rattle.counting.specs.Counts.{set-other}
+use Rattle.counting.specs.Counts.{set-other, set-set}
 use Rattle.counting.specs.Sets.{set}
-use Rattle.determinants.specs.Determinant.{arrangements, insertions, Each, both, done}
-use Rattle.determinants.specs.Statements.{without, Among, Different, Distinct, Rearranged, members, more, none}
+use Rattle.determinants.specs.Determinant.{insertions, arrangements, Each, done, both}
+use Rattle.determinants.specs.Statements.{members, Distinct, none, more, Rearranged, Among, Different, without}
 use Rattle.determinants.specs.Lists.Each.{each-flat, each-imp, each-map}
-use Rattle.determinants.specs.Lists.Members.{member-head, member-other, member-tail, not-member, set-set}
+use Rattle.determinants.specs.Lists.Members.{member-head, member-tail, member-other, not-member}
 use Rattle.determinants.specs.Lists.Among.{each-among}
-use Rattle.determinants.specs.Lists.Without.{without-head, without-tail}
+use Rattle.determinants.specs.Lists.Without.{without-head, without-tail, without-cases, without-apart, without-distinct}
 
--- putting i, which is not in π, somewhere into π
-record Put (i : ℕ) (π ρ : List ℕ) : Type 0 where
+-- ρ has i besides the members of π, and none twice
+record Inserted (i : ℕ) (π ρ : List ℕ) : Type 0 where
   distinct : Distinct ρ
   same : members ρ ≡ set (members π) i true
 
-put-each : (i : ℕ) (π : List ℕ) → members π i ≢ true → Distinct π → Each (Put i π) (insertions i π)
+inserted-each : (i : ℕ) (π : List ℕ) → members π i ≢ true → Distinct π → Each (Inserted i π) (insertions i π)
 unfolding insertions members
-put-each i [] ni none = both (record { distinct = more ni none; same = refl }) done
-put-each i (x ∷ π) ni (more nx d) = both (record { distinct = more ni (more nx d); same = refl })
-    (each-map (λ ρ. x ∷ ρ) step (insertions i π) (put-each i π (λ m. ni (member-tail x π i m)) d))
+inserted-each i [] ni none = both (record { distinct = more ni none; same = refl }) done
+inserted-each i (x ∷ π) ni (more nx d) = both (record { distinct = more ni (more nx d); same = refl })
+    (each-map (λ ρ. x ∷ ρ) step (insertions i π) (inserted-each i π (λ m. ni (member-tail x π i m)) d))
   where
-    step : (ρ : List ℕ) → Put i π ρ → Put i (x ∷ π) (x ∷ ρ)
+    step : (ρ : List ℕ) → Inserted i π ρ → Inserted i (x ∷ π) (x ∷ ρ)
     step ρ h = record {
       distinct = more (λ m. nx (member-other i π x (λ e. ni (ap (members (x ∷ π)) (sym e) ∙ member-head x π))
           (sym (ap (λ S. S x) (h .same)) ∙ m))) (h .distinct);
@@ -38,7 +38,7 @@ unfolding arrangements members
 arranged [] none = both (record { distinct = none; same = refl }) done
 arranged (i ∷ I) (more ni d) = each-flat (insertions i) (λ π h. each-imp
     (λ ρ p. record { distinct = p .distinct; same = p .same ∙ ap (λ S. set S i true) (h .same) })
-    (insertions i π) (put-each i π (λ m. ni (sym (ap (λ S. S i) (h .same)) ∙ m)) (h .distinct))) (arrangements I) (arranged I d)
+    (insertions i π) (inserted-each i π (λ m. ni (sym (ap (λ S. S i) (h .same)) ∙ m)) (h .distinct))) (arrangements I) (arranged I d)
 
 among-left : (π : List ℕ) (L M : List (List ℕ)) → Among π L → Among π (L ++ M)
 among-left π [] M a = absurd a
@@ -59,7 +59,7 @@ among-map x π [] a = absurd a
 among-map x π (ρ ∷ L) (inl e) = inl (ap (λ σ. x ∷ σ) e)
 among-map x π (ρ ∷ L) (inr a) = inr (among-map x π L a)
 
--- what is in the list begins with x
+-- what is in the mapped list begins with x
 among-unmap : (x : ℕ) (π : List ℕ) (L : List (List ℕ)) → Among π (map (λ ρ. x ∷ ρ) L) → (ρ : List ℕ) × (π ≡ x ∷ ρ) × Among ρ L
 among-unmap x π [] a = absurd a
 among-unmap x π (ρ ∷ L) (inl e) = (ρ, e, inl refl)
@@ -81,30 +81,18 @@ among-unflat g π (σ ∷ L) a = go (among-append π (g σ) (flatMap g L) a) (am
     go (inl b) r = (σ, inl refl, b)
     go (inr b) r = let h = r b in (h .0, inr (h .1), h .2)
 
--- π with i taken out
-record Removed (i : ℕ) (π : List ℕ) : Type 0 where
-  rest : List ℕ
-  fresh : members rest i ≢ true
-  distinct : Distinct rest
-  among : Among π (insertions i rest)
-
 front : (i : ℕ) (π : List ℕ) → Among (i ∷ π) (insertions i π)
 unfolding insertions
 front i [] = inl refl
 front i (x ∷ π) = inl refl
 
-take-out : (i : ℕ) (π : List ℕ) → Distinct π → members π i ≡ true → Removed i π
+-- i taken out of π and put back
+put-back : (i : ℕ) (π : List ℕ) → members π i ≡ true → Among π (insertions i (without i π))
 unfolding insertions
-take-out i [] d m = absurd (not-member i m)
-take-out i (x ∷ π) (more nx d) m = by-cases (ℕ-discrete i x)
-    (λ e. record { rest = π; fresh = λ w. nx (ap (members π) (sym e) ∙ w); distinct = d; among = subst (λ y. Among (y ∷ π) (insertions i π)) e (front i π) })
-    (λ ne. let t = take-out i π d (member-other x π i ne m) in
-    let p = each-among π (insertions i (t .rest)) (put-each i (t .rest) (t .fresh) (t .distinct)) (t .among) in record {
-      rest = x ∷ t .rest;
-      fresh = λ w. t .fresh (member-other x (t .rest) i ne w);
-      distinct = more (λ w. nx (ap (λ S. S x) (p .same) ∙ set-other (members (t .rest)) i true x (λ e. ne (sym e)) ∙ w)) (t .distinct);
-      among = inr (among-map x π (insertions i (t .rest)) (t .among));
-    })
+put-back i [] m = absurd (not-member i m)
+put-back i (x ∷ π) m = without-cases (λ L. Among (x ∷ π) (insertions i L)) i x π
+    (λ e. subst (λ y. Among (y ∷ π) (insertions i π)) (sym e) (front i π))
+    (λ ne. inr (among-map x π (insertions i (without i π)) (put-back i π (member-other x π i (λ e. ne (sym e)) m))))
 
 -- every rearrangement is there
 pub complete : (I π : List ℕ) → Distinct I → Rearranged I π → Among π (arrangements I)
@@ -112,14 +100,16 @@ unfolding arrangements
 complete [] [] none h = inl refl
 complete [] (x ∷ π) none h = absurd (not-member x (sym (ap (λ S. S x) (h .same)) ∙ member-head x π))
 complete (i ∷ I) π (more ni d) h =
-    let t = take-out i π (h .distinct) (ap (λ S. S i) (h .same) ∙ member-head i I) in
-    let p = each-among π (insertions i (t .rest)) (put-each i (t .rest) (t .fresh) (t .distinct)) (t .among) in
-    among-flat (insertions i) π (t .rest) (arrangements I) (complete I (t .rest) d (record {
-      distinct = t .distinct;
+    let w : List ℕ = without i π in
+    let a : Among π (insertions i w) = put-back i π (ap (λ S. S i) (h .same) ∙ member-head i I) in
+    let nw : members w i ≢ true = without-apart i π (h .distinct) in
+    let p = each-among π (insertions i w) (inserted-each i w nw (without-distinct i π (h .distinct))) a in
+    among-flat (insertions i) π w (arrangements I) (complete I w d (record {
+      distinct = without-distinct i π (h .distinct);
       same = fun-ext (λ k. by-cases (ℕ-discrete k i)
-          (λ e. rw e (not-true (members (t .rest) i) (t .fresh) ∙ sym (not-true (members I i) ni)))
-          (λ ne. sym (set-other (members (t .rest)) i true k ne) ∙ sym (ap (λ S. S k) (p .same)) ∙ ap (λ S. S k) (h .same) ∙ tail k ne));
-    })) (t .among)
+          (λ e. rw e (not-true (members w i) nw ∙ sym (not-true (members I i) ni)))
+          (λ ne. sym (set-other (members w) i true k ne) ∙ sym (ap (λ S. S k) (p .same)) ∙ ap (λ S. S k) (h .same) ∙ tail k ne));
+    })) a
   where
     tail : (k : ℕ) → k ≢ i → members (i ∷ I) k ≡ members I k
     tail k ne = unfold members in set-other (members I) i true k ne

@@ -1,7 +1,7 @@
 -- The determinant of textbooks: the signed sum over all arrangements of rows to columns. A place holds its constant, its letter (each parameter is a letter
 -- of its own), or the sum of both, and terms are collected by their letters. Then the square parts of a table, by their order, and the largest order. Over
 -- any field; "modulo p" is the field of residues. Definitions only; assumes nothing.
-use Prim.Native.Nat.{ℕ, zero, suc, _<_, _≤_, _+_ as _plus_}
+use Prim.Native.Nat.{ℕ, zero, suc, _+_ as _plus_, _≤_, _<_}
 use mathlib.Core.Path.{_≡_}
 use mathlib.Core.Bool.{Bool, true, false, _&&_, cond, decide}
 use mathlib.Core.List.{List, [], _∷_, _++_, map, flatMap}

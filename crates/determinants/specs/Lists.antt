@@ -1,4 +1,4 @@
--- Lists of numbers: what is said of them, and the laws of that.
+-- Laws of lists: statements of each, members, order, what stays without some.
 pub mod Members
 pub mod Each
 pub mod Order

@@ -1,12 +1,12 @@
 -- What the theorems on determinants say of lists, of letters and of signs. Definitions only; assumes nothing.
-use Prim.Native.Nat.{ℕ, _<_}
+use Prim.Native.Nat.{ℕ}
 use mathlib.Core.Path.{_≡_}
 use mathlib.Core.Bool.{Bool, true, false}
 use mathlib.Core.List.{List, [], _∷_, map}
 use mathlib.Core.Logic.{_≢_, _⊎_}
 use native.Mathlib.Decide.{ℕ-discrete}
 use Rattle.residue.specs.Fields.{Field}
-use Rattle.counting.specs.Sets.{Set, _∈_, _⊆_, choose, set}
+use Rattle.counting.specs.Sets.{Set, _⊆_, choose, set}
 use Rattle.determinants.specs.Determinant.{Letter, Each, Ascending}
 
 -- ---- lists
@@ -21,10 +21,6 @@ pub data Distinct : List ℕ → Type 0 where
   none : Distinct []
   more : {j : ℕ} {S : List ℕ} → members S j ≢ true → Distinct S → Distinct (j ∷ S)
 
--- the members lie below n
-abbrev pub Below : ℕ → List ℕ → Type 0
-Below n J = (j : ℕ) → j ∈ members J → j < n
-
 -- π is I in some order
 pub record Rearranged (I π : List ℕ) : Type 0 where
   pub distinct : Distinct π
@@ -35,6 +31,11 @@ abbrev pub Among : {A : Type 0} → A → List A → Type 0
 Among x [] = ⊥
 Among x (y ∷ L) = (x ≡ y) ⊎ Among x L
 
+-- no list twice
+abbrev pub Different : List (List ℕ) → Type 0
+Different [] = Unit {0}
+Different (π ∷ L) = ¬ Among π L × Different L
+
 -- I without i
 unfoldable pub without : ℕ → List ℕ → List ℕ
 without i [] = []
@@ -44,11 +45,6 @@ without i (x ∷ I) = choose (ℕ-discrete x i) I (x ∷ without i I)
 unfoldable pub rest : List ℕ → List ℕ → List ℕ
 rest [] I = I
 rest (r ∷ R) I = rest R (without r I)
-
--- no list twice
-abbrev pub Different : List (List ℕ) → Type 0
-Different [] = Unit {0}
-Different (π ∷ L) = ¬ Among π L × Different L
 
 -- ---- letters
 

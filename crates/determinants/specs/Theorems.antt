@@ -15,14 +15,14 @@ use Rattle.rank.specs.ListedModel.{listed-model}
 use Rattle.mixed_models.specs.Mixed.{Mixed, mixed-rank, mixed}
 use Rattle.determinants.specs.Determinant.{arrangements, Letter, Term, determinant, coefficient-at, NotZero, Each, Ascending, SquarePart, NonzeroOrder}
 use Rattle.determinants.specs.Determinant.{Largest}
-use Rattle.determinants.specs.Statements.{rows-of, columns-of, LettersOf, members, Distinct, rest, Rearranged, Among, Different, UpToSign}
+use Rattle.determinants.specs.Statements.{members, Distinct, Rearranged, Among, Different, rest, rows-of, columns-of, LettersOf, UpToSign}
 use Rattle.determinants.specs.ModelTables.{LayeredOrder, MixedOrder}
 use Rattle.determinants.specs.Lists.Order.{ascending-distinct}
 use Rattle.determinants.specs.Lists.Without.{rest-ascending}
 use Rattle.determinants.specs.Arrangements.{arranged, complete, once}
 use Rattle.determinants.specs.Expansion.Signs.{signed}
 use Rattle.determinants.specs.Letters.Coefficients.{coefficient-constants}
-use Rattle.determinants.specs.Letters.Constants.{constants-iff, order-zero}
+use Rattle.determinants.specs.Letters.Constants.{constants-iff, empty-determinant, order-zero}
 use Rattle.determinants.specs.Letters.Minors.{coefficient-minor}
 use Rattle.determinants.specs.Letters.Terms.{only-letters, same-lists}
 use Rattle.determinants.specs.Parts.Layered.{layered-bound, layered-reached}
@@ -43,13 +43,13 @@ mixed-rank-is-largest-order X = record { reached = mixed-reached X; bound = mixe
 pub mixed-rank-is-largest-order-modulo : (p m n : ℕ) (cs ws : List ℕ) → Largest (MixedOrder (mixed p m n cs ws)) (mixed-rank (mixed p m n cs ws))
 mixed-rank-is-largest-order-modulo p m n cs ws = mixed-rank-is-largest-order (mixed p m n cs ws)
 
--- There is one largest number, so that the rank is the only number of which this holds.
+-- At most one number is the largest, so that the rank is the only one of which this holds.
 pub one-largest : {P : ℕ → Type 0} (j k : ℕ) → Largest P j → Largest P k → j ≡ k
 one-largest j k g h = omega (arith, g .bound k (h .reached), h .bound j (g .reached))
 
--- Order 0 counts as not zero: the determinant with no rows and no columns is 1.
-pub order-zero-counts : (K : Field) (Q : ℕ → ℕ → K .F) (T : ℕ → ℕ → Bool) (m n : ℕ) (E : Set) → NonzeroOrder K Q T m n E 0
-order-zero-counts = order-zero
+-- The determinant with no rows and no columns is 1, so order 0 counts as not zero.
+pub order-zero-counts : (K : Field) (Q : ℕ → ℕ → K .F) (T : ℕ → ℕ → Bool) (m n : ℕ) (E : Set) → (coefficient-at K Q T [] [] [] ≡ K .𝟙) × NonzeroOrder K Q T m n E 0
+order-zero-counts K Q T m n E = (empty-determinant K Q T, order-zero K Q T m n E)
 
 -- The arrangements of rows are all lists of these rows in some order, each once.
 pub arrangements-are-all : (I : List ℕ) → Ascending I

@@ -1,9 +1,9 @@
 -- Wrong determinants: by each of these definitions the largest order is not the rank of a small model. Assumes nothing.
 use Prim.Native.Nat.{ℕ, _<_, _+_, _≤_}
-use mathlib.Core.Path.{_≡_, refl, sym, ap₂, _∙_}
-use mathlib.Core.Bool.{Bool, true, false, cond, decide, decide-iff, true≢false}
+use mathlib.Core.Path.{_≡_, refl, sym, ap₂, subst, _∙_}
+use mathlib.Core.Bool.{Bool, true, false, _&&_, cond, decide, decide-iff, true≢false}
 use mathlib.Core.List.{List, [], _∷_, map, flatMap}
-use mathlib.Core.Logic.{_≢_}
+use mathlib.Core.Logic.{_≢_, _↔_}
 use native.Mathlib.Omega.{arith}
 use lib.ListN.{length}
 use Rattle.residue.specs.Arithmetic.{Prime, is-prime, undivided}
@@ -16,14 +16,14 @@ use Rattle.rank.specs.Independent.{is-zero}
 use Rattle.rank.specs.Layered.Model.{Model}
 use Rattle.rank.specs.Layered.Rank.{rank}
 use Rattle.rank.specs.ListedModel.{listed-model, listed-modulo}
-use Rattle.mixed_models.specs.Mixed.{mixed-rank}
-use Rattle.mixed_models.specs.Starred.Models.{S1, S3, S8, S9, S11}
+use Rattle.mixed_models.specs.Mixed.{Mixed, mixed-at, mixed-rank}
+use Rattle.mixed_models.specs.Starred.Models.{S1, S3, S9, S11}
 use Rattle.mixed_models.specs.Starred.Table.{table}
-use Rattle.determinants.specs.Determinant.{insertions, arrangements, smaller, inversions, sign, Letter, same-letters, Term, collect, product, determinant}
+use Rattle.determinants.specs.Determinant.{insertions, arrangements, smaller, inversions, sign, Letter, same-letters, Term, collect, product, determinant, coefficient-at, NotZero}
 use Rattle.determinants.specs.Determinant.{Each, done, both, Ascending, SquarePart, NonzeroOrder, Largest}
 use Rattle.determinants.specs.Lists.Each.{each-imp}
-use Rattle.determinants.specs.ModelTables.{all-constants, all-letters, LayeredOrder, MixedOrder}
-use Rattle.determinants.specs.Theorems.{rank-is-largest-order, mixed-rank-is-largest-order, one-largest}
+use Rattle.determinants.specs.ModelTables.{all-constants, all-letters, LayeredOrder}
+use Rattle.determinants.specs.Theorems.{rank-is-largest-order}
 use Rattle.refutations.specs.Computing.{computing}
 
 -- the orders of a model's square parts that pass as not zero by N
@@ -48,13 +48,9 @@ unfoldable run : ℕ
 unfolding computing flatMap beside insertions arrangements smaller inversions sign same-letters collect product determinant
 run = 0
 
-not-zero : (q : ℕ) (P : Prime q) (x : residues q P .F) → is-zero q P x ≡ false → x ≢ residues q P .𝟘
+is-zero-iff : (q : ℕ) (P : Prime q) (x : residues q P .F) → (is-zero q P x ≡ true) ↔ (x ≡ residues q P .𝟘)
 unfolding is-zero
-not-zero q P x e z = true≢false (sym (decide-iff (residues q P .decide x (residues q P .𝟘)) .1 z) ∙ e)
-
-is-zero-yes : (q : ℕ) (P : Prime q) (x : residues q P .F) → is-zero q P x ≡ true → x ≡ residues q P .𝟘
-unfolding is-zero
-is-zero-yes q P x = decide-iff (residues q P .decide x (residues q P .𝟘)) .0
+is-zero-iff q P x = decide-iff (residues q P .decide x (residues q P .𝟘))
 
 module _ (M : Model) where
   open Model M using (K)
@@ -80,7 +76,7 @@ module _ (M : Model) where
   abbrev Uncollected : List ℕ → List ℕ → Type 0
   Uncollected I J = ¬ Each (λ t. t .coefficient ≡ 𝟘) (terms I J)
 
--- by the determinant's own terms, collected, the largest order is the rank
+-- by the determinant's own terms, collected, the largest order is the rank; so what follows differs from it in the terms alone
 own-terms : (M : Model) → Largest (Orders M (Collected M (terms M))) (rank M)
 own-terms = rank-is-largest-order
 
@@ -96,7 +92,7 @@ unsigned-sum P = refl
 pub signs-left-out : Largest (Orders S3 (Collected S3 (unsigned S3))) (rank S3) → ⊥
 unfolding modulus modulus-at true? is-prime undivided whole
 signs-left-out h = let P : Prime 1021 = modulus 1021 .1 in
-    let b : 2 ≤ rank S3 = h .bound 2 (whole, ([], not-zero 1021 P _ (unsigned-sum P))) in
+    let b : 2 ≤ rank S3 = h .bound 2 (whole, ([], λ z. true≢false (sym (is-zero-iff 1021 P _ .1 z) ∙ unsigned-sum P))) in
     let r = table .s3 .is-rank in omega arith
 
 first-term : (P : Prime 1021) → ¬ Each (λ t. t .coefficient ≡ residues 1021 P .𝟘) (terms (S3-modulo P) (0 ∷ 1 ∷ []) (0 ∷ 1 ∷ []))
@@ -124,6 +120,12 @@ first-two (i ∷ []) a w e = absurd (omega arith)
 first-two (i ∷ j ∷ []) (both l done, a) (both p (both q done)) e = let x : i ≡ 0 = omega arith in let y : j ≡ 1 = omega arith in ap₂ (λ i j. i ∷ j ∷ []) x y
 first-two (i ∷ j ∷ k ∷ I) a w e = absurd (omega arith)
 
+-- the whole is the one part of order 2 of a table of two rows and two columns
+only-whole : (N : List ℕ → List ℕ → Type 0) → (N (0 ∷ 1 ∷ []) (0 ∷ 1 ∷ []) → ⊥) → (k : ℕ) → k ≡ 2
+    → (S : SquarePart 2 2 (λ x. true) k) × N (S .rows) (S .columns) → ⊥
+only-whole N never k e (S, w) = never (subst (λ I. N I (0 ∷ 1 ∷ [])) (first-two (S .rows) (S .rows-ascend) (S .rows-within) (S .k-rows ∙ e))
+    (subst (N (S .rows)) (first-two (S .columns) (S .columns-ascend) (each-imp (λ x h. h .0) (S .columns) (S .columns-within)) (S .k-columns ∙ e)) w))
+
 -- the terms 0, x, 0 and −x, collected where their letters are those asked for
 cancels : (P : Prime 3) (u v : Bool) → let at : Bool → ℕ → residues 3 P .F = λ w k. cond w (res 3 P k) (residues 3 P .𝟘) in
     is-zero 3 P (residues 3 P ._+_ (at u 0) (residues 3 P ._+_ (at v 1) (residues 3 P ._+_ (at u 0) (residues 3 P ._+_ (at v 2) (residues 3 P .𝟘))))) ≡ true
@@ -140,14 +142,8 @@ shared-sum P l = cancels P (same-letters [] l) (same-letters ((1, 0) ∷ []) l)
 
 pub letters-shared : Largest (Orders two-parameters (Collected two-parameters (shared two-parameters))) (rank two-parameters) → ⊥
 unfolding modulus modulus-at true? is-prime undivided
-letters-shared h = go (rank two-parameters) two-parameters-rank (h .reached)
-  where
-    go : (k : ℕ) → k ≡ 2 → Orders two-parameters (Collected two-parameters (shared two-parameters)) k → ⊥
-    go k e (S, (l, nz)) = let P : Prime 3 = modulus 3 .1 in
-        let zero : (I J : List ℕ) → I ≡ 0 ∷ 1 ∷ [] → J ≡ 0 ∷ 1 ∷ [] → collect (residues 3 P) l (shared two-parameters I J) ≡ residues 3 P .𝟘
-        = λ I J i j. rw (i, j) (is-zero-yes 3 P _ (shared-sum P l)) in
-        nz (zero (S .rows) (S .columns) (first-two (S .rows) (S .rows-ascend) (S .rows-within) (S .k-rows ∙ e))
-        (first-two (S .columns) (S .columns-ascend) (each-imp (λ x w. w .0) (S .columns) (S .columns-within)) (S .k-columns ∙ e)))
+letters-shared h = let P : Prime 3 = modulus 3 .1 in only-whole (Collected two-parameters (shared two-parameters))
+    (λ w. w .1 (is-zero-iff 3 P _ .0 (shared-sum P (w .0)))) (rank two-parameters) two-parameters-rank (h .reached)
 
 -- ---- order 0 counted as zero: S1, whose rank is 0, would have no rank
 
@@ -163,8 +159,28 @@ constant-rows-alone h = let r = table .s11 .is-rank in none (h .reached .0 .rows
     none [] done e = omega arith
     none (i ∷ I) (both l w) e = omega arith
 
--- ---- a place with both holds its constant alone: S9 would be the table of S8, whose rank is 1
+-- ---- a place with both holds its constant alone: S9, whose rank is 2, would have the determinant 1 − 1
 
-pub letter-beside-a-constant-dropped : Largest (MixedOrder S8) (mixed-rank S9) → ⊥
-letter-beside-a-constant-dropped h = let e = one-largest (mixed-rank S9) (mixed-rank S8) h (mixed-rank-is-largest-order S8) in
-    let r = table .s8 .is-rank in let t = table .s9 .is-rank in omega arith
+-- letters only where the constant is 0
+abbrev lone-letters : (X : Mixed) → ℕ → ℕ → Bool
+lone-letters X i x = X .T i x && decide (X .K .decide (X .Q i x) (X .K .𝟘))
+
+abbrev S9-modulo : Prime 1021 → Mixed
+S9-modulo P = mixed-at 1021 P 2 2 (1 ∷ 1 ∷ 1 ∷ 1 ∷ []) (1 ∷ 0 ∷ [])
+
+-- the terms 1 and −1, collected where no letters are asked for
+ones-cancel : (P : Prime 1021) (u : Bool) → let at : ℕ → residues 1021 P .F = λ k. cond u (res 1021 P k) (residues 1021 P .𝟘) in
+    is-zero 1021 P (residues 1021 P ._+_ (at 1) (residues 1021 P ._+_ (at 1020) (residues 1021 P .𝟘))) ≡ true
+unfolding run
+ones-cancel P true = refl
+ones-cancel P false = refl
+
+lone-sum : (P : Prime 1021) (l : List Letter)
+    → is-zero 1021 P (coefficient-at (residues 1021 P) (S9-modulo P .Q) (lone-letters (S9-modulo P)) l (0 ∷ 1 ∷ []) (0 ∷ 1 ∷ [])) ≡ true
+unfolding run
+lone-sum P l = ones-cancel P (same-letters [] l)
+
+pub letter-beside-a-constant-dropped : Largest (NonzeroOrder (S9 .K) (S9 .Q) (lone-letters S9) (S9 .m) (S9 .n) (λ x. true)) (mixed-rank S9) → ⊥
+unfolding modulus modulus-at true? is-prime undivided
+letter-beside-a-constant-dropped h = let P : Prime 1021 = modulus 1021 .1 in only-whole (NotZero (S9 .K) (S9 .Q) (lone-letters S9))
+    (λ w. w .1 (is-zero-iff 1021 P _ .0 (lone-sum P (w .0)))) (mixed-rank S9) (table .s9 .is-rank) (h .reached)

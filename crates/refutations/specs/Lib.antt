@@ -1,4 +1,5 @@
--- What the promises rule out: the programs that document 01 lists, wrong verdicts, wrong determinants, lent elements that change; and how little the promises leave open.
+-- What the promises rule out: the programs that document 01 lists, wrong verdicts, lent elements that change; what the theorem on determinants rules out;
+-- and how little the promises leave open.
 pub mod Computing
 pub mod Accepted
 pub mod Listed

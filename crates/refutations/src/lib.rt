@@ -1,1 +1,1 @@
-// Theorems alone, in specs/: what the promises of the calls rule out, and how little they leave open.
+// Theorems alone, in specs/: what the promises of the calls, and the theorem on determinants, rule out, and how little the promises leave open.

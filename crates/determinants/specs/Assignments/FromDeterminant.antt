@@ -2,27 +2,28 @@
 -- are independent on the rows that stay. Assumes nothing.
 use Prim.Native.Nat.{ℕ, _<_}
 use mathlib.Core.Path.{_≡_, refl, sym, ap, _∙_}
-use mathlib.Core.Bool.{Bool, true, false≢true}
+use mathlib.Core.Bool.{Bool, false≢true}
 use mathlib.Core.List.{List}
-use mathlib.Core.Logic.{_≢_}
 use Rattle.residue.specs.Fields.{Field, mul-zero}
 use Rattle.counting.specs.Counts.{#-ext}
 use Rattle.counting.specs.Sets.{Set, _∈_}
-use Rattle.rank.specs.Layered.Model.{Assignment, Seat, out, constant, row, is-placed, is-constant, placing, constants}
+use Rattle.rank.specs.Layered.Restricting.{constant-placed}
+use Rattle.rank.specs.Layered.Model.{row, Assignment, is-placed, is-constant, placing, constants}
 use Rattle.determinants.specs.Determinant.{Letter, NonzeroOrder}
-use Rattle.determinants.specs.Statements.{rows-of, columns-of, LettersOf, members, rest, Among}
+use Rattle.determinants.specs.Statements.{members, Among, rest, rows-of, columns-of, LettersOf}
 use Rattle.determinants.specs.Lists.Among.{each-among, among-key, same-key}
 use Rattle.determinants.specs.Lists.Members.{#-members}
-use Rattle.determinants.specs.Lists.Order.{each-members, member-map, ascending-distinct}
+use Rattle.determinants.specs.Lists.Order.{member-map, ascending-distinct}
 use Rattle.determinants.specs.Lists.Without.{rest-in, rest-apart, rest-other}
 use Rattle.determinants.specs.Expansion.Cofactors.{IndependentOn, independent-of-nonzero, independent-sub}
 use Rattle.determinants.specs.Letters.Minors.{coefficient-minor}
 use Rattle.determinants.specs.Letters.Taken.{Taken, taken-of, letters-seated, seated-letter}
 use Rattle.determinants.specs.Letters.Terms.{only-letters}
 use Rattle.determinants.specs.Assignments.Legal.{LegalOfSize}
+use Rattle.determinants.specs.Parts.Within.{rows-below, columns-offered}
 
 module _ (K : Field) (m n : ℕ) (Q : ℕ → ℕ → K .F) (T : ℕ → ℕ → Bool) (E : Set) (k : ℕ) (p : NonzeroOrder K Q T m n E k) where
-  open Field K using (𝟘, _·_)
+  open Field K using (_·_)
 
   abbrev I : List ℕ
   I = p .0 .rows
@@ -37,7 +38,7 @@ module _ (K : Field) (m n : ℕ) (Q : ℕ → ℕ → K .F) (T : ℕ → ℕ →
   fits = only-letters K Q T I J (p .0 .rows-ascend) (p .0 .columns-ascend) l (p .1 .1)
 
   taking : Taken J l
-  taking = taken-of J l (p .0 .columns-ascend) (fits .columns-ascend) (fits .columns-within)
+  taking = taken-of T I J l (p .0 .columns-ascend) fits
 
   -- the columns of the letters sit on their rows, the others on the constant side
   abbrev A : Assignment
@@ -51,10 +52,10 @@ module _ (K : Field) (m n : ℕ) (Q : ℕ → ℕ → K .F) (T : ℕ → ℕ →
   in-J x e = sym (taking .places x) ∙ e
 
   within : (x : ℕ) → x ∈ members J → (x < n) × (x ∈ E)
-  within = each-members (λ x. (x < n) × (x ∈ E)) J (p .0 .columns-within)
+  within = columns-offered m n E k (p .0)
 
   row-within : (i : ℕ) → i ∈ members I → i < m
-  row-within = each-members (λ i. i < m) I (p .0 .rows-within)
+  row-within = rows-below m n E k (p .0)
 
   -- a column on a row has its letter
   has-letter : (x r : ℕ) → A x ≡ row r → Among (r, x) l
@@ -62,13 +63,8 @@ module _ (K : Field) (m n : ℕ) (Q : ℕ → ℕ → K .F) (T : ℕ → ℕ →
 
   -- a column on the constant side stays
   stays : (x : ℕ) → x ∈ constants A → x ∈ members (rest (columns-of l) J)
-  stays x e = rest-other (columns-of l) J x (in-J x (placed (A x) e))
+  stays x e = rest-other (columns-of l) J x (in-J x (constant-placed (A x) e))
       (λ w. let y = member-map (λ z. z .1) l (letters-seated J l taking) x w in false≢true (sym (ap is-constant (ap A (sym (y .2)) ∙ y .1)) ∙ e))
-    where
-      placed : (s : Seat) → is-constant s ≡ true → is-placed s ≡ true
-      placed out e = absurd (false≢true e)
-      placed constant e = e
-      placed (row r) e = absurd (false≢true e)
 
   independent-left : IndependentOn K n Q R (members (rest (columns-of l) J))
   independent-left =

@@ -1,24 +1,26 @@
--- From a legal assignment to a determinant that is not zero. Assumes nothing.
-use Prim.Native.Nat.{_<_, ℕ}
+-- From a legal assignment to a determinant that is not zero: in the table without letters the placed columns are independent on the rows of the constants
+-- and of the letters. Assumes nothing.
+use Prim.Native.Nat.{ℕ, _<_}
 use mathlib.Core.Path.{_≡_, refl, sym, ap, subst, _∙_}
-use mathlib.Core.Bool.{Bool, decide, decide-iff, false, false≢true, true, true≢false, _||_}
+use mathlib.Core.Bool.{Bool, true, _||_, decide, decide-iff, true≢false, false≢true}
 use mathlib.Core.List.{List}
-use mathlib.Core.Logic.{if-neg, _≢_}
+use mathlib.Core.Logic.{_≢_, ⊎-elim, if-neg}
 use native.Mathlib.Decide.{ℕ-discrete}
 use lib.ListN.{length}
 use Rattle.residue.specs.Fields.{Field, mul-zero, one-mul, zero-mul}
-use Rattle.counting.specs.Sets.{#, Set, _∈_}
-use Rattle.rank.specs.Layered.Model.{Assignment, Seat, constant, constants, is-constant, is-placed, out, placing, row}
-use Rattle.rank.specs.Linear.Independence.{In, dot}
+use Rattle.counting.specs.Bools.{or-left, or-right, or-split}
+use Rattle.counting.specs.Sets.{Set, _∈_, #}
+use Rattle.rank.specs.Layered.Model.{Seat, out, constant, row, Assignment, is-placed, is-constant, placing, constants}
+use Rattle.rank.specs.Linear.Independence.{dot, In}
 use Rattle.rank.specs.Linear.Sums.{dot-one, Σ-cong}
 use Rattle.determinants.specs.Determinant.{Ascending, NonzeroOrder}
-use Rattle.determinants.specs.Statements.{Below, Distinct, members}
-use Rattle.determinants.specs.Lists.Members.{list, list-below, list-distinct, list-length, list-of}
+use Rattle.determinants.specs.Statements.{members, Distinct}
+use Rattle.determinants.specs.Lists.Members.{Below, list, list-below, list-distinct, list-length, list-of}
 use Rattle.determinants.specs.Lists.Order.{ascending-distinct, members-each, sort, sort-ascending, sort-length, sort-members}
-use Rattle.determinants.specs.Expansion.Cofactors.{IndependentOn, nonzero-of-independent, Chosen}
+use Rattle.determinants.specs.Expansion.Cofactors.{IndependentOn, nonzero-of-independent, ChosenRows}
 use Rattle.determinants.specs.Expansion.Sorting.{sort-value}
-use Rattle.determinants.specs.Letters.Coefficients.{coefficient-value, table, value-at, table-one, table-other}
-use Rattle.determinants.specs.Letters.Taken.{taken}
+use Rattle.determinants.specs.Letters.Coefficients.{coefficient-value, letterless, value-at, letterless-one, letterless-other}
+use Rattle.determinants.specs.Letters.Taken.{letters-taken}
 use Rattle.determinants.specs.Assignments.Legal.{LegalOn, LegalOfSize, used?}
 
 module _ (K : Field) (m n : ℕ) (Q : ℕ → ℕ → K .F) (T : ℕ → ℕ → Bool) (E : Set) (A : Assignment) (R : Set) (h : LegalOn K m n Q T E R A) where
@@ -30,25 +32,18 @@ module _ (K : Field) (m n : ℕ) (Q : ℕ → ℕ → K .F) (T : ℕ → ℕ →
 
   wanted-R : (i : ℕ) → R i ≡ true → wanted i ≡ true
   unfolding wanted
-  wanted-R i e = ap (λ b. b || decide (used? n A i)) e
+  wanted-R i e = or-left (R i) (decide (used? n A i)) e
 
   wanted-used : (x r : ℕ) → A x ≡ row r → wanted r ≡ true
   unfolding wanted
-  wanted-used x r e = go (R r)
-    where
-      go : (b : Bool) → b || decide (used? n A r) ≡ true
-      go true = refl
-      go false = decide-iff (used? n A r) .1 ((x, h .columns x (ap is-placed e) .0, e))
+  wanted-used x r e = or-right (R r) (decide (used? n A r)) (decide-iff (used? n A r) .1 ((x, h .columns x (ap is-placed e) .0, e)))
 
   wanted-below : (i : ℕ) → wanted i ≡ true → i < m
   unfolding wanted
-  wanted-below i w = go (R i) refl w
-    where
-      go : (b : Bool) → R i ≡ b → b || decide (used? n A i) ≡ true → i < m
-      go true e w = h .rows i e
-      go false e w = let u = decide-iff (used? n A i) .0 w in h .parameter (u .0) i (u .2) .0
+  wanted-below i w = ⊎-elim (h .rows i) (λ e. let u = decide-iff (used? n A i) .0 e in h .parameter (u .0) i (u .2) .0) (or-split (R i) (decide (used? n A i)) w)
 
-  module _ (c : ℕ → F) (s : In K (placing A) c) (z : (i : ℕ) → wanted i ≡ true → dot K n (table K Q T A i) c ≡ 𝟘) where
+  module _ (c : ℕ → F) (s : In K (placing A) c) (z : (i : ℕ) → wanted i ≡ true → dot K n (letterless K Q T A i) c ≡ 𝟘) where
+    -- the coefficients of the columns on the constant side
     abbrev kept : Seat → ℕ → F
     kept out x = 𝟘
     kept constant x = c x
@@ -70,8 +65,9 @@ module _ (K : Field) (m n : ℕ) (Q : ℕ → ℕ → K .F) (T : ℕ → ℕ →
         go constant e = refl
         go (row r) e = mul-zero K _ ∙ sym (ap (λ y. y · c x) (if-neg (ℕ-discrete i r) (λ d. h .parameter x r e .2 (ap R (sym d) ∙ ri)) _ _) ∙ zero-mul K _)
 
+    -- they are zero, since these columns are independent on R,
     kept-zero : (x : ℕ) → x < n → kept (A x) x ≡ 𝟘
-    unfolding table dot
+    unfolding letterless dot
     kept-zero = h .independent .only-zero (λ x. kept (A x) x) kept-in
         (λ i ri. Σ-cong K n _ _ (λ x l. kept-term i x ri) ∙ z i (wanted-R i ri))
 
@@ -83,22 +79,24 @@ module _ (K : Field) (m n : ℕ) (Q : ℕ → ℕ → K .F) (T : ℕ → ℕ →
         go constant e w = w
         go (row r) e w = absurd (nr r e)
 
-    other-term : (x r y : ℕ) → A x ≡ row r → y < n → y ≢ x → table K Q T A r y · c y ≡ 𝟘
+    -- so a row that serves a column has no other term,
+    other-term : (x r y : ℕ) → A x ≡ row r → y < n → y ≢ x → letterless K Q T A r y · c y ≡ 𝟘
     other-term x r y e l ny = go (A y) refl (off-row y l)
       where
-        go : (t : Seat) → A y ≡ t → (((q : ℕ) → A y ≢ row q) → c y ≡ 𝟘) → table K Q T A r y · c y ≡ 𝟘
-        go out d w = ap (λ v. table K Q T A r y · v) (w (λ q k. false≢true (ap is-placed (sym d ∙ k)))) ∙ mul-zero K _
-        go constant d w = ap (λ v. table K Q T A r y · v) (w (λ q k. true≢false (ap is-constant (sym d ∙ k)))) ∙ mul-zero K _
-        go (row q) d w = ap (λ v. v · c y) (table-other K Q T A y q r d (λ k. ny (h .one-each y x r (d ∙ ap row (sym k)) e))) ∙ zero-mul K _
+        go : (t : Seat) → A y ≡ t → (((q : ℕ) → A y ≢ row q) → c y ≡ 𝟘) → letterless K Q T A r y · c y ≡ 𝟘
+        go out d w = ap (λ v. letterless K Q T A r y · v) (w (λ q k. false≢true (ap is-placed (sym d ∙ k)))) ∙ mul-zero K _
+        go constant d w = ap (λ v. letterless K Q T A r y · v) (w (λ q k. true≢false (ap is-constant (sym d ∙ k)))) ∙ mul-zero K _
+        go (row q) d w = ap (λ v. v · c y) (letterless-other K Q T A y q r d (λ k. ny (h .one-each y x r (d ∙ ap row (sym k)) e))) ∙ zero-mul K _
 
+    -- and the coefficient of that column is zero too
     every-zero : (x : ℕ) → x < n → c x ≡ 𝟘
     every-zero x l = go (A x) refl (off-row x l)
       where
         go : (t : Seat) → A x ≡ t → (((q : ℕ) → A x ≢ row q) → c x ≡ 𝟘) → c x ≡ 𝟘
         go out d w = w (λ q k. false≢true (ap is-placed (sym d ∙ k)))
         go constant d w = w (λ q k. true≢false (ap is-constant (sym d ∙ k)))
-        go (row r) d w = sym (one-mul K _) ∙ ap (λ v. v · c x) (sym (table-one K Q T A x r d (h .parameter x r d .1)))
-            ∙ sym (dot-one K n (table K Q T A r) c x l (λ y ly ny. other-term x r y d ly ny)) ∙ z r (wanted-used x r d)
+        go (row r) d w = sym (one-mul K _) ∙ ap (λ v. v · c x) (sym (letterless-one K Q T A x r d (h .parameter x r d .1)))
+            ∙ sym (dot-one K n (letterless K Q T A r) c x l (λ y ly ny. other-term x r y d ly ny)) ∙ z r (wanted-used x r d)
 
   nonzero-part : NonzeroOrder K Q T m n E (# n (placing A))
   nonzero-part =
@@ -109,10 +107,10 @@ module _ (K : Field) (m n : ℕ) (Q : ℕ → ℕ → K .F) (T : ℕ → ℕ →
       let bj : Below n J = λ k e. list-below n (placing A) k (in-A k e) in
       let dj : Distinct J = ascending-distinct J ja in
       let jn : length J ≡ # n (placing A) = sort-length L ∙ list-length n (placing A) in
-      let free : IndependentOn K n (table K Q T A) wanted (members J) = record {
+      let independent : IndependentOn K n (letterless K Q T A) wanted (members J) = record {
         only-zero = λ c s z. every-zero c (λ k nk. s k (λ e. nk (list-of n (placing A) k (in-A k e)))) z;
       } in
-      let o : Chosen K n (table K Q T A) wanted J = nonzero-of-independent K n (table K Q T A) m wanted wanted-below J bj dj free in
+      let o : ChosenRows K n (letterless K Q T A) wanted J = nonzero-of-independent K n (letterless K Q T A) m wanted wanted-below J bj dj independent in
       let I : List ℕ = sort (o .I) in
       let ia : Ascending I = sort-ascending (o .I) (o .distinct) in (
         record {
@@ -125,7 +123,7 @@ module _ (K : Field) (m n : ℕ) (Q : ℕ → ℕ → K .F) (T : ℕ → ℕ →
           k-rows = sort-length (o .I) ∙ o .size ∙ jn;
           k-columns = jn;
         },
-        (taken A J, λ w. sort-value K (table K Q T A) (o .I) J (o .value) (sym (coefficient-value K Q T A I J ia dj) ∙ w)),
+        (letters-taken A J, λ w. sort-value K (letterless K Q T A) (o .I) J (o .value) (sym (coefficient-value K Q T A I J ia dj) ∙ w)),
       )
 
 -- a legal assignment of k columns gives a square part of order k

@@ -1,19 +1,19 @@
--- A determinant is not zero exactly if the columns are independent on the rows. Assumes nothing.
-use Prim.Native.Nat.{_<_, _+_, suc, ℕ}
-use mathlib.Core.Path.{ap, ap₂, fun-ext, refl, sym, _∙_, _≡_}
-use mathlib.Core.Bool.{Bool, Bool-discrete, true}
+-- Where an expansion is not zero the columns are independent on the rows, and independent columns have as many rows on which it is not zero. Assumes nothing.
+use Prim.Native.Nat.{ℕ, suc, _<_}
+use mathlib.Core.Path.{_≡_, refl, sym, ap, ap₂, fun-ext, _∙_}
+use mathlib.Core.Bool.{Bool, true}
 use mathlib.Core.List.{List, [], _∷_}
-use mathlib.Core.Logic.{Dec·and, Dec·not, by-cases, _≢_}
+use mathlib.Core.Logic.{_≢_, by-cases}
 use native.Mathlib.Decide.{ℕ-discrete}
 use lib.ListN.{length}
-use Rattle.residue.specs.Fields.{Field, mul-zero, neg-mul, neg-zero, one-mul, ring, unmul, zero-add, zero-mul}
-use Rattle.counting.specs.Counts.{set-other, set-same, some?}
-use Rattle.counting.specs.Sets.{set, _⊆_}
-use Rattle.rank.specs.Linear.Independence.{In, dot}
-use Rattle.rank.specs.Linear.Sums.{dot-zero}
-use Rattle.determinants.specs.Statements.{Below, Distinct, members, more, none}
-use Rattle.determinants.specs.Lists.Members.{member-head, member-more, member-other, member-tail, not-member}
-use Rattle.determinants.specs.Linear.{dot-mix, dot-unit, neg-neg}
+use Rattle.residue.specs.Fields.{Field, mul-zero, neg-mul, neg-neg, neg-zero, one-mul, ring, unmul, zero-add, zero-mul}
+use Rattle.counting.specs.Counts.{some?, both?, not?, set-same, set-other}
+use Rattle.counting.specs.Bools.{true?}
+use Rattle.counting.specs.Sets.{_⊆_, set}
+use Rattle.rank.specs.Linear.Independence.{dot, In}
+use Rattle.rank.specs.Linear.Sums.{dot-unit, dot-mix, dot-zero}
+use Rattle.determinants.specs.Statements.{members, Distinct, none, more}
+use Rattle.determinants.specs.Lists.Members.{member-head, member-tail, member-other, member-more, not-member, Below}
 use Rattle.determinants.specs.Expansion.Rows.{expansion, along, along-swap, along-twice, along-zero, no-rows}
 
 module _ (K : Field) where
@@ -28,41 +28,41 @@ module _ (K : Field) where
   unfolding cofactor
   cofactor-skip f j S k nd = ap (λ z. z + neg (cofactor (λ R. f (j ∷ R)) S k)) (set-other (λ _. 𝟘) j (f S) k nd) ∙ zero-add K _
 
-  cofactor-in : (n : ℕ) (f : List ℕ → F) (J : List ℕ) → In K (members J) (cofactor f J)
-  cofactor-in n f [] k nm = unfold cofactor in refl
-  cofactor-in n f (j ∷ S) k nm = cofactor-skip f j S k (λ d. nm (rw d (member-head j S)))
-      ∙ ap neg (cofactor-in n (λ R. f (j ∷ R)) S k (λ m. nm (member-tail j S k m))) ∙ neg-zero K
+  cofactor-in : (f : List ℕ → F) (J : List ℕ) → In K (members J) (cofactor f J)
+  cofactor-in f [] k nm = unfold cofactor in refl
+  cofactor-in f (j ∷ S) k nm = cofactor-skip f j S k (λ d. nm (rw d (member-head j S)))
+      ∙ ap neg (cofactor-in (λ R. f (j ∷ R)) S k (λ m. nm (member-tail j S k m))) ∙ neg-zero K
 
   cofactor-at : (f : List ℕ → F) (j : ℕ) (S : List ℕ) → cofactor f (j ∷ S) j ≡ f S + neg (cofactor (λ R. f (j ∷ R)) S j)
   unfolding cofactor
   cofactor-at f j S = ap (λ z. z + neg (cofactor (λ R. f (j ∷ R)) S j)) (set-same (λ _. 𝟘) j (f S))
 
-  cofactor-head : (n : ℕ) (f : List ℕ → F) (j : ℕ) (S : List ℕ) → members S j ≢ true → cofactor f (j ∷ S) j ≡ f S
-  cofactor-head n f j S nm = cofactor-at f j S ∙ simp (cofactor-in n (λ R. f (j ∷ R)) S j nm, ring)
+  cofactor-head : (f : List ℕ → F) (j : ℕ) (S : List ℕ) → members S j ≢ true → cofactor f (j ∷ S) j ≡ f S
+  cofactor-head f j S nm = cofactor-at f j S ∙ simp (cofactor-in (λ R. f (j ∷ R)) S j nm, ring)
 
   -- what is left when x is taken out
-  record Rest (f : List ℕ → F) (J : List ℕ) (x : ℕ) : Type 0 where
-    rest : List ℕ
-    sub : members rest ⊆ members J
-    covers : (k : ℕ) → k ≢ x → members J k ≡ true → members rest k ≡ true
-    value : f rest ≢ 𝟘
+  record Remaining (f : List ℕ → F) (J : List ℕ) (x : ℕ) : Type 0 where
+    columns : List ℕ
+    sub : members columns ⊆ members J
+    covers : (k : ℕ) → k ≢ x → members J k ≡ true → members columns k ≡ true
+    value : f columns ≢ 𝟘
 
-  cofactor-rest : (f : List ℕ → F) (J : List ℕ) (x : ℕ) → cofactor f J x ≢ 𝟘 → Rest f J x
+  cofactor-rest : (f : List ℕ → F) (J : List ℕ) (x : ℕ) → cofactor f J x ≢ 𝟘 → Remaining f J x
   cofactor-rest f [] x nz = absurd (nz (unfold cofactor in refl))
   cofactor-rest f (j ∷ S) x nz = by-cases (K .decide (cofactor (λ R. f (j ∷ R)) S x) 𝟘)
       (λ z. by-cases (ℕ-discrete x j)
       (λ d. record {
-        rest = S;
+        columns = S;
         sub = member-tail j S;
         covers = λ k nk m. member-other j S k (λ e. nk (e ∙ sym d)) m;
         value = λ w. nz (ap (cofactor f (j ∷ S)) d ∙ cofactor-at f j S ∙ simp (w, ap (cofactor (λ R. f (j ∷ R)) S) (sym d) ∙ z, ring));
       })
       (λ nd. absurd (nz (cofactor-skip f j S x nd ∙ ap neg z ∙ neg-zero K))))
       (λ nz′. let r = cofactor-rest (λ R. f (j ∷ R)) S x nz′ in record {
-        rest = j ∷ r .rest;
-        sub = member-more j (r .rest) S (r .sub);
-        covers = λ k nk m. by-cases (ℕ-discrete k j) (λ d. rw d (member-head j (r .rest)))
-            (λ nd. member-tail j (r .rest) k (r .covers k nk (member-other j S k nd m)));
+        columns = j ∷ r .columns;
+        sub = member-more j (r .columns) S (r .sub);
+        covers = λ k nk m. by-cases (ℕ-discrete k j) (λ d. rw d (member-head j (r .columns)))
+            (λ nd. member-tail j (r .columns) k (r .covers k nk (member-other j S k nd m)));
         value = r .value;
       })
 
@@ -92,18 +92,18 @@ module _ (K : Field) where
         (λ d. rw d (along-twice K Q a (expansion K Q I) J))
         (λ nd. along-swap K Q i a (expansion K Q I) J ∙ ap neg (along-zero K Q a _ (row-twice i I (member-other a I i nd m)) J) ∙ neg-zero K)
 
-    -- if x can be taken out so that the rest is independent on I, and row i does not kill the cofactors
+    -- if x can be taken out so that the others are independent on I, and row i times the cofactors is not zero
     independent-step : (i : ℕ) (I J : List ℕ) (d : ℕ → F) → In K (members J) d → ((h : ℕ) → members I h ≡ true → dot K n (Q h) d ≡ 𝟘)
         → (x : ℕ) → x < n → d x ≢ 𝟘 → dot K n (Q i) d ≢ 𝟘 → (S : ℕ → Bool) → ((k : ℕ) → k ≢ x → members J k ≡ true → S k ≡ true)
         → IndependentOn n Q (members I) S → IndependentOn n Q (members (i ∷ I)) (members J)
-    independent-step i I J d din dead x l nx nz S covers fr = record {
+    independent-step i I J d din zeros x l nx nz S covers fr = record {
       only-zero = λ c s z j m.
           let e : ℕ → F = λ k. d x · c k + neg (c x) · d k in
           let ein : In K S e = λ k nk. by-cases (ℕ-discrete k x)
           (λ q. rw q (still (d x) (c x)))
           (λ nq. gone (d x) (c x) (c k) (d k) (s k (λ mk. nk (covers k nq mk))) (din k (λ mk. nk (covers k nq mk)))) in
           let zero-at : (k : ℕ) → k < n → e k ≡ 𝟘 = fr .only-zero e ein (λ h mh. dot-mix K n (Q h) (d x) (neg (c x)) c d
-          ∙ gone (d x) (c x) _ _ (z h (member-tail i I h mh)) (dead h mh)) in
+          ∙ gone (d x) (c x) _ _ (z h (member-tail i I h mh)) (zeros h mh)) in
           let ex : dot K n (Q i) e ≡ 𝟘 = dot-zero K n (Q i) e (λ k lk. ap (λ y. Q i k · y) (zero-at k lk) ∙ mul-zero K (Q i k)) in
           let cx : c x ≡ 𝟘 = solved (d x) (c x) (dot K n (Q i) c) (dot K n (Q i) d) nz (z i (member-head i I))
           (sym (dot-mix K n (Q i) (d x) (neg (c x)) c d) ∙ ex) in
@@ -128,15 +128,15 @@ module _ (K : Field) where
     independent-of-nonzero (i ∷ I) J b nz =
         let d : ℕ → F = cofactor (expansion K Q I) J in
         let e : expansion K Q (i ∷ I) J ≡ dot K n (Q i) d = unfold expansion in along-dot i (expansion K Q I) J b in
-        by-cases (some? n (λ j. d j ≢ 𝟘) (λ j. Dec·not (K .decide (d j) 𝟘)))
+        by-cases (some? n (λ j. d j ≢ 𝟘) (λ j. not? (K .decide (d j) 𝟘)))
         (λ h. let r = cofactor-rest (expansion K Q I) J (h .0) (h .2) in
-        independent-step i I J d (cofactor-in n (expansion K Q I) J) (λ g m. sym (along-dot g (expansion K Q I) J b) ∙ row-twice g I m J)
-        (h .0) (h .1) (h .2) (λ z. nz (e ∙ z)) (members (r .rest)) (r .covers)
-        (independent-of-nonzero I (r .rest) (λ k m. b k (r .sub k m)) (r .value)))
+        independent-step i I J d (cofactor-in (expansion K Q I) J) (λ g m. sym (along-dot g (expansion K Q I) J b) ∙ row-twice g I m J)
+        (h .0) (h .1) (h .2) (λ z. nz (e ∙ z)) (members (r .columns)) (r .covers)
+        (independent-of-nonzero I (r .columns) (λ k m. b k (r .sub k m)) (r .value)))
         (λ nh. absurd (nz (e ∙ dot-zero K n (Q i) d (λ j l. by-cases (K .decide (d j) 𝟘) (λ z. rw z (mul-zero K (Q i j))) (λ y. absurd (nh ((j, l, y))))))))
 
-    -- independent columns have as many rows on which their determinant is not zero
-    pub record Chosen (R : ℕ → Bool) (J : List ℕ) : Type 0 where
+    -- rows in R, as many as the columns J, on which the expansion is not zero
+    pub record ChosenRows (R : ℕ → Bool) (J : List ℕ) : Type 0 where
       pub I : List ℕ
       pub size : length I ≡ length J
       pub distinct : Distinct I
@@ -147,14 +147,14 @@ module _ (K : Field) where
     independent-sub R S T e f = record { only-zero = λ c s. f .only-zero c (λ j nt. s j (λ m. nt (e j m))) }
 
     pub nonzero-of-independent : (a : ℕ) (R : ℕ → Bool) → ((i : ℕ) → R i ≡ true → i < a)
-        → (J : List ℕ) → Below n J → Distinct J → IndependentOn n Q R (members J) → Chosen R J
+        → (J : List ℕ) → Below n J → Distinct J → IndependentOn n Q R (members J) → ChosenRows R J
     unfolding expansion
     nonzero-of-independent a R ra [] b none f = record { I = []; size = refl; distinct = none; among = λ k m. absurd (not-member k m); value = unfold no-rows in K .one-ne }
     nonzero-of-independent a R ra (x ∷ S) b (more nm ds) f =
         let o = nonzero-of-independent a R ra S (λ k m. b k (member-tail x S k m)) ds (independent-sub R (members S) (members (x ∷ S)) (member-tail x S) f) in
         let g : List ℕ → F = expansion K Q (o .I) in
         let d : ℕ → F = cofactor g (x ∷ S) in
-        by-cases (some? a (λ i. (R i ≡ true) × (dot K n (Q i) d ≢ 𝟘)) (λ i. Dec·and (Bool-discrete (R i) true) (Dec·not (K .decide (dot K n (Q i) d) 𝟘))))
+        by-cases (some? a (λ i. (R i ≡ true) × (dot K n (Q i) d ≢ 𝟘)) (λ i. both? (true? (R i)) (not? (K .decide (dot K n (Q i) d) 𝟘))))
         (λ h. record {
           I = h .0 ∷ o .I;
           size = ap suc (o .size);
@@ -162,6 +162,6 @@ module _ (K : Field) where
           among = λ k m. by-cases (ℕ-discrete k (h .0)) (λ e. rw e (h .2 .0)) (λ ne. o .among k (member-other (h .0) (o .I) k ne m));
           value = λ z. h .2 .1 (sym (along-dot (h .0) g (x ∷ S) b) ∙ z);
         })
-        (λ nh. absurd (o .value (sym (cofactor-head n g x S nm) ∙ f .only-zero d (cofactor-in n g (x ∷ S))
+        (λ nh. absurd (o .value (sym (cofactor-head g x S nm) ∙ f .only-zero d (cofactor-in g (x ∷ S))
         (λ i r. by-cases (K .decide (dot K n (Q i) d) 𝟘) (λ z. z) (λ nz. absurd (nh ((i, ra i r, (r, nz))))))
         x (b x (member-head x S)))))

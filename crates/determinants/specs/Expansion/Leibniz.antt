@@ -1,14 +1,15 @@
 -- The signed sum over all arrangements is the expansion row by row. Assumes nothing.
-use Prim.Native.Nat.{_+_, _<_, suc, zero, ℕ, _+_ as _plus_}
-use mathlib.Core.Path.{ap, ap₂, fun-ext, refl, sym, _∙_, _≡_}
-use mathlib.Core.Bool.{decide, decide-iff, false}
-use mathlib.Core.List.{List, [], map, _∷_}
+use Prim.Native.Nat.{ℕ, zero, suc, _+_ as _plus_, _<_}
+use mathlib.Core.Path.{_≡_, refl, sym, ap, ap₂, fun-ext, _∙_}
+use mathlib.Core.Bool.{decide, decide-iff}
+use mathlib.Core.List.{List, [], _∷_, map}
 use native.Mathlib.Decide.{decLt}
 use native.Mathlib.Nat.{suc-add, zero-add as nat-zero-add, add-left-comm}
 use native.Mathlib.Omega.{arith}
 use Rattle.residue.specs.Fields.{Field, add-zero, mul-left-comm, mul-zero, neg-mul, neg-zero, one-mul, ring}
+use Rattle.counting.specs.Bools.{not-true}
 use Rattle.counting.specs.Sets.{indicator}
-use Rattle.determinants.specs.Determinant.{arrangements, insertions, inversions, sign, smaller, Each, both, done, Ascending}
+use Rattle.determinants.specs.Determinant.{insertions, arrangements, smaller, inversions, sign, Each, done, both, Ascending}
 use Rattle.determinants.specs.Lists.Each.{each-flat, each-imp, each-map}
 use Rattle.determinants.specs.Expansion.Rows.{expansion, along, along-add, along-scale, along-zero, no-rows}
 use Rattle.determinants.specs.Expansion.Totals.{total, total-each, total-flat, total-map, total-scale, total-zero}
@@ -19,11 +20,6 @@ unfolding smaller insertions
 smaller-insert x i [] = both refl done
 smaller-insert x i (y ∷ π) = both refl (each-map (λ ρ. y ∷ ρ) (λ ρ e. rw e (add-left-comm _ _ _)) (insertions i π) (smaller-insert x i π))
 
-decide-no : {P : Type 0} (d : Dec P) → ¬ P → decide d ≡ false
-unfolding decide
-decide-no (yes p) h = absurd (h p)
-decide-no (no _) h = refl
-
 smaller-first : (x i : ℕ) (π : List ℕ) → i < x → smaller x (i ∷ π) ≡ suc (smaller x π)
 unfolding smaller indicator
 smaller-first x i π l = ap (λ b. indicator b plus smaller x π) (decide-iff (decLt i x) .1 l) ∙ omega arith
@@ -31,7 +27,7 @@ smaller-first x i π l = ap (λ b. indicator b plus smaller x π) (decide-iff (d
 smaller-above : (i : ℕ) (π : List ℕ) → Each (λ y. i < y) π → smaller i π ≡ 0
 unfolding smaller indicator
 smaller-above i [] done = refl
-smaller-above i (x ∷ π) (both p h) = ap₂ (λ b c. indicator b plus c) (decide-no (decLt x i) (λ l. omega (arith, p))) (smaller-above i π h)
+smaller-above i (x ∷ π) (both p h) = ap₂ (λ b c. indicator b plus c) (not-true (decide (decLt x i)) (λ e. omega (arith, p, decide-iff (decLt x i) .0 e))) (smaller-above i π h)
 
 above-insert : (i h : ℕ) → i < h → (π : List ℕ) → Each (λ y. i < y) π → Each (Each (λ y. i < y)) (insertions h π)
 unfolding insertions
@@ -69,8 +65,8 @@ module _ (K : Field) where
     met-entries (i ∷ π) [] = 𝟘
     met-entries (i ∷ π) (j ∷ J) = E i j · met-entries π J
 
-    abbrev pub signed : List ℕ → List ℕ → F
-    signed J π = parity π · met-entries π J
+    abbrev pub signed-product : List ℕ → List ℕ → F
+    signed-product J π = parity π · met-entries π J
 
     along-total : {A : Type 0} (i : ℕ) (f : A → List ℕ → F) (L : List A) (J : List ℕ)
         → along K E i (λ R. total K (λ x. f x R) L) J ≡ total K (λ x. along K E i (f x) J) L
@@ -79,7 +75,7 @@ module _ (K : Field) where
     along-total i f (x ∷ L) J = along-add K E i (f x) (λ R. total K (λ x. f x R) L) J ∙ ap (λ z. along K E i (f x) J + z) (along-total i f L J)
 
     insert-each : (i x : ℕ) → i < x → (π : List ℕ) (j : ℕ) (S : List ℕ)
-        → Each (λ ρ. signed (j ∷ S) (x ∷ ρ) ≡ neg (sign K (smaller x π) · E x j) · signed S ρ) (insertions i π)
+        → Each (λ ρ. signed-product (j ∷ S) (x ∷ ρ) ≡ neg (sign K (smaller x π) · E x j) · signed-product S ρ) (insertions i π)
     unfolding met-entries sign
     insert-each i x l π j S = each-imp (λ ρ e. ap (λ z. z · (E x j · met-entries ρ S))
         (parity-cons x ρ ∙ ap (λ z. sign K z · parity ρ) (e ∙ smaller-first x i π l)) ∙ turn _ _ _ _)
@@ -88,37 +84,37 @@ module _ (K : Field) where
         turn : (s p e r : F) → neg s · p · (e · r) ≡ neg (s · e) · (p · r)
         turn s p e r = simp ring
 
-    insert-along : (i : ℕ) (π : List ℕ) → Each (λ y. i < y) π → (J : List ℕ) → total K (signed J) (insertions i π) ≡ along K E i (λ R. signed R π) J
+    insert-along : (i : ℕ) (π : List ℕ) → Each (λ y. i < y) π → (J : List ℕ) → total K (signed-product J) (insertions i π) ≡ along K E i (λ R. signed-product R π) J
     unfolding insertions total along met-entries
     insert-along i [] a [] = simp ring
     insert-along i [] a (j ∷ S) = ap₂ (λ u v. u · (E i j · met-entries [] S) + v) (parity-above i [] done) (sym (neg-zero K))
         ∙ ap₂ (λ u v. u + neg v) (mul-left-comm K _ _ _) (sym (along-zero K E i (λ R. parity [] · 𝟘) (λ R. mul-zero K _) S))
     insert-along i (x ∷ π) a [] = ap₂ _+_ (mul-zero K _)
-        (total-map K (signed []) (λ ρ. x ∷ ρ) (insertions i π) ∙ total-zero K _ (λ ρ. mul-zero K _) (insertions i π)) ∙ add-zero K 𝟘
+        (total-map K (signed-product []) (λ ρ. x ∷ ρ) (insertions i π) ∙ total-zero K _ (λ ρ. mul-zero K _) (insertions i π)) ∙ add-zero K 𝟘
     insert-along i (x ∷ π) (both p a) (j ∷ S) =
         let u : F = sign K (smaller x π) · E x j in
-        let left : total K (signed (j ∷ S)) (map (λ ρ. x ∷ ρ) (insertions i π)) ≡ neg u · along K E i (λ R. signed R π) S
-        = total-map K (signed (j ∷ S)) (λ ρ. x ∷ ρ) (insertions i π) ∙ total-each K _ _ (insertions i π) (insert-each i x p π j S)
-        ∙ total-scale K (neg u) (signed S) (insertions i π) ∙ ap (λ z. neg u · z) (insert-along i π a S) in
-        let right : along K E i (λ R. signed (j ∷ R) (x ∷ π)) S ≡ u · along K E i (λ R. signed R π) S
+        let left : total K (signed-product (j ∷ S)) (map (λ ρ. x ∷ ρ) (insertions i π)) ≡ neg u · along K E i (λ R. signed-product R π) S
+        = total-map K (signed-product (j ∷ S)) (λ ρ. x ∷ ρ) (insertions i π) ∙ total-each K _ _ (insertions i π) (insert-each i x p π j S)
+        ∙ total-scale K (neg u) (signed-product S) (insertions i π) ∙ ap (λ z. neg u · z) (insert-along i π a S) in
+        let right : along K E i (λ R. signed-product (j ∷ R) (x ∷ π)) S ≡ u · along K E i (λ R. signed-product R π) S
         = ap (λ g. along K E i g S) (fun-ext (λ R. ap (λ z. z · (E x j · met-entries π R)) (parity-cons x π) ∙ turn _ _ _ _))
-        ∙ along-scale K E i u (λ R. signed R π) S in
+        ∙ along-scale K E i u (λ R. signed-product R π) S in
         ap₂ (λ y z. y · (E i j · (met-entries (x ∷ π) S)) + z) (parity-above i (x ∷ π) (both p a)) (left ∙ neg-mul K _ _ ∙ ap neg (sym right))
-        ∙ ap (λ z. z + neg (along K E i (λ R. signed (j ∷ R) (x ∷ π)) S)) (mul-left-comm K _ _ _)
+        ∙ ap (λ z. z + neg (along K E i (λ R. signed-product (j ∷ R) (x ∷ π)) S)) (mul-left-comm K _ _ _)
       where
         turn : (s p e r : F) → s · p · (e · r) ≡ s · e · (p · r)
         turn s p e r = simp ring
 
-    start : (J : List ℕ) → total K (signed J) ([] ∷ []) ≡ no-rows K E J
+    start : (J : List ℕ) → total K (signed-product J) ([] ∷ []) ≡ no-rows K E J
     unfolding total met-entries no-rows inversions sign
     start [] = simp ring
     start (j ∷ S) = simp ring
 
     -- the signed sum over all arrangements
-    pub leibniz : (I : List ℕ) → Ascending I → (J : List ℕ) → total K (signed J) (arrangements I) ≡ expansion K E I J
+    pub leibniz : (I : List ℕ) → Ascending I → (J : List ℕ) → total K (signed-product J) (arrangements I) ≡ expansion K E I J
     unfolding arrangements expansion
     leibniz [] a J = start J
-    leibniz (i ∷ I) a J = total-flat K (signed J) (insertions i) (arrangements I)
+    leibniz (i ∷ I) a J = total-flat K (signed-product J) (insertions i) (arrangements I)
         ∙ total-each K _ _ (arrangements I) (each-imp (λ π b. insert-along i π b J) (arrangements I) (above-arranged i I (a .0)))
-        ∙ sym (along-total i (λ π R. signed R π) (arrangements I) J)
+        ∙ sym (along-total i (λ π R. signed-product R π) (arrangements I) J)
         ∙ ap (λ g. along K E i g J) (fun-ext (λ R. leibniz I (a .1) R))

@@ -1,5 +1,5 @@
 -- A unit column is struck out together with its row, and so are several: what stays is a minor, up to sign. Assumes nothing.
-use Prim.Native.Nat.{ℕ, _+_}
+use Prim.Native.Nat.{ℕ}
 use mathlib.Core.Path.{_≡_, refl, sym, ap, ap₂, _∙_}
 use mathlib.Core.List.{List, [], _∷_}
 use mathlib.Core.Logic.{_≢_, inl, by-cases}
@@ -7,8 +7,8 @@ use native.Mathlib.Decide.{ℕ-discrete}
 use Rattle.residue.specs.Fields.{Field, one-mul, ring}
 use Rattle.counting.specs.Sets.{_∈_, _⊆_}
 use Rattle.determinants.specs.Determinant.{Letter, Each, done, both}
-use Rattle.determinants.specs.Statements.{rows-of, columns-of, members, Distinct, none, more, without, rest}
-use Rattle.determinants.specs.Lists.Members.{member-head, member-other, member-tail, member-more, not-member}
+use Rattle.determinants.specs.Statements.{members, Distinct, none, more, without, rest, rows-of, columns-of}
+use Rattle.determinants.specs.Lists.Members.{member-head, member-tail, member-other, member-more, not-member}
 use Rattle.determinants.specs.Lists.Without.{without-head, without-tail, without-other, without-apart, without-distinct}
 use Rattle.determinants.specs.Expansion.Rows.{expansion, along, along-zero, no-rows}
 use Rattle.determinants.specs.Expansion.Signs.{Signed, sign-times, sign-neg, front-row}

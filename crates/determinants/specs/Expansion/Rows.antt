@@ -1,9 +1,8 @@
 -- Expansion along a row, and the determinant that it gives, row by row. Assumes nothing.
 use Prim.Native.Nat.{ℕ}
-use mathlib.Core.Path.{ap, ap₂, refl, _∙_, _≡_}
+use mathlib.Core.Path.{_≡_, refl, ap, ap₂, _∙_}
 use mathlib.Core.List.{List, [], _∷_}
-use Rattle.residue.specs.Fields.{Field, ring}
-use Rattle.determinants.specs.Linear.{neg-neg}
+use Rattle.residue.specs.Fields.{Field, neg-neg, ring}
 
 module _ (K : Field) (Q : ℕ → ℕ → K .F) where
   open Field K using (F, 𝟘, 𝟙, _+_, _·_, neg)

@@ -4,12 +4,11 @@ use mathlib.Core.Path.{_≡_, refl, sym, ap, ap₂, subst, fun-ext, _∙_}
 use mathlib.Core.List.{List, [], _∷_}
 use mathlib.Core.Logic.{_≢_, _⊎_, inl, inr, by-cases}
 use native.Mathlib.Decide.{ℕ-discrete}
-use Rattle.residue.specs.Fields.{Field, neg-mul, neg-zero, one-mul, unmul}
+use Rattle.residue.specs.Fields.{Field, neg-mul, neg-neg, neg-zero, one-mul, unmul}
 use Rattle.counting.specs.Sets.{_∈_}
 use Rattle.determinants.specs.Statements.{members, without, UpToSign}
 use Rattle.determinants.specs.Lists.Members.{member-other, not-member}
 use Rattle.determinants.specs.Lists.Without.{without-head, without-tail}
-use Rattle.determinants.specs.Linear.{neg-neg}
 use Rattle.determinants.specs.Expansion.Rows.{expansion, along, along-scale, along-swap}
 
 module _ (K : Field) where
@@ -46,32 +45,32 @@ module _ (K : Field) where
     pub is-sign : IsSign factor
     pub same : (R : List ℕ) → f R ≡ factor · g R
 
-  pub same-sign : (f : List ℕ → F) → Alike f f
-  same-sign f = record { factor = 𝟙; is-sign = inl refl; same = λ R. sym (one-mul K _) }
+  pub alike-refl : (f : List ℕ → F) → Alike f f
+  alike-refl f = record { factor = 𝟙; is-sign = inl refl; same = λ R. sym (one-mul K _) }
 
-  pub sign-trans : (f g h : List ℕ → F) → Alike f g → Alike g h → Alike f h
-  sign-trans f g h e d = record {
+  pub alike-trans : (f g h : List ℕ → F) → Alike f g → Alike g h → Alike f h
+  alike-trans f g h e d = record {
     factor = e .factor · d .factor;
     is-sign = sign-times (e .factor) (d .factor) (e .is-sign) (d .is-sign);
     same = λ R. e .same R ∙ ap (λ z. e .factor · z) (d .same R) ∙ sym (K .mul-assoc _ _ _);
   }
 
   -- one is zero where the other is
-  pub sign-keeps : (f g : List ℕ → F) → Alike f g → (R : List ℕ) → g R ≢ 𝟘 → f R ≢ 𝟘
-  sign-keeps f g e R nz z = nz (unmul K (e .factor) (g R) (sign-nonzero (e .factor) (e .is-sign)) (sym (e .same R) ∙ z))
+  pub alike-nonzero : (f g : List ℕ → F) → Alike f g → (R : List ℕ) → g R ≢ 𝟘 → f R ≢ 𝟘
+  alike-nonzero f g e R nz z = nz (unmul K (e .factor) (g R) (sign-nonzero (e .factor) (e .is-sign)) (sym (e .same R) ∙ z))
 
 module _ (K : Field) (Q : ℕ → ℕ → K .F) where
   open Field K using (F, 𝟙, neg)
 
-  pub sign-along : (a : ℕ) (f g : List ℕ → F) → Alike K f g → Alike K (along K Q a f) (along K Q a g)
-  sign-along a f g e = record {
+  pub alike-along : (a : ℕ) (f g : List ℕ → F) → Alike K f g → Alike K (along K Q a f) (along K Q a g)
+  alike-along a f g e = record {
     factor = e .factor;
     is-sign = e .is-sign;
     same = λ R. ap (λ h. along K Q a h R) (fun-ext (e .same)) ∙ along-scale K Q a (e .factor) g R;
   }
 
-  pub sign-swap : (i a : ℕ) (f : List ℕ → F) → Alike K (along K Q a (along K Q i f)) (along K Q i (along K Q a f))
-  sign-swap i a f = record {
+  pub alike-swap : (i a : ℕ) (f : List ℕ → F) → Alike K (along K Q a (along K Q i f)) (along K Q i (along K Q a f))
+  alike-swap i a f = record {
     factor = neg 𝟙;
     is-sign = inr refl;
     same = λ R. along-swap K Q a i f R ∙ ap neg (sym (one-mul K _)) ∙ sym (neg-mul K _ _);
@@ -83,6 +82,6 @@ module _ (K : Field) (Q : ℕ → ℕ → K .F) where
   front-row r [] m = absurd (not-member r m)
   front-row r (a ∷ I) m = by-cases (ℕ-discrete a r)
       (λ e. subst (λ L. Alike K (along K Q a (expansion K Q I)) (along K Q r (expansion K Q L))) (sym (ap (λ y. without r (y ∷ I)) e ∙ without-head r I))
-      (subst (λ y. Alike K (along K Q a (expansion K Q I)) (along K Q y (expansion K Q I))) e (same-sign K _)))
+      (subst (λ y. Alike K (along K Q a (expansion K Q I)) (along K Q y (expansion K Q I))) e (alike-refl K _)))
       (λ ne. subst (λ L. Alike K (along K Q a (expansion K Q I)) (along K Q r (expansion K Q L))) (sym (without-tail r a I ne))
-      (sign-trans K _ _ _ (sign-along a _ _ (front-row r I (member-other a I r (λ e. ne (sym e)) m))) (sign-swap r a (expansion K Q (without r I)))))
+      (alike-trans K _ _ _ (alike-along a _ _ (front-row r I (member-other a I r (λ e. ne (sym e)) m))) (alike-swap r a (expansion K Q (without r I)))))

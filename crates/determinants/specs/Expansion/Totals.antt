@@ -1,9 +1,8 @@
 -- Sums over lists. Assumes nothing.
-use Prim.Native.Nat.{_+_}
-use mathlib.Core.Path.{ap, ap₂, refl, sym, _∙_, _≡_}
-use mathlib.Core.List.{_++_, List, [], flatMap, map, _∷_}
+use mathlib.Core.Path.{_≡_, refl, sym, ap, ap₂, _∙_}
+use mathlib.Core.List.{List, [], _∷_, _++_, map, flatMap}
 use Rattle.residue.specs.Fields.{Field, add-zero, mul-zero, zero-add}
-use Rattle.determinants.specs.Determinant.{Each, both, done}
+use Rattle.determinants.specs.Determinant.{Each, done, both}
 
 module _ (K : Field) where
   open Field K using (F, 𝟘, _+_, _·_)

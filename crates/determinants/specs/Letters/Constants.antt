@@ -1,44 +1,32 @@
 -- A square part without letters: its determinant is not zero exactly where its columns are independent on its rows; and order 0. Assumes nothing.
-use Prim.Native.Nat.{ℕ, zero, suc, _<_}
+use Prim.Native.Nat.{ℕ, _<_}
 use mathlib.Core.Path.{_≡_, refl, sym, ap, subst, _∙_}
 use mathlib.Core.Bool.{Bool, false, false≢true}
 use mathlib.Core.List.{List, [], _∷_, flatMap}
 use mathlib.Core.Logic.{_≢_, _↔_, by-cases}
-use native.Mathlib.Decide.{ℕ-discrete}
 use native.Mathlib.Omega.{arith}
 use lib.ListN.{length, getD}
 use Rattle.residue.specs.Fields.{Field}
 use Rattle.counting.specs.Bools.{true?}
 use Rattle.counting.specs.Injections.{#-strict}
 use Rattle.counting.specs.Sets.{Set, _∈_, _⊆_}
-use Rattle.rank.specs.Linear.Independence.{Indep, dot}
+use Rattle.rank.specs.Linear.Independence.{dot, Indep}
 use Rattle.determinants.specs.Determinant.{arrangements, inversions, sign, Letter, same-letters, collect, product, determinant, coefficient-at, NotZero}
 use Rattle.determinants.specs.Determinant.{done, SquarePart, NonzeroOrder}
-use Rattle.determinants.specs.Statements.{LettersOf, members, Below, Distinct}
+use Rattle.determinants.specs.Statements.{members, Distinct, LettersOf}
 use Rattle.determinants.specs.Lists.Among.{ascending-same}
 use Rattle.determinants.specs.Lists.Each.{each-head}
-use Rattle.determinants.specs.Lists.Members.{member-head, member-other, member-tail, not-member, #-members}
-use Rattle.determinants.specs.Lists.Order.{each-members, ascending-distinct, sort, sort-members, sort-ascending}
-use Rattle.determinants.specs.Expansion.Cofactors.{IndependentOn, independent-of-nonzero, nonzero-of-independent, Chosen}
+use Rattle.determinants.specs.Lists.Members.{member-head, number-member, member-number, #-members}
+use Rattle.determinants.specs.Lists.Order.{ascending-distinct, sort, sort-members, sort-ascending}
+use Rattle.determinants.specs.Expansion.Cofactors.{IndependentOn, independent-of-nonzero, nonzero-of-independent, ChosenRows}
 use Rattle.determinants.specs.Expansion.Rows.{expansion}
 use Rattle.determinants.specs.Expansion.Sorting.{sort-value}
 use Rattle.determinants.specs.Letters.Coefficients.{coefficient-constants}
 use Rattle.determinants.specs.Letters.Terms.{only-letters}
-
--- the numbers of a list are its members
-number-member : (I : List ℕ) (s : ℕ) → s < length I → getD I s 0 ∈ members I
-number-member [] s l = absurd (omega arith)
-number-member (i ∷ I) zero l = member-head i I
-number-member (i ∷ I) (suc s) l = member-tail i I (getD I s 0) (number-member I s (omega arith))
-
-member-number : (I : List ℕ) (i : ℕ) → i ∈ members I → (s : ℕ) × (s < length I) × (getD I s 0 ≡ i)
-member-number [] i m = absurd (not-member i m)
-member-number (j ∷ I) i m = by-cases (ℕ-discrete i j)
-    (λ e. (0, omega arith, sym e))
-    (λ ne. let w = member-number I i (member-other j I i ne m) in (suc (w .0), omega (arith, w .1), w .2))
+use Rattle.determinants.specs.Parts.Within.{rows-below, columns-below}
 
 module _ (K : Field) (Q : ℕ → ℕ → K .F) (m n : ℕ) (E : Set) (k : ℕ) (S : SquarePart m n E k) where
-  open Field K using (F, 𝟘)
+  open Field K using (𝟘)
 
   abbrev I : List ℕ
   I = S .rows
@@ -46,14 +34,8 @@ module _ (K : Field) (Q : ℕ → ℕ → K .F) (m n : ℕ) (E : Set) (k : ℕ) 
   abbrev J : List ℕ
   J = S .columns
 
-  below : Below n J
-  below x e = each-members (λ x. (x < n) × (x ∈ E)) J (S .columns-within) x e .0
-
-  rows-below : Below m I
-  rows-below = each-members (λ i. i < m) I (S .rows-within)
-
   -- the columns are independent on the rows: of the table with row number s of the part as its row s
-  abbrev pub Independent : Type 0
+  abbrev Independent : Type 0
   Independent = Indep K k n (λ s. Q (getD I s 0)) (members J)
 
   independent-there : IndependentOn K n Q (members I) (members J) → Independent
@@ -75,16 +57,16 @@ module _ (K : Field) (Q : ℕ → ℕ → K .F) (m n : ℕ) (E : Set) (k : ℕ) 
       (λ nw. absurd (omega (
         arith,
         e,
-        #-members m L d (λ j w. rows-below j (h j w)),
-        #-members m I (ascending-distinct I (S .rows-ascend)) rows-below,
-        #-strict m (members L) (members I) (λ j _ w. h j w) i (rows-below i a) a nw,
+        #-members m L d (λ j w. rows-below m n E k S j (h j w)),
+        #-members m I (ascending-distinct I (S .rows-ascend)) (rows-below m n E k S),
+        #-strict m (members L) (members I) (λ j _ w. h j w) i (rows-below m n E k S i a) a nw,
       ))))
 
   expansion-iff : (expansion K Q I J ≢ 𝟘) ↔ Independent
   expansion-iff = (
-    λ nz. independent-there (independent-of-nonzero K n Q I J below nz),
-    λ f. let o : Chosen K n Q (members I) J
-        = nonzero-of-independent K n Q m (members I) rows-below J below (ascending-distinct J (S .columns-ascend)) (independent-back f) in
+    λ nz. independent-there (independent-of-nonzero K n Q I J (columns-below m n E k S) nz),
+    λ f. let o : ChosenRows K n Q (members I) J
+        = nonzero-of-independent K n Q m (members I) (rows-below m n E k S) J (columns-below m n E k S) (ascending-distinct J (S .columns-ascend)) (independent-back f) in
         subst (λ L. expansion K Q L J ≢ 𝟘) (all-rows (o .I) (o .distinct) (o .among) (o .size ∙ S .k-columns ∙ sym (S .k-rows)))
         (sort-value K Q (o .I) J (o .value)),
   )
@@ -105,9 +87,12 @@ module _ (K : Field) (Q : ℕ → ℕ → K .F) (m n : ℕ) (E : Set) (k : ℕ) 
         only (x ∷ l) h nz = absurd (false≢true (sym (no-letter (x .0) (x .1) (h .rows-within (x .0) (member-head (x .0) _)) (h .columns-within (x .1) (member-head (x .1) _)))
             ∙ each-head (h .are-letters)))
 
--- order 0
-pub order-zero : (K : Field) (Q : ℕ → ℕ → K .F) (T : ℕ → ℕ → Bool) (m n : ℕ) (E : Set) → NonzeroOrder K Q T m n E 0
+-- order 0: the determinant is 1
+pub empty-determinant : (K : Field) (Q : ℕ → ℕ → K .F) (T : ℕ → ℕ → Bool) → coefficient-at K Q T [] [] [] ≡ K .𝟙
 unfolding determinant arrangements product flatMap same-letters collect inversions sign
+empty-determinant K Q T = K .add-zero _ ∙ K .mul-one (K .𝟙)
+
+pub order-zero : (K : Field) (Q : ℕ → ℕ → K .F) (T : ℕ → ℕ → Bool) (m n : ℕ) (E : Set) → NonzeroOrder K Q T m n E 0
 order-zero K Q T m n E = (
   record {
     rows = [];
@@ -119,5 +104,5 @@ order-zero K Q T m n E = (
     k-rows = refl;
     k-columns = refl;
   },
-  ([], λ z. K .one-ne (sym (K .add-zero _ ∙ K .mul-one (K .𝟙)) ∙ z)),
+  ([], λ z. K .one-ne (sym (empty-determinant K Q T) ∙ z)),
 )

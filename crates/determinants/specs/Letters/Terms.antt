@@ -8,10 +8,10 @@ use mathlib.Core.Logic.{_≢_}
 use Rattle.residue.specs.Fields.{Field}
 use Rattle.determinants.specs.Determinant.{arrangements, inversions, sign, Letter, Term, by-number, by-letter, product, determinant, coefficient-at}
 use Rattle.determinants.specs.Determinant.{Each, done, both, Ascending}
-use Rattle.determinants.specs.Statements.{rows-of, columns-of, LettersOf, members, Distinct, none, more, Rearranged, Among}
+use Rattle.determinants.specs.Statements.{members, Distinct, none, more, Rearranged, Among, rows-of, columns-of, LettersOf}
 use Rattle.determinants.specs.Lists.Among.{each-among, same-list}
 use Rattle.determinants.specs.Lists.Each.{each-append, each-flat, each-map}
-use Rattle.determinants.specs.Lists.Members.{member-more, member-tail, not-member}
+use Rattle.determinants.specs.Lists.Members.{member-tail, member-more, not-member}
 use Rattle.determinants.specs.Lists.Order.{each-members, members-each, ascending-distinct}
 use Rattle.determinants.specs.Arrangements.{arranged}
 use Rattle.determinants.specs.Letters.Collecting.{collect-some}

@@ -2,13 +2,13 @@
 use Prim.Native.Nat.{ℕ, _<_}
 use mathlib.Core.Path.{_≡_, refl, sym, ap, ap₂, subst, _∙_}
 use mathlib.Core.List.{List, [], _∷_, map}
-use mathlib.Core.Logic.{_⊎_, inl, inr, ⊎-elim, by-cases}
+use mathlib.Core.Logic.{inl, inr, ⊎-elim, by-cases}
 use native.Mathlib.Decide.{ℕ-discrete}
 use native.Mathlib.Omega.{arith}
 use Rattle.counting.specs.Sets.{_∈_, _⊆_}
 use Rattle.determinants.specs.Determinant.{Each, done, both, Ascending}
 use Rattle.determinants.specs.Statements.{members, Distinct, more, Among}
-use Rattle.determinants.specs.Lists.Members.{member-head, member-other, member-tail, not-member}
+use Rattle.determinants.specs.Lists.Members.{member-head, member-tail, member-other, not-member}
 use Rattle.determinants.specs.Lists.Order.{each-members}
 
 module _ {A : Type 0} where

@@ -1,6 +1,6 @@
 -- The laws of a statement about each member of a list. Assumes nothing.
-use mathlib.Core.List.{_++_, List, [], flatMap, map, _∷_}
-use Rattle.determinants.specs.Determinant.{Each, both, done}
+use mathlib.Core.List.{List, [], _∷_, _++_, map, flatMap}
+use Rattle.determinants.specs.Determinant.{Each, done, both}
 
 module _ {A : Type 0} where
   pub each-head : {P : A → Type 0} {x : A} {L : List A} → Each P (x ∷ L) → P x

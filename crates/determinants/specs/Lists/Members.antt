@@ -1,15 +1,15 @@
 -- The members of a list of numbers, and the list of a set. Assumes nothing.
-use Prim.Native.Nat.{_+_, _<_, suc, zero, ℕ}
-use mathlib.Core.Path.{ap, fun-ext, refl, sym, _∙_, _≡_}
-use mathlib.Core.Bool.{Bool, cond, false, false≢true, true}
+use Prim.Native.Nat.{ℕ, zero, suc, _+_, _<_}
+use mathlib.Core.Path.{_≡_, refl, sym, ap, _∙_}
+use mathlib.Core.Bool.{Bool, true, false, cond, false≢true}
 use mathlib.Core.List.{List, [], _∷_}
-use mathlib.Core.Logic.{by-cases, _≢_}
+use mathlib.Core.Logic.{_≢_, by-cases}
 use native.Mathlib.Decide.{ℕ-discrete}
 use native.Mathlib.Omega.{arith}
-use lib.ListN.{length}
-use Rattle.counting.specs.Counts.{#-insert, #-none, set-other, set-same}
-use Rattle.counting.specs.Sets.{#, Set, indicator, set, _∈_, _⊆_}
-use Rattle.determinants.specs.Statements.{Below, Distinct, members, more, none}
+use lib.ListN.{length, getD}
+use Rattle.counting.specs.Counts.{set-same, set-other, #-insert, #-none}
+use Rattle.counting.specs.Sets.{Set, _∈_, _⊆_, indicator, #}
+use Rattle.determinants.specs.Statements.{members, Distinct, none, more}
 
 pub member-head : (j : ℕ) (S : List ℕ) → j ∈ members (j ∷ S)
 unfolding members
@@ -30,6 +30,10 @@ pub not-member : (k : ℕ) → members [] k ≢ true
 unfolding members
 not-member k e = false≢true e
 
+-- the members lie below n
+abbrev pub Below : ℕ → List ℕ → Type 0
+Below n J = (j : ℕ) → j ∈ members J → j < n
+
 -- how many members a list has
 pub #-members : (n : ℕ) (J : List ℕ) → Distinct J → Below n J → # n (members J) ≡ length J
 unfolding members
@@ -37,15 +41,17 @@ unfolding members
 #-members n (j ∷ J) (more nm d) b =
     #-insert n (members J) j (b j (member-head j J)) nm ∙ ap suc (#-members n J d (λ k m. b k (member-tail j J k m)))
 
--- two members are put in in either order
-pub set-set : (S : Set) (i a : ℕ) → set (set S i true) a true ≡ set (set S a true) i true
-set-set S i a = fun-ext (λ k. by-cases (ℕ-discrete k i)
-    (λ e. rw e (by-cases (ℕ-discrete i a)
-    (λ q. ap (set (set S i true) a true) q ∙ set-same _ a true ∙ sym (set-same _ i true))
-    (λ nq. set-other _ a true i nq ∙ set-same S i true ∙ sym (set-same _ i true))))
-    (λ ne. by-cases (ℕ-discrete k a)
-    (λ q. rw q (set-same _ a true ∙ sym (set-other _ i true a (λ w. ne (q ∙ w)) ∙ set-same S a true)))
-    (λ nq. set-other _ a true k nq ∙ set-other S i true k ne ∙ sym (set-other _ i true k ne ∙ set-other S a true k nq))))
+-- its members are those that stand at its numbers
+pub number-member : (I : List ℕ) (s : ℕ) → s < length I → getD I s 0 ∈ members I
+number-member [] s l = absurd (omega arith)
+number-member (i ∷ I) zero l = member-head i I
+number-member (i ∷ I) (suc s) l = member-tail i I (getD I s 0) (number-member I s (omega arith))
+
+pub member-number : (I : List ℕ) (i : ℕ) → i ∈ members I → (s : ℕ) × (s < length I) × (getD I s 0 ≡ i)
+member-number [] i m = absurd (not-member i m)
+member-number (j ∷ I) i m = by-cases (ℕ-discrete i j)
+    (λ e. (0, omega arith, sym e))
+    (λ ne. let w = member-number I i (member-other j I i ne m) in (suc (w .0), omega (arith, w .1), w .2))
 
 -- the numbers below n in S, as a list, the largest first
 pub list : ℕ → Set → List ℕ

@@ -4,14 +4,15 @@ use mathlib.Core.Path.{_≡_, refl, sym, ap, subst, _∙_}
 use mathlib.Core.Bool.{true}
 use mathlib.Core.List.{List, [], _∷_, map}
 use mathlib.Core.Logic.{_≢_, by-cases}
-use native.Mathlib.Decide.{decLt, ℕ-discrete}
+use native.Mathlib.Decide.{ℕ-discrete, decLt}
 use native.Mathlib.Omega.{arith}
 use lib.ListN.{length}
+use Rattle.counting.specs.Counts.{set-set}
 use Rattle.counting.specs.Sets.{_∈_, choose, set}
 use Rattle.determinants.specs.Determinant.{Each, done, both, Ascending}
 use Rattle.determinants.specs.Statements.{members, Distinct, none, more}
 use Rattle.determinants.specs.Lists.Each.{each-imp}
-use Rattle.determinants.specs.Lists.Members.{member-head, member-other, member-tail, not-member, set-set}
+use Rattle.determinants.specs.Lists.Members.{member-head, member-tail, member-other, not-member}
 
 -- a statement about each number in a list, by its members
 pub each-members : (P : ℕ → Type 0) (J : List ℕ) → Each P J → (k : ℕ) → k ∈ members J → P k

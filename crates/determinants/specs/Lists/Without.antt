@@ -8,7 +8,7 @@ use native.Mathlib.Decide.{ℕ-discrete}
 use Rattle.counting.specs.Sets.{_∈_, _⊆_, choose}
 use Rattle.determinants.specs.Determinant.{Ascending}
 use Rattle.determinants.specs.Statements.{members, Distinct, none, more, without, rest}
-use Rattle.determinants.specs.Lists.Members.{member-head, member-other, member-tail, member-more, not-member}
+use Rattle.determinants.specs.Lists.Members.{member-head, member-tail, member-other, member-more, not-member}
 use Rattle.determinants.specs.Lists.Order.{each-members, members-each, ascending-distinct}
 
 pub without-head : (i : ℕ) (I : List ℕ) → without i (i ∷ I) ≡ I
@@ -20,7 +20,7 @@ unfolding without choose
 without-tail i x I h = elim (ℕ-discrete x i) as (λ d. choose d I (x ∷ without i I) ≡ x ∷ without i I) [ yes e ↦ absurd (h e) | no ne ↦ refl ]
 
 -- a statement about a list without i, of its two cases
-without-cases : (P : List ℕ → Type 0) (i x : ℕ) (I : List ℕ) → (x ≡ i → P I) → (x ≢ i → P (x ∷ without i I)) → P (without i (x ∷ I))
+pub without-cases : (P : List ℕ → Type 0) (i x : ℕ) (I : List ℕ) → (x ≡ i → P I) → (x ≢ i → P (x ∷ without i I)) → P (without i (x ∷ I))
 without-cases P i x I f g = by-cases (ℕ-discrete x i)
     (λ e. subst (λ y. P (without i (y ∷ I))) (sym e) (subst P (sym (without-head i I)) (f e)))
     (λ ne. subst P (sym (without-tail i x I ne)) (g ne))

@@ -1,21 +1,21 @@
 -- A layered model as one table: its legal assignments are those of the table. Assumes nothing.
-use Prim.Native.Nat.{_+_, _-_, _<_, ℕ, _≤_}
-use mathlib.Core.Path.{ap, refl, sym, _∙_, _≡_}
-use mathlib.Core.Bool.{Bool, false, false≢true, true, true≢false}
+use Prim.Native.Nat.{ℕ, _+_, _-_, _≤_, _<_}
+use mathlib.Core.Path.{_≡_, refl, sym, ap, _∙_}
+use mathlib.Core.Bool.{Bool, true, false, true≢false, false≢true}
 use native.Mathlib.Omega.{arith}
 use Rattle.residue.specs.Fields.{Field, zero-mul}
 use Rattle.counting.specs.Beside.{beside}
 use Rattle.counting.specs.Blocks.{beside-high, beside-low, low-or-high}
 use Rattle.counting.specs.Counts.{#-ext}
 use Rattle.rank.specs.Layered.Duality.{rank-reached, size-le-rank}
-use Rattle.rank.specs.Layered.Model.{Assignment, Legal, Model, Seat, constant, is-constant, is-placed, out, row, size}
+use Rattle.rank.specs.Layered.Model.{Model, Seat, out, constant, row, Assignment, is-placed, is-constant, Legal, size}
 use Rattle.rank.specs.Layered.Rank.{rank}
 use Rattle.rank.specs.Linear.Independence.{dot}
 use Rattle.rank.specs.Linear.Sums.{dot-zero}
 use Rattle.determinants.specs.ModelTables.{LayeredOrder, all-constants, all-letters}
 use Rattle.determinants.specs.Assignments.FromDeterminant.{legal-of-order}
 use Rattle.determinants.specs.Assignments.ToDeterminant.{order-of-legal}
-use Rattle.determinants.specs.Assignments.Legal.{LegalOfSize, LegalOn, row-inj}
+use Rattle.determinants.specs.Assignments.Legal.{LegalOfSize, LegalOn}
 
 -- a seat with its row moved: the table has row a + r for row r of the model
 abbrev moved : (ℕ → ℕ) → Seat → Seat
@@ -26,7 +26,7 @@ moved f (row r) = row (f r)
 moved-row : (f : ℕ → ℕ) (s : Seat) (q : ℕ) → moved f s ≡ row q → (r : ℕ) × (s ≡ row r) × (q ≡ f r)
 moved-row f out q e = absurd (false≢true (ap is-placed e))
 moved-row f constant q e = absurd (true≢false (ap is-constant e))
-moved-row f (row r) q e = (r, refl, sym (row-inj e))
+moved-row f (row r) q e = let p : q ≡ f r = cc in (r, refl, p)
 
 moved-placed : (f : ℕ → ℕ) (s : Seat) → is-placed (moved f s) ≡ is-placed s
 moved-placed f out = refl

@@ -1,7 +1,7 @@
 -- A mixed model: the legal assignments of the model divided by a set of rows are those of its table. Assumes nothing.
 use Prim.Native.Nat.{ℕ, _≤_}
-use mathlib.Core.Path.{ap, refl, sym, _∙_, _≡_}
-use mathlib.Core.Bool.{cond, false, false≢true, not, true}
+use mathlib.Core.Path.{_≡_, refl, sym, ap, _∙_}
+use mathlib.Core.Bool.{true, false, not, cond, false≢true}
 use native.Mathlib.Omega.{arith}
 use Rattle.residue.specs.Fields.{Field, zero-mul}
 use Rattle.counting.specs.Bools.{and-in, and-left, and-right, not-in, not-of, not-true, true?}
@@ -32,9 +32,9 @@ module _ (X : Mixed) where
   row-out I i e = ap (λ b x. cond b (Q i x) 𝟘) e
 
   on-of-legal : (I : Set) (A : Assignment) → Part m (λ i. true) I → Legal (divided X I) A → LegalOn K m n Q T (λ x. true) I A
-  on-of-legal I A part h = record {
+  on-of-legal I A contribution h = record {
     columns = h .offered;
-    rows = λ i e. part i e .0;
+    rows = λ i e. contribution i e .0;
     independent = record {
       only-zero = λ c s z. h .independent .only-zero c s (λ i l. elim (true? (I i)) [
         | yes e ↦ ap (λ f. dot K n f c) (row-in I i e) ∙ z i e

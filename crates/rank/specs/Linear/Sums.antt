@@ -1,7 +1,7 @@
 -- The laws of sums and of the product of a row and coefficients. Assumes nothing.
 use Prim.Native.Nat.{ℕ, zero, suc, _<_, _+_ as _ℕ+_}
 use mathlib.Core.Logic.{_≢_, by-cases}
-use mathlib.Core.Path.{_≡_, refl, sym, ap, _∙_}
+use mathlib.Core.Path.{_≡_, refl, sym, ap, ap₂, fun-ext, _∙_}
 use native.Mathlib.Decide.{ℕ-discrete}
 use native.Mathlib.Omega.{arith}
 use Rattle.residue.specs.Fields.{Field, ring, zero-add, mul-zero, add-mul}
@@ -73,6 +73,20 @@ module _ (K : Field) where
       (λ d. simp (d, set-same, e, ring)) (λ nd. simp (set-other, ring)))
       ∙ Σ-add n (λ k. a k · c k) (set (λ k. 𝟘) j (a j · v))
       ∙ ap (λ x. dot K n a c + x) (Σ-one n _ j l (λ k m nd. set-other _ j _ k nd) ∙ set-same _ j _)
+
+  -- linear in the coefficients
+  pub dot-mix : (n : ℕ) (a : ℕ → F) (s t : F) (c d : ℕ → F) → dot K n a (λ k. s · c k + t · d k) ≡ s · dot K n a c + t · dot K n a d
+  unfolding dot
+  dot-mix n a s t c d = ap (Σ K n) (fun-ext (λ k. turn (a k) s (c k) t (d k))) ∙ Σ-add n (λ k. s · (a k · c k)) (λ k. t · (a k · d k))
+      ∙ ap₂ _+_ (Σ-scale n s (λ k. a k · c k)) (Σ-scale n t (λ k. a k · d k))
+    where
+      turn : (x s c t d : F) → x · (s · c + t · d) ≡ s · (x · c) + t · (x · d)
+      turn x s c t d = simp ring
+
+  -- one coefficient alone
+  pub dot-unit : (n : ℕ) (a : ℕ → F) (j : ℕ) (v : F) → j < n → dot K n a (set (λ _. 𝟘) j v) ≡ a j · v
+  dot-unit n a j v l = dot-one n a _ j l (λ k m nd. ap (λ z. a k · z) (set-other (λ _. 𝟘) j v k nd) ∙ mul-zero K (a k))
+      ∙ ap (λ z. a j · z) (set-same (λ _. 𝟘) j v)
 
   -- the first m columns and the next n
   Σ-plus : (m n : ℕ) (f : ℕ → F) → Σ K (m ℕ+ n) f ≡ Σ K m f + Σ K n (λ x. f (m ℕ+ x))
