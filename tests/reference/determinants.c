@@ -6,7 +6,7 @@
 /* A set of letters: bit i * BRUTE_COLUMNS + x for that of row i and column x. */
 typedef Set Letters;
 
-/* The arrangements of BRUTE_COLUMNS rows. A mixed table, whose places may give two terms each, has half as many columns. */
+/* The arrangements of BRUTE_COLUMNS rows. In a mixed table, whose places may give two terms each, a part has at most half that order. */
 enum { TABLE_ROWS = 8, MOST_TERMS = 720 };
 
 _Static_assert(TABLE_ROWS * BRUTE_COLUMNS <= 8 * sizeof(Letters), "too many letters");

@@ -1,4 +1,5 @@
-/* The rank that textbooks mean, by determinants whose terms are collected by their letters. For few rows and columns only. */
+/* The rank that textbooks mean, by determinants whose terms are collected by their letters. For models that are enumerated: up to
+ * 8 rows in all, and BRUTE_COLUMNS columns, of the layered form where they are mixed. */
 #ifndef DETERMINANTS_H
 #define DETERMINANTS_H
 

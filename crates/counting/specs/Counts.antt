@@ -73,7 +73,7 @@ pub set-other : {A : Type 0} (f : ℕ → A) (j : ℕ) (v : A) (k : ℕ) → k �
 unfolding set choose
 set-other f j v k h = elim (ℕ-discrete k j) as (λ d. choose d v (f k) ≡ f k) [ yes e ↦ absurd (h e) | no ne ↦ refl ]
 
--- members are put in in either order
+-- two members may be put in in either order
 pub set-set : (S : Set) (i a : ℕ) → set (set S i true) a true ≡ set (set S a true) i true
 set-set S i a = fun-ext (λ k. by-cases (ℕ-discrete k i)
     (λ e. rw e (by-cases (ℕ-discrete i a)
