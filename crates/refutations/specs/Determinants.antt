@@ -1,9 +1,9 @@
--- Wrong determinants: by each of these definitions the largest order is not the rank of a small model. Assumes nothing.
-use Prim.Native.Nat.{ℕ, _<_, _+_, _≤_}
-use mathlib.Core.Path.{_≡_, refl, sym, ap₂, subst, _∙_}
+-- Wrong determinants: by each of these definitions the largest order is not the rank of a small model, or a coefficient is not the minor. Assumes nothing.
+use Prim.Native.Nat.{ℕ, zero, suc, _+_, _≤_, _<_}
+use mathlib.Core.Path.{_≡_, refl, sym, ap, ap₂, subst, _∙_}
 use mathlib.Core.Bool.{Bool, true, false, _&&_, cond, decide, decide-iff, true≢false}
 use mathlib.Core.List.{List, [], _∷_, map, flatMap}
-use mathlib.Core.Logic.{_≢_, _↔_}
+use mathlib.Core.Logic.{_≢_, _↔_, ⊎-elim}
 use native.Mathlib.Omega.{arith}
 use lib.ListN.{length}
 use Rattle.residue.specs.Arithmetic.{Prime, is-prime, undivided}
@@ -17,10 +17,11 @@ use Rattle.rank.specs.Layered.Model.{Model}
 use Rattle.rank.specs.Layered.Rank.{rank}
 use Rattle.rank.specs.ListedModel.{listed-model, listed-modulo}
 use Rattle.mixed_models.specs.Mixed.{Mixed, mixed-at, mixed-rank}
-use Rattle.mixed_models.specs.Starred.Models.{S1, S3, S9, S11}
+use Rattle.mixed_models.specs.Starred.Models.{S1, S3, S7, S9, S11}
 use Rattle.mixed_models.specs.Starred.Table.{table}
-use Rattle.determinants.specs.Determinant.{insertions, arrangements, smaller, inversions, sign, Letter, same-letters, Term, collect, product, determinant, coefficient-at, NotZero}
+use Rattle.determinants.specs.Determinant.{insertions, arrangements, smaller, inversions, sign, Letter, same-letters, Term, by-number, collect, product, determinant, coefficient-at, NotZero}
 use Rattle.determinants.specs.Determinant.{Each, done, both, Ascending, SquarePart, NonzeroOrder, Largest}
+use Rattle.determinants.specs.Statements.{UpToSign}
 use Rattle.determinants.specs.Lists.Each.{each-imp}
 use Rattle.determinants.specs.ModelTables.{all-constants, all-letters, LayeredOrder}
 use Rattle.determinants.specs.Theorems.{rank-is-largest-order}
@@ -43,6 +44,15 @@ whole = record {
   k-columns = refl;
 }
 
+-- wrong arrangements: a row is put first or second, but nowhere further
+abbrev first-or-second : ℕ → List ℕ → List (List ℕ)
+first-or-second i [] = (i ∷ []) ∷ []
+first-or-second i (x ∷ π) = (i ∷ x ∷ π) ∷ (x ∷ i ∷ π) ∷ []
+
+abbrev some-arrangements : List ℕ → List (List ℕ)
+some-arrangements [] = [] ∷ []
+some-arrangements (i ∷ I) = flatMap (first-or-second i) (some-arrangements I)
+
 -- all that has to be opened to run the definitions
 unfoldable run : ℕ
 unfolding computing flatMap beside insertions arrangements smaller inversions sign same-letters collect product determinant
@@ -51,6 +61,35 @@ run = 0
 is-zero-iff : (q : ℕ) (P : Prime q) (x : residues q P .F) → (is-zero q P x ≡ true) ↔ (x ≡ residues q P .𝟘)
 unfolding is-zero
 is-zero-iff q P x = decide-iff (residues q P .decide x (residues q P .𝟘))
+
+-- the n numbers from s on
+abbrev from : ℕ → ℕ → List ℕ
+from s zero = []
+from s (suc n) = s ∷ from (suc s) n
+
+-- ascending numbers below u need room,
+room : (u i : ℕ) (I : List ℕ) → Ascending (i ∷ I) → Each (λ x. x < u) (i ∷ I) → i + length (i ∷ I) ≤ u
+room u i [] a (both p w) = omega (arith, p)
+room u i (j ∷ I) (both l h, a) (both p w) = omega (arith, l, room u j I a w)
+
+-- so n of them from s on, below s + n, are all
+all-numbers : (n s : ℕ) (I : List ℕ) → Ascending I → Each (λ x. s ≤ x) I → Each (λ x. x < s + n) I → length I ≡ n → I ≡ from s n
+all-numbers zero s [] a g w e = refl
+all-numbers zero s (i ∷ I) a g w e = absurd (omega arith)
+all-numbers (suc n) s [] a g w e = absurd (omega arith)
+all-numbers (suc n) s (i ∷ I) a (both p g) (both q w) e =
+    let r = room (s + suc n) i I a (both q w) in
+    let first : i ≡ s = omega (arith, r, p, e) in
+    ap₂ _∷_ first (all-numbers n (suc s) I (a .1) (each-imp (λ x (l : i < x). omega (arith, l, first)) I (a .0)) (each-imp (λ x (l : x < s + suc n). omega (arith, l)) I w) (omega (arith, e)))
+
+-- so the whole is the one part of order k of a table of k rows and k columns
+only-whole : (k : ℕ) (N : List ℕ → List ℕ → Type 0) → (N (from 0 k) (from 0 k) → ⊥) → (j : ℕ) → j ≡ k
+    → (S : SquarePart k k (λ x. true) j) × N (S .rows) (S .columns) → ⊥
+only-whole k N never j e (S, w) = never (subst (λ I. N I (from 0 k)) (are-all (S .rows) (S .rows-ascend) (S .rows-within) (S .k-rows ∙ e))
+    (subst (N (S .rows)) (are-all (S .columns) (S .columns-ascend) (each-imp (λ x h. h .0) (S .columns) (S .columns-within)) (S .k-columns ∙ e)) w))
+  where
+    are-all : (I : List ℕ) → Ascending I → Each (λ x. x < k) I → length I ≡ k → I ≡ from 0 k
+    are-all I a w e = all-numbers k 0 I a (each-imp (λ x (l : x < k). omega arith) I w) (each-imp (λ x (l : x < k). omega (arith, l)) I w) e
 
 module _ (M : Model) where
   open Model M using (K)
@@ -63,6 +102,10 @@ module _ (M : Model) where
   -- without the signs of the arrangements,
   abbrev unsigned : List ℕ → List ℕ → List (Term K)
   unsigned I J = flatMap (λ π. product K (all-constants M) (all-letters M) π J) (arrangements I)
+
+  -- of some arrangements alone,
+  abbrev some-terms : List ℕ → List ℕ → List (Term K)
+  some-terms I J = flatMap (λ π. map (by-number K (sign K (inversions π))) (product K (all-constants M) (all-letters M) π J)) (some-arrangements I)
 
   -- and with one letter for all parameters of a row
   abbrev shared : List ℕ → List ℕ → List (Term K)
@@ -113,19 +156,6 @@ two-parameters-rank : rank two-parameters ≡ 2
 unfolding computing
 two-parameters-rank = refl
 
--- two numbers below 2, one smaller than the other
-first-two : (I : List ℕ) → Ascending I → Each (λ i. i < 2) I → length I ≡ 2 → I ≡ 0 ∷ 1 ∷ []
-first-two [] a w e = absurd (omega arith)
-first-two (i ∷ []) a w e = absurd (omega arith)
-first-two (i ∷ j ∷ []) (both l done, a) (both p (both q done)) e = let x : i ≡ 0 = omega arith in let y : j ≡ 1 = omega arith in ap₂ (λ i j. i ∷ j ∷ []) x y
-first-two (i ∷ j ∷ k ∷ I) a w e = absurd (omega arith)
-
--- the whole is the one part of order 2 of a table of two rows and two columns
-only-whole : (N : List ℕ → List ℕ → Type 0) → (N (0 ∷ 1 ∷ []) (0 ∷ 1 ∷ []) → ⊥) → (k : ℕ) → k ≡ 2
-    → (S : SquarePart 2 2 (λ x. true) k) × N (S .rows) (S .columns) → ⊥
-only-whole N never k e (S, w) = never (subst (λ I. N I (0 ∷ 1 ∷ [])) (first-two (S .rows) (S .rows-ascend) (S .rows-within) (S .k-rows ∙ e))
-    (subst (N (S .rows)) (first-two (S .columns) (S .columns-ascend) (each-imp (λ x h. h .0) (S .columns) (S .columns-within)) (S .k-columns ∙ e)) w))
-
 -- the terms 0, x, 0 and −x, collected where their letters are those asked for
 cancels : (P : Prime 3) (u v : Bool) → let at : Bool → ℕ → residues 3 P .F = λ w k. cond w (res 3 P k) (residues 3 P .𝟘) in
     is-zero 3 P (residues 3 P ._+_ (at u 0) (residues 3 P ._+_ (at v 1) (residues 3 P ._+_ (at u 0) (residues 3 P ._+_ (at v 2) (residues 3 P .𝟘))))) ≡ true
@@ -142,8 +172,34 @@ shared-sum P l = cancels P (same-letters [] l) (same-letters ((1, 0) ∷ []) l)
 
 pub letters-shared : Largest (Orders two-parameters (Collected two-parameters (shared two-parameters))) (rank two-parameters) → ⊥
 unfolding modulus modulus-at true? is-prime undivided
-letters-shared h = let P : Prime 3 = modulus 3 .1 in only-whole (Collected two-parameters (shared two-parameters))
+letters-shared h = let P : Prime 3 = modulus 3 .1 in only-whole 2 (Collected two-parameters (shared two-parameters))
     (λ w. w .1 (is-zero-iff 3 P _ .0 (shared-sum P (w .0)))) (rank two-parameters) two-parameters-rank (h .reached)
+
+-- ---- arrangements left out: constants 1 at row 1, column 0, at row 2, column 1 and at row 0, column 2, modulo 2; row 0 would never come last
+
+abbrev cycle : Model
+cycle = listed-model 2 3 3 0 (0 ∷ 0 ∷ 1 ∷ 1 ∷ 0 ∷ 0 ∷ 0 ∷ 1 ∷ 0 ∷ []) []
+
+cycle-rank : rank cycle ≡ 3
+unfolding computing
+cycle-rank = refl
+
+-- four terms 0, collected where no letters are asked for
+four-zeros : (P : Prime 2) (u : Bool) → let at : residues 2 P .F = cond u (res 2 P 0) (residues 2 P .𝟘) in
+    is-zero 2 P (residues 2 P ._+_ at (residues 2 P ._+_ at (residues 2 P ._+_ at (residues 2 P ._+_ at (residues 2 P .𝟘))))) ≡ true
+unfolding run
+four-zeros P true = refl
+four-zeros P false = refl
+
+some-sum : (P : Prime 2) (l : List Letter)
+    → is-zero 2 P (collect (residues 2 P) l (some-terms (listed-modulo 2 P 3 3 0 (0 ∷ 0 ∷ 1 ∷ 1 ∷ 0 ∷ 0 ∷ 0 ∷ 1 ∷ 0 ∷ []) []) (from 0 3) (from 0 3))) ≡ true
+unfolding run
+some-sum P l = four-zeros P (same-letters [] l)
+
+pub arrangements-left-out : Largest (Orders cycle (Collected cycle (some-terms cycle))) (rank cycle) → ⊥
+unfolding modulus modulus-at true? is-prime undivided
+arrangements-left-out h = let P : Prime 2 = modulus 2 .1 in only-whole 3 (Collected cycle (some-terms cycle))
+    (λ w. w .1 (is-zero-iff 2 P _ .0 (some-sum P (w .0)))) (rank cycle) cycle-rank (h .reached)
 
 -- ---- order 0 counted as zero: S1, whose rank is 0, would have no rank
 
@@ -182,5 +238,29 @@ lone-sum P l = ones-cancel P (same-letters [] l)
 
 pub letter-beside-a-constant-dropped : Largest (NonzeroOrder (S9 .K) (S9 .Q) (lone-letters S9) (S9 .m) (S9 .n) (λ x. true)) (mixed-rank S9) → ⊥
 unfolding modulus modulus-at true? is-prime undivided
-letter-beside-a-constant-dropped h = let P : Prime 1021 = modulus 1021 .1 in only-whole (NotZero (S9 .K) (S9 .Q) (lone-letters S9))
+letter-beside-a-constant-dropped h = let P : Prime 1021 = modulus 1021 .1 in only-whole 2 (NotZero (S9 .K) (S9 .Q) (lone-letters S9))
     (λ w. w .1 (is-zero-iff 1021 P _ .0 (lone-sum P (w .0)))) (mixed-rank S9) (table .s9 .is-rank) (h .reached)
+
+-- ---- a place with both holds its letter alone: no rank can tell, but at no letters S7, a 1 beside a letter, would have the coefficient 0, where
+-- `coefficient-is-minor` says 1 or −1
+
+-- constants only where no letter stands
+abbrev lone-constants : (X : Mixed) → ℕ → ℕ → X .K .F
+lone-constants X i x = cond (X .T i x) (X .K .𝟘) (X .Q i x)
+
+abbrev S7-modulo : Prime 1021 → Mixed
+S7-modulo P = mixed-at 1021 P 1 1 (1 ∷ []) (1 ∷ [])
+
+-- the coefficient at no letters of row 0 and column 0
+abbrev at-none : (X : Mixed) → (ℕ → ℕ → X .K .F) → (ℕ → ℕ → Bool) → X .K .F
+at-none X Q T = coefficient-at (X .K) Q T [] (0 ∷ []) (0 ∷ [])
+
+without-its-constant : (P : Prime 1021) → let X : Mixed = S7-modulo P in let c : residues 1021 P .F = at-none X (X .Q) (λ i x. false) in
+    (is-zero 1021 P (at-none X (lone-constants X) (X .T)) ≡ true) × (is-zero 1021 P c ≡ false) × (is-zero 1021 P (residues 1021 P .neg c) ≡ false)
+unfolding run
+without-its-constant P = (refl, refl, refl)
+
+pub constant-beside-a-letter-dropped : UpToSign (S7 .K) (at-none S7 (lone-constants S7) (S7 .T)) (at-none S7 (S7 .Q) (λ i x. false)) → ⊥
+unfolding modulus modulus-at true? is-prime undivided
+constant-beside-a-letter-dropped h = let P : Prime 1021 = modulus 1021 .1 in let w = without-its-constant P in
+    ⊎-elim (λ e. true≢false (sym (w .0) ∙ ap (is-zero 1021 P) e ∙ w .1)) (λ e. true≢false (sym (w .0) ∙ ap (is-zero 1021 P) e ∙ w .2)) h

@@ -1,4 +1,4 @@
--- What the promises rule out: the programs that document 01 lists, wrong verdicts, lent elements that change; what the theorem on determinants rules out;
+-- What the promises rule out: the programs that document 01 lists, wrong verdicts, lent elements that change; what the theorems on determinants rule out;
 -- and how little the promises leave open.
 pub mod Computing
 pub mod Accepted

@@ -32,9 +32,9 @@ module _ (X : Mixed) where
   row-out I i e = ap (λ b x. cond b (Q i x) 𝟘) e
 
   on-of-legal : (I : Set) (A : Assignment) → Part m (λ i. true) I → Legal (divided X I) A → LegalOn K m n Q T (λ x. true) I A
-  on-of-legal I A contribution h = record {
+  on-of-legal I A within h = record {
     columns = h .offered;
-    rows = λ i e. contribution i e .0;
+    rows = λ i e. within i e .0;
     independent = record {
       only-zero = λ c s z. h .independent .only-zero c s (λ i l. elim (true? (I i)) [
         | yes e ↦ ap (λ f. dot K n f c) (row-in I i e) ∙ z i e
