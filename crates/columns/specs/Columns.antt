@@ -47,6 +47,11 @@ unfoldable pub least : ℕ → Set → ℕ
 least zero S = 0
 least (suc n) S = cond (S 0) 0 (suc (least n (λ x. S (suc x))))
 
+-- the greatest member of S below n, or d
+unfoldable pub greatest : (d n : ℕ) → Set → ℕ
+greatest d zero S = d
+greatest d (suc n) S = cond (S n) n (greatest d n S)
+
 -- the number of the columns of S below k
 unfoldable pub word-of : ℕ → Set → ℕ
 word-of zero S = 0

@@ -1,13 +1,13 @@
 // Sets of columns, a type of their own: no other code touches their bits or the words of a parameter row. Column x is in a set if bit x of its
 // word is 1. Every function is total: a column that a set has no room for is in none, and putting it into one changes nothing.
 ghost use mathlib.Core.Path.{_≡_};
-ghost use Prim.Native.Nat.{_+_};
+ghost use Prim.Native.Nat.{_+_, _-_, _*_, _<_, _≤_};
 ghost use lib.Dec.{eqb};
 ghost use lib.ListN.{length, getD, take};
-ghost use Rattle.counting.specs.Sets.{_∪_, _∩_, ∁, #};
+ghost use Rattle.counting.specs.Sets.{_∪_, _∩_, ∁, #, any};
 ghost use Rattle.columns.specs.Bytes.{number, bytes-of};
-ghost use Rattle.columns.specs.Columns.{width, room-bytes, members, upto, inserted, removed, moved-up, moved-down, least, within};
-ghost use Rattle.columns.specs.ColumnSets.{row-words, most-words, empty-set, whole, row-numbers, with-row};
+ghost use Rattle.columns.specs.Columns.{width, room-bytes, members, upto, inserted, removed, moved-up, moved-down, least, greatest, within};
+ghost use Rattle.columns.specs.ColumnSets.{row-words, most-words, empty-set, whole, ReadFrom, row-numbers, rows-touching, with-row};
 use limits::MOST_ROWS;
 
 // How many columns a set has room for, and in how many bytes.
@@ -120,6 +120,15 @@ pub fn union(set: ColumnSet, other: ColumnSet) -> ColumnSet
     }
 }
 
+// The columns of both sets.
+pub fn intersection(set: ColumnSet, other: ColumnSet) -> ColumnSet
+    ensures { λ r. ⌜ members (whole r) ≡ members (whole set) ∩ members (whole other) ⌝ }
+{
+    ColumnSet {
+        word: set.word & other.word,
+    }
+}
+
 // The columns of the first set that are not in the other.
 pub fn difference(set: ColumnSet, other: ColumnSet) -> ColumnSet
     ensures { λ r. ⌜ members (whole r) ≡ members (whole set) ∩ ∁ (members (whole other)) ⌝ }
@@ -127,6 +136,13 @@ pub fn difference(set: ColumnSet, other: ColumnSet) -> ColumnSet
     ColumnSet {
         word: set.word & !other.word,
     }
+}
+
+// Whether a row has a parameter in the set: one step for all columns.
+pub fn touches(row: ColumnSet, set: ColumnSet) -> bool
+    ensures { λ r. ⌜ r ≡ any width (members (whole set) ∩ members (whole row)) ⌝ }
+{
+    set.word & row.word != EMPTY
 }
 
 // The least column of the set, or `WIDTH` where it is empty.
@@ -177,7 +193,35 @@ pub fn within(set: ColumnSet, n: usize) -> bool
 
 // The set that bytes show, the low byte first: column c is bit c mod 8 of byte c div 8. Bytes that are missing count as 0.
 pub fn of_bytes(bytes: &[u8]) -> ColumnSet
-    ensures { λ r. ⌜ whole r ≡ number (take room-bytes (now (bytes .entry))) ⌝ }
+    ensures { λ r. ⌜ ReadFrom (now (bytes .entry)) r ⌝ }
+{
+    if bytes.len() < BYTES {
+        let word = few_bytes(bytes);
+        return ColumnSet { word };
+    }
+    let word = all_bytes(bytes);
+    ColumnSet { word }
+}
+
+// The word of as many bytes as it has: the compiler reads them at once.
+fn all_bytes(bytes: &[u8]) -> u64
+    requires { ⌜ room-bytes ≤ length (now bytes) ⌝ }
+    ensures { λ r. ⌜ r ≡ number (take room-bytes (now (bytes .entry))) ⌝ }
+{
+    let low = four_bytes(bytes[0], bytes[1], bytes[2], bytes[3]);
+    let high = four_bytes(bytes[4], bytes[5], bytes[6], bytes[7]);
+    low + 4294967296 * high
+}
+
+fn four_bytes(x: u8, y: u8, z: u8, w: u8) -> u64
+    ensures { λ r. ⌜ (r ≡ x + 256 * y + 65536 * z + 16777216 * w) × (r < 4294967296) ⌝ }
+{
+    x as u64 + 256 * y as u64 + 65536 * z as u64 + 16777216 * w as u64
+}
+
+// The word of fewer bytes, from the last to the first.
+fn few_bytes(bytes: &[u8]) -> u64
+    ensures { λ r. ⌜ r ≡ number (take room-bytes (now (bytes .entry))) ⌝ }
 {
     let mut word: u64 = 0;
     let mut k: usize = BYTES;
@@ -185,7 +229,7 @@ pub fn of_bytes(bytes: &[u8]) -> ColumnSet
         k -= 1;
         word = word * 256 + byte_or_zero(bytes, k);
     }
-    ColumnSet { word }
+    word
 }
 
 // The byte at k, or 0 past the end.
@@ -230,6 +274,28 @@ pub fn row(words: &[u64], r: usize) -> ColumnSet
         return ColumnSet { word };
     }
     empty()
+}
+
+// As many rows as named, or all that the area holds.
+pub fn rows_within(words: &[u64], end: usize) -> usize
+    ensures { λ r. ⌜ r ≡ end - (end - length (row-numbers (now (words .entry)))) ⌝ }
+{
+    let all = rows(words);
+    if end < all { end } else { all }
+}
+
+// The last parameter row below `end` that has a parameter in the set, or `end` where none has.
+pub fn last_touching(words: &[u64], end: usize, set: ColumnSet) -> usize
+    ensures { λ r. ⌜ r ≡ greatest end end (rows-touching (row-numbers (now (words .entry))) (members (whole set))) ⌝ }
+{
+    let mut r = rows_within(words, end);
+    while r > 0 {
+        r -= 1;
+        if touches(row(words, r), set) {
+            return r;
+        }
+    }
+    end
 }
 
 // Parameter row r of an area gets the columns of the set; nothing changes where the area has no such row.

@@ -1,10 +1,13 @@
 -- The laws of sets and counts: bounded choices and tests, updates, and how counts change with the set. Assumes nothing.
 use Prim.Native.Nat.{ℕ, zero, suc, _+_, _≤_, _<_}
 use mathlib.Core.Path.{_≡_, refl, sym, _∙_, ap, fun-ext}
-use mathlib.Core.Bool.{Bool, true, false, not, _&&_, false≢true}
+use mathlib.Core.Bool.{Bool, true, false, not, _&&_, _||_, or-true, or-false, false≢true}
 use mathlib.Core.Logic.{_≢_, _↔_, inl, inr, by-cases}
 use native.Mathlib.Omega.{arith}
 use native.Mathlib.Decide.{ℕ-discrete}
+use native.Mathlib.Nat.{zero-add}
+use lib.Dec.{eqb}
+use borrow.Author.Tests.{ne-eqb}
 use Rattle.counting.specs.Sets.{Set, _∈_, _∩_, ∁, indicator, #, all, any, Some, choose, set, touching}
 use Rattle.counting.specs.Bools.{true?, not-true, and-in, and-left, and-right, or-left, or-right, or-split}
 
@@ -51,6 +54,16 @@ all-iff (suc n) P = (
   λ e x l. elim (ℕ-discrete x n) [ yes d ↦ rw d (and-right (all n P) (P n) e) | no nd ↦ all-iff n P .0 (and-left (all n P) (P n) e) x (omega arith) ],
   λ h. and-in (all-iff n P .1 (λ x l. h x (omega arith))) (h n (omega arith)),
 )
+
+-- a set has a member below n where its size is not 0
+pub size-any : (n : ℕ) (S : Set) → not (eqb (# n S) 0) ≡ any n S
+unfolding # any indicator
+size-any zero S = refl
+size-any (suc n) S = step (S n) (any n S) (size-any n S)
+  where
+    step : (b c : Bool) → not (eqb (# n S) 0) ≡ c → not (eqb (indicator b + # n S) 0) ≡ (c || b)
+    step true c e = ap not (ne-eqb (1 + # n S) 0 (λ z. omega arith)) ∙ sym (or-true c)
+    step false c e = ap (λ (m : ℕ). not (eqb m 0)) (zero-add (# n S)) ∙ e ∙ sym (or-false c)
 
 -- row q touches a column of K
 abbrev pub Touching : ℕ → (ℕ → ℕ → Bool) → Set → ℕ → Type 0

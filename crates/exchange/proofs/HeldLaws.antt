@@ -2,11 +2,11 @@
 use Prim.Native.Nat.{ℕ, _+_, _-_, _*_, _≤_, _<_}
 use mathlib.Core.Path.{_≡_, refl, sym, ap, _∙_}
 use mathlib.Core.Logic.{_≢_, _↔_, _⊎_, inl, inr}
-use mathlib.Core.Bool.{Bool, true, not, _&&_, true≢false}
+use mathlib.Core.Bool.{Bool, true, not, _&&_, cond, true≢false}
 use mathlib.Core.List.{List}
 use native.Mathlib.Omega.{arith}
 use native.Mathlib.Decide.{ℕ-discrete, decLt}
-use lib.ListN.{length, length-set}
+use lib.ListN.{length}
 use lib.ListN as ListN
 use lib.Dec.{eqb}
 use lib.Seq.{getD-set-same, getD-set-other}
@@ -15,7 +15,7 @@ use Rattle.residue.specs.Arithmetic.{is-prime, mul-of, inv-of}
 use Rattle.residue.specs.Fields.{Field}
 use Rattle.counting.specs.Bools.{iff-eq}
 use Rattle.counting.specs.Sets.{_∈_, set}
-use Rattle.counting.specs.Counts.{set-same, set-other}
+use Rattle.counting.specs.Counts.{some?, set-same, set-other}
 use Rattle.rank.specs.Modulus.{field-of, residue-of}
 use Rattle.rank.specs.ModulusLaws.{residue-mul, residue-add, residue-inv, residue-neg, residue-zero}
 use Rattle.rank.specs.Linear.Kernels.{hits, hits-iff}
@@ -30,8 +30,17 @@ use Rattle.exchange.specs.Code.Cells.{cell, Below, Pivoted}
 use Rattle.exchange.specs.Code.Scanning.{Arrays, touched, owner-at}
 use Rattle.exchange.proofs.ScanningLaws.{touched-constant, touched-parameter}
 use Rattle.exchange.specs.Code.Searching.{Shows}
-use Rattle.exchange.specs.Code.Held.{Sat, Given, model-of, Held}
+use Rattle.exchange.specs.Code.Held.{left-by, Sat, Given, model-of, Held}
 use Rattle.exchange.proofs.CellLaws.{cleared-is}
+
+-- the owner of a row that x leaves, and that of another
+pub left-same : (x n y : ℕ) → y ≡ x → left-by x n y ≡ n
+unfolding left-by
+left-same x n y e = ap (λ c. cond c n y) (eq-eqb y x e)
+
+pub left-other : (x n y : ℕ) → y ≢ x → left-by x n y ≡ y
+unfolding left-by
+left-other x n y ne = ap (λ c. cond c n y) (ne-eqb y x ne)
 
 module _ (p n a b : ℕ) (ws : List ℕ) (G : Given p n b ws) where
   abbrev M : Model
@@ -107,32 +116,50 @@ module _ (p n a b : ℕ) (ws : List ℕ) (G : Given p n b ws) where
 
   module _ (t o t′ o′ : List ℕ) (x q : ℕ) (w : Arrays p n a b t o) (h : Held p n a b ws G t o)
       (lx : x < n) (lq : q < a + b) (fq : n ≤ h .s .owner q) (tq : h .s .touch q x ≡ true) (d : Sat p n a (a + b) x q t o t′ o′) where
-    moving : (q′ : ℕ) → q′ < a + b → owner-at o q′ ≡ x → d .middle ≡ ListN.set o q′ n → Seated t o t′ o′ x q h
+    -- who owns the rows when x has left its own
+    abbrev OwnersThen : (ℕ → ℕ) → Type 0
+    OwnersThen f = (r : ℕ) → r < a + b → owner-at (d .middle) r ≡ f r
+
+    then : (r : ℕ) → r < a + b → owner-at (d .middle) r ≡ left-by x n (h .s .owner r)
+    then r lr = d .vacated r (omega (arith, w .lengths .all-rows)) ∙ ap (left-by x n) (h .owners r lr)
+
+    one-left : (q′ : ℕ) → q′ < a + b → h .s .owner q′ ≡ x → OwnersThen (set (h .s .owner) q′ n)
+    one-left q′ lq′ so r lr = elim (ℕ-discrete r q′) [
+      | yes e ↦ then r lr ∙ left-same x n (h .s .owner r) (ap (h .s .owner) e ∙ so) ∙ sym (rw e (set-same (h .s .owner) q′ n))
+      | no ne ↦ then r lr
+          ∙ left-other x n (h .s .owner r) (λ z. ne (sym (h .s .owns-one q′ r lq′ lr (omega (arith, so)) (so ∙ sym z))))
+          ∙ sym (set-other (h .s .owner) q′ n r ne)
+    ]
+
+    none-left : ((r : ℕ) → r < a + b → h .s .owner r ≢ x) → OwnersThen (h .s .owner)
+    none-left new r lr = then r lr ∙ left-other x n (h .s .owner r) (new r lr)
+
+    after : (f : ℕ → ℕ) → OwnersThen f → (r : ℕ) → r < a + b → owner-at o′ r ≡ set f q x r
+    after f e r lr = ap (λ l. owner-at l r) (d .owners) ∙ stored (d .middle) f q x (d .full) (w .lengths .all-rows) lq e r lr
+
+    moving : (q′ : ℕ) → q′ < a + b → h .s .owner q′ ≡ x → Seated t o t′ o′ x q h
     unfolding state freed
-    moving q′ lq′ e m =
-        let so : h .s .owner q′ ≡ x = sym (h .owners q′ lq′) ∙ e in
+    moving q′ lq′ so =
         let w0 : Valid M (seated M (h .good .P) q x) (set (set (h .s .owner) q′ n) q x) = moved-valid M (h .s) (h .good) x q q′ lx lq fq tq lq′ so in (
           record {
             s = state M (seated M (h .good .P) q x) (set (set (h .s .owner) q′ n) q x) w0;
             good = record { P = seated M (h .good .P) q x; reads = λ r z. refl; kernel = w0 .kernel; tableau = w0 .tableau };
             cells = seated-cells (w .prime) t t′ (h .good .P) q x (w .below) (h .cells) lx (d .pivoted) (d .kept);
-            owners = λ r lr. ap (λ l. owner-at l r) (d .owners ∙ ap (λ l. ListN.set l q x) m)
-                ∙ stored (ListN.set o q′ n) (set (h .s .owner) q′ n) q x (length-set o q′ n ∙ w .lengths .owners) (w .lengths .all-rows) lq (stored o (h .s .owner) q′ n (w .lengths .owners) (w .lengths .all-rows) lq′ (h .owners)) r lr;
+            owners = after (set (h .s .owner) q′ n) (one-left q′ lq′ so);
           },
           inl (q′, moved M (h .s) (h .good) x q q′ lx lq fq tq lq′ so),
         )
 
-    entering : ((r : ℕ) → r < a + b → owner-at o r ≢ x) → d .middle ≡ o → Seated t o t′ o′ x q h
+    entering : ((r : ℕ) → r < a + b → h .s .owner r ≢ x) → Seated t o t′ o′ x q h
     unfolding state
-    entering new m =
-        let none : (r : ℕ) → r < a + b → h .s .owner r ≢ x = λ r lr e. new r lr (h .owners r lr ∙ e) in
+    entering none =
         let w0 : Valid M (seated M (h .good .P) q x) (set (h .s .owner) q x)
         = seat-valid M (h .good .P) (h .s .owner) (good-valid M (h .s) (h .good)) q x lx none lq (sym (h .good .reads q x) ∙ tq) in (
           record {
             s = state M (seated M (h .good .P) q x) (set (h .s .owner) q x) w0;
             good = record { P = seated M (h .good .P) q x; reads = λ r z. refl; kernel = w0 .kernel; tableau = w0 .tableau };
             cells = seated-cells (w .prime) t t′ (h .good .P) q x (w .below) (h .cells) lx (d .pivoted) (d .kept);
-            owners = λ r lr. ap (λ l. owner-at l r) (d .owners ∙ ap (λ l. ListN.set l q x) m) ∙ stored o (h .s .owner) q x (w .lengths .owners) (w .lengths .all-rows) lq (h .owners) r lr;
+            owners = after (h .s .owner) (none-left none);
           },
           inr (
             λ v. none (v .0) (v .1) (v .2),
@@ -141,4 +168,7 @@ module _ (p n a b : ℕ) (ws : List ℕ) (G : Given p n b ws) where
         )
 
     pub seat-held : Seated t o t′ o′ x q h
-    seat-held = elim (d .vacated) [ inl v ↦ moving (v .0) (v .1) (v .2) (v .3) | inr v ↦ entering (v .0) (v .1) ]
+    seat-held = elim (some? (a + b) (λ r. h .s .owner r ≡ x) (λ r. ℕ-discrete (h .s .owner r) x)) [
+      | yes v ↦ moving (v .0) (v .1) (v .2)
+      | no nv ↦ entering (λ r lr e. nv (r, lr, e))
+    ]

@@ -67,7 +67,7 @@ module _ {n N : ℕ} (s : State n N) (S : Set) where
     }
 
     module _ {tch : ℕ → ℕ → Bool} {own : ℕ → ℕ} (h : Shows E s tch own) (reached front : Set) (depth column row : ℕ) (next : Set) (r : Reaching reached front depth)
-        (d : Scanned n N tch own front column row next) where
+        (d : Scanned n N tch own front 0 N column row next) where
       pub ended : row < N → Ended s S column row depth
       ended l =
           let w : (column ∈ front) × (tch row column ≡ true) × (n ≤ own row) = d .at-end l in

@@ -1,42 +1,35 @@
 // Seats: a column takes a free row that touches it; a column is placed by seating columns until its own turn comes.
 ghost use mathlib.Core.Path.{_≡_};
 ghost use mathlib.Core.Bool.{true};
-ghost use Prim.Native.Nat.{ℕ, _<_, _≤_};
+ghost use Prim.Native.Nat.{_<_, _≤_};
 ghost use lib.ListN.{length};
 ghost use Rattle.limits.specs.Limits.{most-columns};
 ghost use Rattle.columns.specs.ColumnSets.{row-numbers};
 ghost use Rattle.rank.specs.Graph.States.{Placed};
 ghost use Rattle.exchange.specs.Sizes.{lines};
 ghost use Rattle.exchange.specs.Code.Cells.{Below};
-ghost use Rattle.exchange.specs.Code.Scanning.{Lengths, Arrays, owner-at};
-ghost use Rattle.exchange.specs.Code.Held.{Given, Held, Vacated, Sat};
+ghost use Rattle.exchange.specs.Code.Scanning.{Lengths, Arrays};
+ghost use Rattle.exchange.specs.Code.Held.{Given, Held, left-by, Vacated, Sat};
 ghost use Rattle.exchange.specs.Code.Placing.{Placing};
 use crate::search;
 use crate::sizes::CELLS;
 use crate::sizes::LINES;
 use crate::tableau;
 
-// The row that the column x owns, or `rows`.
-fn row_of(owner: &[u8; LINES], rows: usize, x: usize) -> usize
-    requires { ⌜ (length (now owner) ≡ lines) × (rows ≤ lines) ⌝ }
-    ensures { λ r. ⌜ (r < rows → owner-at (now (owner .entry)) r ≡ x) × (rows ≤ r → (q : ℕ) → q < rows → owner-at (now (owner .entry)) q ≡ x → ⊥) ⌝ }
+// The owner y of a row, or n where it is x.
+fn vacated(y: u8, x: u8, n: u8) -> u8
+    ensures { λ r. ⌜ r ≡ left-by x n y ⌝ }
 {
-    for q in 0..rows {
-        if search::widened(owner[q]) == x {
-            return q;
-        }
-    }
-    rows
+    if y == x { n } else { y }
 }
 
-// The row that the column x owns, if any, becomes free.
-fn vacate(owner: &mut [u8; LINES], n: usize, rows: usize, x: usize)
-    requires { ⌜ (length (now owner) ≡ lines) × (rows ≤ lines) × (n ≤ most-columns) ⌝ }
-    ensures { λ _. ⌜ (length (now (owner .exit)) ≡ lines) × Vacated n rows x (now (owner .entry)) (now (owner .exit)) ⌝ }
+// The row that the column x owns, if any, becomes free. All rows are written, so that the loop runs on vectors.
+fn vacate(owner: &mut [u8; LINES], n: usize, x: usize)
+    requires { ⌜ (length (now owner) ≡ lines) × (n ≤ most-columns) × (x < n) ⌝ }
+    ensures { λ _. ⌜ (length (now (owner .exit)) ≡ lines) × Vacated n x (now (owner .entry)) (now (owner .exit)) ⌝ }
 {
-    let old = row_of(owner, rows, x);
-    if old < rows {
-        owner[old] = n as u8;
+    for q in 0..LINES {
+        owner[q] = vacated(owner[q], x as u8, n as u8);
     }
 }
 
@@ -54,7 +47,7 @@ fn seat(
     requires { ⌜ Lengths n a rows (now t) (now owner) × Below p (now t) × (x < n) × (q < rows) ⌝ }
     ensures { λ _. ⌜ Lengths n a rows (now (t .exit)) (now (owner .exit)) × Below p (now (t .exit)) × Sat p n a rows x q (now (t .entry)) (now (owner .entry)) (now (t .exit)) (now (owner .exit)) ⌝ }
 {
-    vacate(owner, n, rows, x);
+    vacate(owner, n, x);
     owner[q] = x as u8;
     if q < a {
         tableau::pivot(t, p, n, a, q, x);

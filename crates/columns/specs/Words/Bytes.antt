@@ -6,9 +6,10 @@ use native.Mathlib.Nat.{div-one}
 use native.Mathlib.Decide.{decLt}
 use native.Mathlib.Omega.{arith}
 use lib.Dec.{eqb, lit<}
-use lib.ListN.{getD, take, drop}
+use lib.ListN.{length, getD, take, drop, length-take, List·getD-eq-default}
+use lib.Seq.{getD-take}
 use lib.Pow.{pow-pos, pow-add, shr-shr}
-use Rattle.columns.specs.Bytes.{number, bytes-of}
+use Rattle.columns.specs.Bytes.{number, bytes-of, bit-shown}
 use Rattle.columns.specs.Columns.{bit, members}
 use Rattle.columns.specs.Words.Bits.{bit-mod, bit-of-zero}
 
@@ -53,6 +54,18 @@ pub number-members : (bs : List ℕ) (c : ℕ) → AreBytes bs → members (numb
 unfolding members
 number-members bs c b = ap (λ (d : ℕ). eqb d 1) (number-bit bs c b)
 
+-- of the first k bytes
+pub bits-shown : (k : ℕ) (bs : List ℕ) (c : ℕ) → AreBytes bs → c < 8 * k → bit (number (take k bs)) c ≡ bit-shown bs c
+bits-shown k bs c b l =
+    number-bit (take k bs) c (λ i. taken i)
+    ∙ ap (λ (x : ℕ). bit x (c % 8)) (getD-take k bs (c / 8) 0 (omega arith))
+  where
+    taken : (i : ℕ) → getD (take k bs) i 0 < 256
+    taken i = elim (decLt i k) [
+      | yes h ↦ rw (getD-take k bs i 0 h) (b i)
+      | no nh ↦ let past : length (take k bs) ≤ i = omega (arith, length-take k bs) in rw (List·getD-eq-default (take k bs) 0 past) (lit< tt)
+    ]
+
 -- ---- what reading from the last byte to the first keeps
 
 eight-more : (k : ℕ) → 8 * suc k ≡ 8 + 8 * k
@@ -75,6 +88,23 @@ number-front zero m [] = rw (none-left m) refl
 number-front zero m (x ∷ bs) = omega arith
 number-front (suc k) m [] = rw (none-left m) refl
 number-front (suc k) m (x ∷ bs) = number-front k m bs
+
+-- ---- eight bytes at once
+
+pub number-eight : (bs : List ℕ) → number (take 8 bs)
+    ≡ getD bs 0 0 + 256 * getD bs 1 0 + 65536 * getD bs 2 0 + 16777216 * getD bs 3 0
+    + 4294967296 * (getD bs 4 0 + 256 * getD bs 5 0 + 65536 * getD bs 6 0 + 16777216 * getD bs 7 0)
+number-eight bs = omega (
+  arith,
+  number-front 0 7 bs,
+  number-front 1 6 bs,
+  number-front 2 5 bs,
+  number-front 3 4 bs,
+  number-front 4 3 bs,
+  number-front 5 2 bs,
+  number-front 6 1 bs,
+  number-front 7 0 bs,
+)
 
 -- ---- the bytes of a word
 

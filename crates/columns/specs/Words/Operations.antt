@@ -3,19 +3,19 @@ use mathlib.Core.Path.{_≡_, refl, sym, ap, ap₂, _∙_, fun-ext}
 use mathlib.Core.Bool.{Bool, true, false, not, _&&_, _||_, cond, true≢false}
 use mathlib.Core.Logic.{_≢_, _↔_, ⊎-elim}
 use Prim.Native.Nat.{ℕ, zero, suc, _+_, _-_, _*_, _/_, _%_, _^_, _≤_, _<_, min, max}
-use native.Mathlib.Nat.{mod-lt, mod-le, mod-eq-of-lt, div-eq-of-lt, div-lt-iff-lt-mul, zero-min, pow-suc, mul-div-cancel, mul-mod-left, mul-assoc}
+use native.Mathlib.Nat.{mod-lt, mod-le, mod-eq-of-lt, div-eq-of-lt, div-lt-iff-lt-mul, pow-suc, mul-div-cancel, mul-mod-left, mul-assoc}
 use native.Mathlib.Numerals.{one-add}
 use native.Mathlib.Decide.{ℕ-discrete, decLt}
 use native.Mathlib.Omega.{arith}
 use lib.Arith.{lt-one}
 use lib.Dec.{lit<, eqb, leb, ltb}
 use lib.Pow.{pow-pos, pow-mono, pow-add, mod-pow-add, shr-shr}
-use lib.Bits.{bitAnd, bitOr}
+use lib.Bits.{bitAnd, bitOr, and-le-l}
 use lib.Count.{ones, ones-cat, trailingZeros, under}
 use borrow.Author.Tests.{le-leb, lt-leb, eq-eqb, ne-eqb, eqb-true, lt-ltb, le-ltb, ltb-true}
 use Rattle.counting.specs.Bools.{not-true, iff-eq, implies, implied}
-use Rattle.counting.specs.Sets.{Set, _∈_, _∩_, _∪_, ∁, indicator, #}
-use Rattle.counting.specs.Counts.{all-iff, #-⊖}
+use Rattle.counting.specs.Sets.{Set, _∈_, _∩_, _∪_, ∁, indicator, #, any}
+use Rattle.counting.specs.Counts.{all-iff, #-none, #-⊖, size-any}
 use Rattle.columns.specs.Columns.{width, bit, members, none, upto, inserted, removed, moved-up, moved-down, least, word-of, within}
 use Rattle.columns.specs.Words.Bits.{bit-lt, two-cases, bit-suc, bit-zero, bit-and, bit-or, bit-not, bit-pow-same, bit-pow-other, bit-of-zero, bit-mod, bits-ext}
 
@@ -81,41 +81,37 @@ one-of zero (suc (suc e)) h l = absurd (omega arith)
 one-of (suc zero) (suc (suc e)) h l = absurd (omega arith)
 one-of (suc (suc d)) e h l = absurd (omega arith)
 
-one-less : (d e : ℕ) → d < 2 → e < 2 → eqb (min d (1 - e)) 1 ≡ (eqb d 1 && not (eqb e 1))
-one-less zero zero h l = refl
-one-less zero (suc zero) h l = refl
-one-less (suc zero) zero h l = refl
-one-less (suc zero) (suc zero) h l = refl
-one-less zero (suc (suc e)) h l = absurd (omega arith)
-one-less (suc zero) (suc (suc e)) h l = absurd (omega arith)
-one-less (suc (suc d)) e h l = absurd (omega arith)
+both-ones : (d e : ℕ) → d < 2 → e < 2 → eqb (min d e) 1 ≡ (eqb d 1 && eqb e 1)
+both-ones zero zero h l = refl
+both-ones zero (suc zero) h l = refl
+both-ones (suc zero) zero h l = refl
+both-ones (suc zero) (suc zero) h l = refl
+both-ones zero (suc (suc e)) h l = absurd (omega arith)
+both-ones (suc zero) (suc (suc e)) h l = absurd (omega arith)
+both-ones (suc (suc d)) e h l = absurd (omega arith)
+
+one-turned : (e : ℕ) → e < 2 → eqb (1 - e) 1 ≡ not (eqb e 1)
+one-turned zero l = refl
+one-turned (suc zero) l = refl
+one-turned (suc (suc e)) l = absurd (omega arith)
 
 pub members-or : (v w : ℕ) → members (bitOr v w) ≡ members v ∪ members w
 unfolding members
 members-or v w = fun-ext (λ x. ap (λ (b : ℕ). eqb b 1) (bit-or v w x) ∙ one-of (bit v x) (bit w x) (bit-lt v x) (bit-lt w x))
 
-pub members-less : (v w : ℕ) → v < 2 ^ width → w < 2 ^ width → members (bitAnd v (2 ^ width - 1 - w)) ≡ members v ∩ ∁ (members w)
+pub members-and : (v w : ℕ) → members (bitAnd v w) ≡ members v ∩ members w
 unfolding members
-members-less v w hv hw = fun-ext (λ x. elim (decLt x width) [ yes l ↦ low x l | no nl ↦ high x (omega arith) ])
-  where
-    both-bits : (x : ℕ) → bit (bitAnd v (2 ^ width - 1 - w)) x ≡ min (bit v x) (bit (2 ^ width - 1 - w) x)
-    both-bits x = bit-and v (2 ^ width - 1 - w) x
+members-and v w = fun-ext (λ x. ap (λ (b : ℕ). eqb b 1) (bit-and v w x) ∙ both-ones (bit v x) (bit w x) (bit-lt v x) (bit-lt w x))
 
-    low : (x : ℕ) → x < width → members (bitAnd v (2 ^ width - 1 - w)) x ≡ (members v x && not (members w x))
-    low x l =
-        ap (λ (b : ℕ). eqb b 1) (both-bits x ∙ ap (min (bit v x)) (bit-not width w x hw l))
-        ∙ one-less (bit v x) (bit w x) (bit-lt v x) (bit-lt w x)
+members-not : (w x : ℕ) → w < 2 ^ width → x < width → members (2 ^ width - 1 - w) x ≡ not (members w x)
+unfolding members
+members-not w x h l = ap (λ (b : ℕ). eqb b 1) (bit-not width w x h l) ∙ one-turned (bit w x) (bit-lt w x)
 
-    none-high : (d e : ℕ) → d < 2 → eqb d 1 ≡ false → eqb (min d e) 1 ≡ false
-    none-high zero e h z = ap (λ (b : ℕ). eqb b 1) (zero-min e)
-    none-high (suc zero) e h z = absurd (true≢false z)
-    none-high (suc (suc d)) e h z = absurd (omega arith)
-
-    high : (x : ℕ) → width ≤ x → members (bitAnd v (2 ^ width - 1 - w)) x ≡ (members v x && not (members w x))
-    high x h =
-        ap (λ (b : ℕ). eqb b 1) (both-bits x)
-        ∙ none-high (bit v x) _ (bit-lt v x) (members-beyond width v x hv h)
-        ∙ sym (ap (λ b. b && not (members w x)) (members-beyond width v x hv h))
+pub members-less : (v w : ℕ) → v < 2 ^ width → w < 2 ^ width → members (bitAnd v (2 ^ width - 1 - w)) ≡ members v ∩ ∁ (members w)
+members-less v w hv hw = members-and v (2 ^ width - 1 - w) ∙ fun-ext (λ x. elim (decLt x width) [
+  | yes l ↦ ap (λ b. members v x && b) (members-not w x hw l)
+  | no nl ↦ let none-here : members v x ≡ false = members-beyond width v x hv (omega arith) in rw none-here refl
+])
 
 and-none : (b : Bool) → false ≡ (b && false)
 and-none true = refl
@@ -300,6 +296,18 @@ members-ext k v w hv hw e = bits-ext k v w hv hw (λ x l. same (bit v x) (bit w 
 pub no-members : (w : ℕ) → w < 2 ^ width → # width (members w) ≡ 0 → w ≡ 0
 no-members w h e = members-ext width w 0 h (omega arith) (λ x l. not-true (members w x) (λ m.
     omega (arith, e, #-⊖ width (members w) x l m)) ∙ sym (ap (λ (S : Set). S x) members-zero))
+
+-- the number with no column is 0, and no other
+pub none-test : (w : ℕ) → w < 2 ^ width → eqb w 0 ≡ eqb (# width (members w)) 0
+none-test w h = iff-eq (eqb w 0) (eqb (# width (members w)) 0)
+    (λ e. eq-eqb _ 0 (ap (λ (v : ℕ). # width (members v)) (eqb-true w 0 e) ∙ ap (# width) members-zero ∙ #-none width))
+    (λ e. eq-eqb w 0 (no-members w h (eqb-true _ 0 e)))
+
+-- two numbers have a column in common
+pub common-test : (v w : ℕ) → v < 2 ^ width → not (eqb (bitAnd v w) 0) ≡ any width (members v ∩ members w)
+common-test v w h =
+    ap not (none-test (bitAnd v w) (omega (arith, and-le-l v w)) ∙ ap (λ (S : Set). eqb (# width S) 0) (members-and v w))
+    ∙ size-any width (members v ∩ members w)
 
 pub word-members : (k w : ℕ) → w < 2 ^ k → w ≡ word-of k (members w)
 unfolding word-of members

@@ -1,16 +1,17 @@
 -- The laws of the set operations that the contracts of `columns` cite: what loops over a set, and sets that grow, go by. Assumes nothing.
-use Prim.Native.Nat.{ℕ, _≤_, _<_}
-use mathlib.Core.Path.{_≡_, refl}
-use mathlib.Core.Bool.{not, _&&_}
+use Prim.Native.Nat.{ℕ, zero, suc, _≤_, _<_}
+use mathlib.Core.Path.{_≡_, refl, sym, ap, _∙_}
+use mathlib.Core.Bool.{true, false, not, _&&_, cond}
 use mathlib.Core.Logic.{_≢_, _⊎_, inl, inr}
 use native.Mathlib.Omega.{arith}
+use native.Mathlib.Decide.{ℕ-discrete}
 use lib.Dec.{eqb, ltb}
-use borrow.Author.Tests.{eq-eqb, ne-eqb, eqb-true, lt-ltb, ltb-true}
-use Rattle.counting.specs.Bools.{and-in, and-left, and-right, or-left, or-right, or-split, in-not, not-both}
-use Rattle.counting.specs.Sets.{Set, _∈_, _⊆_, _∩_, _∪_, ∁, #, Some}
-use Rattle.counting.specs.Counts.{#-⊖, #-pick}
+use borrow.Author.Tests.{eq-eqb, ne-eqb, eqb-true, eqb-false, lt-ltb, ltb-true}
+use Rattle.counting.specs.Bools.{true?, not-true, and-in, and-left, and-right, or-left, or-right, or-split, in-not, not-in, not-both}
+use Rattle.counting.specs.Sets.{Set, _∈_, _⊆_, _∩_, _∪_, ∁, #, any, Some}
+use Rattle.counting.specs.Counts.{#-⊖, #-pick, size-any}
 use Rattle.counting.specs.Injections.{#-strict}
-use Rattle.columns.specs.Columns.{width, upto, inserted, removed, least}
+use Rattle.columns.specs.Columns.{width, upto, inserted, removed, least, greatest}
 use Rattle.columns.specs.Words.Operations.{least-in, least-first}
 
 -- ---- a column put in
@@ -55,6 +56,41 @@ least-there n S h =
     let w : Some n (λ j. j ∈ S) = #-pick n S (omega arith) in
     let l : least n S < n = omega (arith, least-first n S (w .0) (w .1) (w .2)) in
     (l, least-in n S l)
+
+pub least-any : (n : ℕ) (S : Set) → any n S ≡ true → (least n S < n) × (least n S ∈ S)
+least-any n S e = least-there n S (eqb-false (# n S) 0 (not-in (eqb (# n S) 0) (size-any n S ∙ e)))
+
+-- ---- the greatest member of a set
+
+pub greatest-is : (d n k : ℕ) (S : Set) → k < n → k ∈ S → ((x : ℕ) → k < x → x < n → S x ≡ false) → greatest d n S ≡ k
+unfolding greatest
+greatest-is d zero k S l e h = absurd (omega arith)
+greatest-is d (suc n) k S l e h = elim (ℕ-discrete k n) [
+  | yes z ↦ ap (λ b. cond b n (greatest d n S)) (rw z at e) ∙ sym z
+  | no nz ↦ ap (λ b. cond b n (greatest d n S)) (h n (omega arith) (omega arith)) ∙ greatest-is d n k S (omega arith) e (λ x lx hx. h x lx (omega arith))
+]
+
+pub greatest-none : (d n : ℕ) (S : Set) → ((x : ℕ) → x < n → S x ≡ false) → greatest d n S ≡ d
+unfolding greatest
+greatest-none d zero S h = refl
+greatest-none d (suc n) S h = ap (λ b. cond b n (greatest d n S)) (h n (omega arith)) ∙ greatest-none d n S (λ x l. h x (omega arith))
+
+-- it is in the set, and no later one is; or there is none
+pub record Greatest (n k : ℕ) (S : Set) : Type 0 where
+  pub inside : k < n → k ∈ S
+  pub last : k < n → (x : ℕ) → k < x → x < n → S x ≡ false
+  pub no-other : n ≤ k → (x : ℕ) → x < n → S x ≡ false
+
+pub greatest-reads : (n : ℕ) (S : Set) → Greatest n (greatest n n S) S
+greatest-reads n S = from n (λ x l m. absurd (omega arith)) (omega arith)
+  where
+    from : (m : ℕ) → ((x : ℕ) → m ≤ x → x < n → S x ≡ false) → m ≤ n → Greatest n (greatest n n S) S
+    from zero h l = rw (greatest-none n n S (λ x lx. h x (omega arith) lx)) (record { inside = λ k. absurd (omega arith); last = λ k. absurd (omega arith); no-other = λ k x lx. h x (omega arith) lx })
+    from (suc m) h l = elim (true? (S m)) [
+      | yes e ↦ rw (greatest-is n n m S (omega arith) e (λ x lx hx. h x (omega arith) hx))
+          (record { inside = λ k. e; last = λ k x lx hx. h x (omega arith) hx; no-other = λ k. absurd (omega arith) })
+      | no ne ↦ from m (λ x lx hx. elim (ℕ-discrete x m) [ yes z ↦ rw z (not-true (S m) ne) | no nz ↦ h x (omega arith) hx ]) (omega arith)
+    ]
 
 -- ---- sets that grow
 

@@ -1,11 +1,11 @@
 -- The code's tableau and owners hold a valid state of a model; and what seating a column does to them. Definitions only.
 use Prim.Native.Nat.{ℕ, _+_, _≤_, _<_}
 use mathlib.Core.Path.{_≡_}
-use mathlib.Core.Logic.{_≢_, _⊎_}
-use mathlib.Core.Bool.{Bool}
+use mathlib.Core.Bool.{Bool, cond}
 use mathlib.Core.List.{List}
-use lib.ListN.{getD}
+use lib.ListN.{length, getD}
 use lib.ListN as ListN
+use lib.Dec.{eqb}
 use Rattle.counting.specs.Sets.{Set}
 use Rattle.columns.specs.Columns.{members}
 use Rattle.rank.specs.Modulus.{modulus, field-of, residue-of}
@@ -13,17 +13,23 @@ use Rattle.rank.specs.ModelModulo.{model-modulo}
 use Rattle.rank.specs.Graph.States.{State}
 use Rattle.rank.specs.Layered.Model.{Model}
 use Rattle.rank.specs.Layered.Seating.{Good}
+use Rattle.exchange.specs.Sizes.{lines}
 use Rattle.exchange.specs.Code.Cells.{cell, Pivoted}
 use Rattle.exchange.specs.Code.Scanning.{owner-at}
 
--- the row of x is free: o′ has n there
-abbrev pub Vacated : (n N x : ℕ) → List ℕ → List ℕ → Type 0
-Vacated n N x o o′ = ((r : ℕ) × (r < N) × (owner-at o r ≡ x) × (o′ ≡ ListN.set o r n)) ⊎ (((r : ℕ) → r < N → owner-at o r ≢ x) × (o′ ≡ o))
+-- the owner y of a row that x leaves: n, where it was x
+unfoldable pub left-by : (x n y : ℕ) → ℕ
+left-by x n y = cond (eqb y x) n y
+
+-- x has left its row, if it had one
+abbrev pub Vacated : (n x : ℕ) → List ℕ → List ℕ → Type 0
+Vacated n x o o′ = (r : ℕ) → r < lines → owner-at o′ r ≡ left-by x n (owner-at o r)
 
 -- column x is seated at row q
 pub record Sat (p n a N x q : ℕ) (t o t′ o′ : List ℕ) : Type 0 where
   pub middle : List ℕ
-  pub vacated : Vacated n N x o middle
+  pub full : length middle ≡ lines
+  pub vacated : Vacated n x o middle
   pub owners : o′ ≡ ListN.set middle q x
   pub pivoted : q < a → Pivoted p n a q x t t′
   pub kept : a ≤ q → t′ ≡ t

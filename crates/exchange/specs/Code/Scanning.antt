@@ -21,6 +21,7 @@ pub record Lengths (n a N : ℕ) (t o : List ℕ) : Type 0 where
   pub owners : length o ≡ lines
   pub columns : n ≤ most-columns
   pub constant-rows : a ≤ most-rows
+  pub ordered : a ≤ N
   pub all-rows : N ≤ lines
 
 -- they are those of a model modulo p, with b parameter rows
@@ -44,9 +45,9 @@ module _ (n N : ℕ) (tch : ℕ → ℕ → Bool) (own : ℕ → ℕ) where
   abbrev pub RowRead : (next : Set) (x q : ℕ) → Type 0
   RowRead next x q = tch q x ≡ true → (own q < n) × (own q ∈ next)
 
-  -- so do the rows from q on
-  abbrev pub RowsRead : (next : Set) (x q : ℕ) → Type 0
-  RowsRead next x q = (k : ℕ) → q ≤ k → k < N → RowRead next x k
+  -- so do the rows from l to below m
+  abbrev pub RowsRead : (next : Set) (x l m : ℕ) → Type 0
+  RowsRead next x l m = (k : ℕ) → l ≤ k → k < m → RowRead next x k
 
   -- y owns a row that touches a column of front
   pub record Owner (front : Set) (y : ℕ) : Type 0 where
@@ -61,8 +62,9 @@ module _ (n N : ℕ) (tch : ℕ → ℕ → Bool) (own : ℕ → ℕ) where
   abbrev pub Owners : (front next : Set) → Type 0
   Owners front next = (y : ℕ) → y ∈ next → Owner front y
 
-  -- a free row with a column of front that it touches; or the owners of all rows that touch front
-  pub record Scanned (front : Set) (column row : ℕ) (next : Set) : Type 0 where
+  -- the rows from l to below m have been read for front: a free row with a column of front that it touches; or, with N for the row, the owners of all of
+  -- them that touch front
+  pub record Scanned (front : Set) (l m column row : ℕ) (next : Set) : Type 0 where
     pub at-end : row < N → (column ∈ front) × (tch row column ≡ true) × (n ≤ own row)
-    pub all-read : N ≤ row → (x : ℕ) → x ∈ front → RowsRead next x 0
+    pub all-read : N ≤ row → (x : ℕ) → x ∈ front → RowsRead next x l m
     pub from : Owners front next

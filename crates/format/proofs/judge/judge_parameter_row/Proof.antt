@@ -38,7 +38,7 @@ set c =
     let a = entry (judged c) .args in
     let b = c .before .said-body in
     let l = body-length parameter-tag (parameter-body (a .n)) (a .rest .now) (head (judged c)) (not-refused c .if1 .left) (b .ensures .bytes-are) in
-    c .of-bytes .ensures ∙ ap number (take-all set-bytes (b .result .now) (omega arith))
+    c .of-bytes .ensures .is-number ∙ ap number (take-all set-bytes (b .result .now) (omega arith))
 
 parameter-size-requires : tie.Need-parameter-size-requires
 parameter-size-requires c κs = search needs

@@ -72,7 +72,7 @@ loop-again c =
     let b = entry k .args .b in
     let w = whole (of-bytes .result) in
     let q : b - l .at - 1 ≡ b - (l .at + 1) = omega arith in
-    let is-row : number (take set-bytes (said-body r)) ≡ w = ap (λ (t : List ℕ). number (take set-bytes t)) (sym (body .ensures .bytes-are)) ∙ sym (of-bytes .ensures) in
+    let is-row : number (take set-bytes (said-body r)) ≡ w = ap (λ (t : List ℕ). number (take set-bytes t)) (sym (body .ensures .bytes-are)) ∙ sym (of-bytes .ensures .is-number) in
     let written = ap row-numbers is-put ∙ rows-with-row (l .out) (l .at) w in
     (rw written (wrote-set w _ (l .inv .0) (parameters-next (b - l .at) r (omega arith) ∙ rw (q, is-row, ← c .said-rest .ensures .bytes-are) refl)), omega arith, ap length is-put ∙ with-row-length (l .out) (l .at) w ∙ l .inv .2)
 
