@@ -13,15 +13,15 @@
 
 ModelCall plain_layered;
 
-enum { MODELS = 16, ROUNDS = 25, PARAMETERS_A_ROW = 3, CONSTANTS_A_ROW = 3 };
+enum { MODELS = 16, ROUNDS = 25, PARAMETERS_A_ROW = 3, CONSTANTS_A_ROW = 3, FEW_CONSTANT_ROWS = 16 };
 static const uint64_t large_prime = (UINT64_C(1) << 61) - 1;
 
 /* ---- the models ---- */
 
-static void put_parameters(Model *m)
+static void put_parameters(Model *m, size_t many)
 {
     for (size_t r = 0; r < m->b; r++)
-        while (size_of_set(m->parameters[r]) < PARAMETERS_A_ROW)
+        while (size_of_set(m->parameters[r]) < many)
             m->parameters[r] |= just(draw(m->n));
 }
 
@@ -30,22 +30,41 @@ static Model dense(uint32_t p, size_t b)
     Model m = {.p = p, .n = WUNDRESKA_COLUMNS_MAX, .a = WUNDRESKA_ROWS_MAX, .b = b};
     for (size_t i = 0; i < m.a * m.n; i++)
         m.constants[i] = draw(p);
-    put_parameters(&m);
+    put_parameters(&m, PARAMETERS_A_ROW);
     return m;
 }
 
 /* Balances: each constant row has a few plus and minus ones. */
-static Model plant_like(void)
+static Model balances(size_t a, size_t b, size_t parameters)
 {
-    Model m = {.p = 1021, .n = WUNDRESKA_COLUMNS_MAX, .a = WUNDRESKA_ROWS_MAX, .b = WUNDRESKA_ROWS_MAX};
+    Model m = {.p = 1021, .n = WUNDRESKA_COLUMNS_MAX, .a = a, .b = b};
     for (size_t i = 0; i < m.a * CONSTANTS_A_ROW; i++)
         m.constants[i / CONSTANTS_A_ROW * m.n + draw(m.n)] = one_in(2) ? 1 : m.p - 1;
-    put_parameters(&m);
+    put_parameters(&m, parameters);
+    return m;
+}
+
+static Model plant_like(void) { return balances(WUNDRESKA_ROWS_MAX, WUNDRESKA_ROWS_MAX, PARAMETERS_A_ROW); }
+
+/* As many rows as columns, and a parameter in every second place. */
+static Model many_parameters(void)
+{
+    return balances(FEW_CONSTANT_ROWS, WUNDRESKA_COLUMNS_MAX - FEW_CONSTANT_ROWS, WUNDRESKA_COLUMNS_MAX / 2);
+}
+
+/* Parameter row r has the columns r - 1 and r. Each column but the last takes the later of its rows; the last has one row only, and
+ * gets it when all others have moved. */
+static Model chain(void)
+{
+    Model m = {.p = 1021, .n = WUNDRESKA_COLUMNS_MAX, .a = 0, .b = WUNDRESKA_COLUMNS_MAX};
+    for (size_t r = 0; r < m.b; r++)
+        m.parameters[r] = just(r) | (r ? just(r - 1) : 0);
     return m;
 }
 
 static Model dense_1021(void) { return dense(1021, WUNDRESKA_ROWS_MAX); }
 static Model dense_largest(void) { return dense(WUNDRESKA_PRIME_MAX, WUNDRESKA_ROWS_MAX); }
+static Model constants_2(void) { return dense(2, 0); }
 static Model constants_1021(void) { return dense(1021, 0); }
 static Model constants_largest(void) { return dense(WUNDRESKA_PRIME_MAX, 0); }
 static Model tiny(void) { return (Model){.p = 1021, .n = 2, .a = 1, .b = 1, .constants = {1, 0}, .parameters = {2}}; }
@@ -181,6 +200,9 @@ int main(void)
     measure("dense", dense_1021);
     measure("dense", dense_largest);
     measure("plant-like", plant_like);
+    measure("many parameters", many_parameters);
+    measure("chain", chain);
+    measure("dense", constants_2);
     measure("dense", constants_1021);
     measure("dense", constants_largest);
     measure("tiny", tiny);

@@ -121,3 +121,12 @@ Called call_model(ModelCall *call, const Model *m, Lengths l, size_t written)
     called.intact = called.intact && unchanged(&constants_area, 0) && unchanged(&rows_area, 0);
     return called;
 }
+
+Touched call_touching(const Model *m, Touching t)
+{
+    void *rows = lend_rows(m, t.rows), *set = lend_copy(&file_area, t.length, t.set, t.length);
+    remember(&rows_area);
+    remember(&file_area);
+    size_t count = harness_touching(t.n, t.b, rows, t.rows * ROW_WORDS, set, t.length);
+    return (Touched){count, unchanged(&rows_area, 0) && unchanged(&file_area, 0)};
+}

@@ -28,4 +28,18 @@ Called call_file(FileCall *call, const uint8_t *file, size_t length, size_t answ
  * legal constant or parameter row. */
 Called call_model(ModelCall *call, const Model *model, Lengths lengths, size_t written);
 
+/* The count of rows that touch a set, for n and b of the call's own, with so many of the model's rows lent. */
+typedef struct {
+    size_t n, b, rows;
+    const uint8_t *set;
+    size_t length;
+} Touching;
+
+typedef struct {
+    size_t rows;
+    int intact;
+} Touched;
+
+Touched call_touching(const Model *model, Touching touching);
+
 #endif

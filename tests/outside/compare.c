@@ -22,6 +22,7 @@ static int compare_all(const char *models)
     compare_mixed_files();
     compare_spoilt_models();
     compare_ranks();
+    compare_rows();
     return end_tally() > 0;
 }
 

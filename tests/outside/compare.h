@@ -56,5 +56,6 @@ void compare_mixed_files(void); /* compare_mixed.c */
 void compare_edges(void); /* compare_refusals.c */
 void compare_mixed_sizes(void);
 void compare_spoilt_models(void);
+void compare_rows(void); /* compare_rows.c */
 
 #endif

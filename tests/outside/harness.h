@@ -21,4 +21,7 @@ ModelCall harness_mixed;
 /* The bytes of the model's file. */
 ModelCall harness_write;
 
+/* How many of the first b parameter rows have a parameter in the set that the bytes show, at a column below n. */
+size_t harness_touching(size_t n, size_t b, const uint64_t *parameters, size_t parameters_len, const uint8_t *set, size_t set_len);
+
 #endif

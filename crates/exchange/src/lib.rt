@@ -6,7 +6,7 @@ ghost use mathlib.Core.Logic.{_↔_};
 ghost use mathlib.Core.Bool.{true, false};
 ghost use Prim.Native.Nat.{ℕ, _<_, _≤_};
 ghost use Rattle.limits.specs.Limits.{most-columns, most-rows};
-ghost use Rattle.residue.specs.Arithmetic.{is-prime};
+ghost use Rattle.residue.specs.Arithmetic.{is-prime, InverseTable};
 ghost use Rattle.counting.specs.Sets.{_∈_};
 ghost use Rattle.columns.specs.Columns.{members, within};
 ghost use Rattle.columns.specs.ColumnSets.{whole, row-numbers};
@@ -24,6 +24,7 @@ mod tableau;
 use columns::ColumnSet;
 use limits::MOST_ROWS;
 use limits::NO_COLUMN;
+use residue::LISTED_PRIME;
 use sizes::CELLS;
 use sizes::LINES;
 
@@ -51,21 +52,22 @@ fn nothing() -> Solution
     }
 }
 
-// The answer over a filled tableau and words.
+// The answer over a filled tableau and words, with a table of inverses, which may be empty.
 fn answer(
     t: &mut [u16; CELLS],
     parameters: &[u64],
+    inverses: &[u16],
     p: u16,
     n: usize,
     a: usize,
     b: usize,
     offered: ColumnSet,
 ) -> Solution
-    requires { ⌜ TableauArray p (now t) × (n ≤ most-columns) × (a ≤ most-rows) × (b ≤ most-rows) × (within n (whole offered) ≡ true) × (is-prime p ≡ true) ⌝ }
+    requires { ⌜ TableauArray p (now t) × InverseTable p (now inverses) × (n ≤ most-columns) × (a ≤ most-rows) × (b ≤ most-rows) × (within n (whole offered) ≡ true) × (is-prime p ≡ true) ⌝ }
     ensures { λ r. ⌜ (r .valid ≡ true) × ((G : Given p n b (row-numbers (now (parameters .entry)))) → ShowsConstants p n a b (row-numbers (now (parameters .entry))) G (now (t .entry)) → ((x : ℕ) → (x ∈ members (whole offered)) ↔ ((x < n) × (x ∈ G .E))) → SolvedBy (model-of p n a b (row-numbers (now (parameters .entry))) G) r) ⌝ }
 {
     let mut owner = [n as u8; LINES];
-    let placed = offering::offer_all(t, &mut owner, parameters, p, n, a, b, offered);
+    let placed = offering::offer_all(t, &mut owner, parameters, inverses, p, n, a, b, offered);
     let missing = columns::difference(offered, placed);
     let f = search::search(t, &owner, parameters, n, a, a + b, missing);
     let rank = columns::size(placed);
@@ -99,5 +101,9 @@ pub fn solve(
     }
     let mut t = [0u16; CELLS];
     tableau::fill(&mut t, constants, n, a);
-    answer(&mut t, parameters, p as u16, n, a, b, offered)
+    if p == LISTED_PRIME {
+        let inverses = residue::listed_inverses();
+        return answer(&mut t, parameters, &inverses, p as u16, n, a, b, offered);
+    }
+    answer(&mut t, parameters, &[], p as u16, n, a, b, offered)
 }

@@ -3,6 +3,7 @@ ghost use mathlib.Core.Path.{_≡_};
 ghost use Prim.Native.Nat.{_≤_};
 ghost use lib.ListN.{length};
 ghost use Rattle.limits.specs.Limits.{most-columns, most-rows};
+ghost use Rattle.residue.specs.Arithmetic.{InverseTable};
 ghost use Rattle.columns.specs.Columns.{members};
 ghost use Rattle.columns.specs.ColumnSets.{whole, row-numbers};
 ghost use Rattle.exchange.specs.Sizes.{lines};
@@ -23,13 +24,14 @@ pub fn offer_all(
     t: &mut [u16; CELLS],
     owner: &mut [u8; LINES],
     parameters: &[u64],
+    inverses: &[u16],
     p: u16,
     n: usize,
     a: usize,
     b: usize,
     offered: ColumnSet,
 ) -> ColumnSet
-    requires { ⌜ Arrays p n a b (now t) (now owner) × ((G : Given p n b (row-numbers (now parameters))) × Offers p n a b (row-numbers (now parameters)) (members (whole offered)) (now t) (now owner) G) ⌝ }
+    requires { ⌜ Arrays p n a b (now t) (now owner) × InverseTable p (now inverses) × ((G : Given p n b (row-numbers (now parameters))) × Offers p n a b (row-numbers (now parameters)) (members (whole offered)) (now t) (now owner) G) ⌝ }
     ensures { λ r. ⌜ Arrays p n a b (now (t .exit)) (now (owner .exit)) × ((G : Given p n b (row-numbers (now (parameters .entry)))) → Offers p n a b (row-numbers (now (parameters .entry))) (members (whole offered)) (now (t .entry)) (now (owner .entry)) G → Offered-all p n a b (row-numbers (now (parameters .entry))) G (now (t .exit)) (now (owner .exit)) (members (whole r))) ⌝ }
 {
     let mut rest = offered;
@@ -37,7 +39,7 @@ pub fn offer_all(
     while !columns::is_empty(rest) {
         let j = columns::first(rest);
         rest = columns::without(rest, j);
-        if seating::place(t, owner, parameters, p, n, a, b, j) {
+        if seating::place(t, owner, parameters, inverses, p, n, a, b, j) {
             placed = columns::with(placed, j);
         }
     }

@@ -4,6 +4,7 @@ ghost use mathlib.Core.Bool.{true};
 ghost use Prim.Native.Nat.{_<_, _≤_};
 ghost use lib.ListN.{length};
 ghost use Rattle.limits.specs.Limits.{most-columns};
+ghost use Rattle.residue.specs.Arithmetic.{InverseTable};
 ghost use Rattle.columns.specs.ColumnSets.{row-numbers};
 ghost use Rattle.rank.specs.Graph.States.{Placed};
 ghost use Rattle.exchange.specs.Sizes.{lines};
@@ -37,6 +38,7 @@ fn vacate(owner: &mut [u8; LINES], n: usize, x: usize)
 fn seat(
     t: &mut [u16; CELLS],
     owner: &mut [u8; LINES],
+    inverses: &[u16],
     p: u16,
     n: usize,
     a: usize,
@@ -44,13 +46,13 @@ fn seat(
     x: usize,
     q: usize,
 )
-    requires { ⌜ Lengths n a rows (now t) (now owner) × Below p (now t) × (x < n) × (q < rows) ⌝ }
+    requires { ⌜ Lengths n a rows (now t) (now owner) × Below p (now t) × InverseTable p (now inverses) × (x < n) × (q < rows) ⌝ }
     ensures { λ _. ⌜ Lengths n a rows (now (t .exit)) (now (owner .exit)) × Below p (now (t .exit)) × Sat p n a rows x q (now (t .entry)) (now (owner .entry)) (now (t .exit)) (now (owner .exit)) ⌝ }
 {
     vacate(owner, n, x);
     owner[q] = x as u8;
     if q < a {
-        tableau::pivot(t, p, n, a, q, x);
+        tableau::pivot(t, inverses, p, n, a, q, x);
     }
 }
 
@@ -59,13 +61,14 @@ pub fn place(
     t: &mut [u16; CELLS],
     owner: &mut [u8; LINES],
     parameters: &[u64],
+    inverses: &[u16],
     p: u16,
     n: usize,
     a: usize,
     b: usize,
     j: usize,
 ) -> bool
-    requires { ⌜ Arrays p n a b (now t) (now owner) × (j < n) × ((G : Given p n b (row-numbers (now parameters))) × (G .E j ≡ true) × Held p n a b (row-numbers (now parameters)) G (now t) (now owner)) ⌝ }
+    requires { ⌜ Arrays p n a b (now t) (now owner) × InverseTable p (now inverses) × (j < n) × ((G : Given p n b (row-numbers (now parameters))) × (G .E j ≡ true) × Held p n a b (row-numbers (now parameters)) G (now t) (now owner)) ⌝ }
     ensures { λ r. ⌜ Arrays p n a b (now (t .exit)) (now (owner .exit)) × ((G : Given p n b (row-numbers (now (parameters .entry)))) (h : Held p n a b (row-numbers (now (parameters .entry))) G (now (t .entry)) (now (owner .entry))) → G .E j ≡ true → (Placed (h .s) j → ⊥) → Placing p n a b (row-numbers (now (parameters .entry))) G (now (t .entry)) (now (owner .entry)) (now (t .exit)) (now (owner .exit)) j r h) ⌝ }
 {
     let rows = a + b;
@@ -75,9 +78,9 @@ pub fn place(
         return false;
     }
     while f.depth > 0 {
-        seat(t, owner, p, n, a, rows, f.column, f.row);
+        seat(t, owner, inverses, p, n, a, rows, f.column, f.row);
         f = search::search(t, owner, parameters, n, a, rows, start);
     }
-    seat(t, owner, p, n, a, rows, j, f.row);
+    seat(t, owner, inverses, p, n, a, rows, j, f.row);
     true
 }

@@ -1,13 +1,19 @@
 // The calls for models handed over without a file, exported to C for the tests that hold the compiled library against a
 // reference, and for measuring. The product's archive has none of them.
+ghost use mathlib.Core.Path.{_≡_};
 ghost use Prim.Native.Nat.{ℕ};
+ghost use lib.ListN.{take};
+ghost use Rattle.columns.specs.Bytes.{number};
+ghost use Rattle.columns.specs.Columns.{room-bytes, members};
 ghost use Rattle.columns.specs.ColumnSets.{row-numbers};
 ghost use Rattle.format.specs.File.Format.{WriteCall};
+ghost use Rattle.touching.specs.RowCount.{touching-rows};
 ghost use Rattle.harness.specs.Calls.{LayeredBytes, MixedBytes};
 use host::put_answer;
 use host::put_mixed;
 use layered::layered_rank;
 use mixed::mixed_rank;
+use touching::touching_rows;
 use writer::write_file;
 
 // The bytes of the layered answer.
@@ -65,4 +71,12 @@ pub extern "C" fn harness_write(
 {
     let w = write_file(p, n, a, b, constants, parameters, out);
     w.refusal
+}
+
+// How many parameter rows, b of them in an area, have a parameter in a set of columns below n; the bytes of the set are handed over.
+#[no_mangle]
+pub extern "C" fn harness_touching(n: usize, b: usize, parameters: &[u64], set: &[u8]) -> usize
+    ensures { λ r. ⌜ r ≡ touching-rows n b (row-numbers (now (parameters .entry))) (members (number (take room-bytes (now (set .entry))))) ⌝ }
+{
+    touching_rows(parameters, n, b, columns::of_bytes(set))
 }

@@ -34,7 +34,7 @@ abbrev offered : tie.After-short → tie.After-offer-all
 offered c = missed c .before
 
 abbrev begun : tie.After-owner → tie.Start
-begun c = c .before .before .before
+begun c = c .before .before .before .before
 
 -- every row is free at first
 none-owned : (n N : ℕ) → N ≤ lines → (q : ℕ) → q < N → owner-at (replicate lines n) q ≡ n
@@ -47,12 +47,13 @@ offer-all-requires : tie.Need-offer-all-requires
 offer-all-requires c κs =
     let k = begun c in
     let a = k .args in
-    let below : (x : ℕ) → x ∈ members (whole (a .offered)) → x < a .n = λ x e. within-iff (a .n) (whole (a .offered)) .0 (k .pre .4) x (columns-below (a .offered) x (search needs) e) e in (
+    let below : (x : ℕ) → x ∈ members (whole (a .offered)) → x < a .n = λ x e. within-iff (a .n) (whole (a .offered)) .0 (k .pre .5) x (columns-below (a .offered) x (search needs) e) e in (
       record {
-        lengths = record { tableau = k .pre .0 .full; owners = refl; columns = k .pre .1; constant-rows = k .pre .2; ordered = omega arith; all-rows = omega arith };
+        lengths = record { tableau = k .pre .0 .full; owners = refl; columns = k .pre .2; constant-rows = k .pre .3; ordered = omega arith; all-rows = omega arith };
         below = k .pre .0 .below;
-        prime = k .pre .5;
+        prime = k .pre .6;
       },
+      k .pre .1,
       offers-some (a .p) (a .n) (a .a) (a .b) (row-numbers (a .parameters .now)) (a .t .now) (replicate lines (a .n)) (none-owned (a .n) (a .a + a .b) (omega arith)) (members (whole (a .offered))) below,
     )
 

@@ -1,9 +1,11 @@
 -- `exchange::solve` meets its contract: the tableau shows the constants, and `answer` does the rest. Assumes nothing.
 use Prim.Native.Nat.{ℕ, _-_, _*_, _<_}
 use mathlib.Core.Path.{_≡_, refl, sym, ap, _∙_}
+use mathlib.Core.Logic.{_↔_}
 use mathlib.Core.Bool.{true, false, true≢false}
 use lib.ListN.{replicate}
 use borrow.Author.Tests.{not-true, not-false}
+use Rattle.residue.specs.Arithmetic.{InverseTable}
 use Rattle.residue.specs.Primes.{is-prime-reads}
 use Rattle.counting.specs.Sets.{_∈_}
 use Rattle.columns.specs.Columns.{members}
@@ -12,9 +14,11 @@ use Rattle.columns.specs.Words.Operations.{within-iff}
 use Rattle.columns.specs.Words.Sets.{columns-below}
 use Rattle.rank.specs.Modulus.{residue-of}
 use Rattle.exchange.specs.Sizes.{cells}
-use Rattle.exchange.specs.Solve.{admissible}
+use Rattle.exchange.specs.Solve.{admissible, SolvedBy, Solves}
 use Rattle.exchange.specs.SolveLaws.{all-below-iff, Admissible, admissible-reads}
-use Rattle.exchange.specs.Code.Held.{Given}
+use Rattle.exchange.specs.Code.Cells.{TableauArray}
+use Rattle.exchange.specs.Code.Held.{Given, model-of, ShowsConstants}
+use Rattle.exchange.specs.declared.Solution.{Solution}
 use Rattle.exchange.proofs.CellLaws.{zeros-below, filled-below}
 use borrow.Author.Needs.{needs}
 use native.Mathlib.Omega.{arith}
@@ -25,8 +29,8 @@ use Rattle.exchange.proofs.solve.Tie as tie
 abbrev begun : tie.After-is-admissible → tie.Start
 begun c = c .before .before .before
 
-abbrev accepted : tie.After-t2 → tie.Else1
-accepted c = c .before .before .before
+abbrev accepted : tie.After-fill → tie.Else1
+accepted c = c .before .before
 
 -- what holds where the model is taken
 taken : (c : tie.Else1) → let a = begun (c .before) .args in admissible (a .p) (a .n) (a .a) (a .b) (whole (a .offered)) (a .constants .now) (row-numbers (a .parameters .now)) ≡ true
@@ -51,49 +55,74 @@ returns c =
       if-valid = λ z. absurd (true≢false (sym z ∙ refused));
     }
 
+-- the tableau when it is filled
+filled : (c : tie.After-fill) → TableauArray (begun (accepted c .before) .args .p) (c .fill .last .0)
+filled c =
+    let a = begun (accepted c .before) .args in
+    let g = good (accepted c) in
+    let f = g .fits in
+    let pos = is-prime-reads (a .p) .0 (g .prime) .least in
+    record {
+      full = c .fill .ensures .0;
+      below = filled-below (a .p) (a .n) (a .a) (a .constants .now) (replicate cells 0) (c .fill .last .0) (omega (arith, f .columns)) (f .constants-lent) (all-below-iff (a .p) (a .a * a .n) (a .constants .now) .0 (g .low)) (zeros-below (a .p) cells (omega arith)) (c .fill .ensures .1);
+    }
+
+-- what an answer over it is
+solved : (c : tie.After-fill) (r : Solution) → let a = begun (accepted c .before) .args in let ws = row-numbers (a .parameters .now) in
+    (r .valid ≡ true) × ((G : Given (a .p) (a .n) (a .b) ws) → ShowsConstants (a .p) (a .n) (a .a) (a .b) ws G (c .fill .last .0) → ((x : ℕ) → (x ∈ members (whole (a .offered))) ↔ ((x < a .n) × (x ∈ G .E))) → SolvedBy (model-of (a .p) (a .n) (a .a) (a .b) ws G) r)
+    → Solves (a .p) (a .n) (a .a) (a .b) (a .offered) (a .constants .now) ws r
+solved c r h =
+    let k = accepted c in
+    let start = begun (k .before) in
+    let a = start .args in
+    let below : (x : ℕ) → x ∈ members (whole (a .offered)) → x < a .n = λ x e. within-iff (a .n) (whole (a .offered)) .0 (good k .inside) x (columns-below (a .offered) x (search (needs, start .good .1 .1 .1 .1 .0)) e) e in
+    record {
+      is-valid = h .0 ∙ sym (taken k);
+      if-not = λ z. absurd (true≢false (sym (taken k) ∙ z));
+      if-valid = λ z Q T E m.
+          let G : Given (a .p) (a .n) (a .b) (row-numbers (a .parameters .now)) = record { Q = Q; T = T; E = E; parameters = m .parameters } in
+          h .1 G (λ i x li lx. ap (residue-of (a .p)) (c .fill .ensures .1 .done i x li lx) ∙ sym (m .constants i x li lx))
+          (λ x. ((λ e. (below x e, m .columns x (below x e) ∙ e)), λ w. sym (m .columns x (w .0)) ∙ w .1));
+    }
+
 fill-requires : tie.Need-fill-requires
 fill-requires c κs =
     let f = good (c .before) .fits in
     (refl, f .columns, f .constant-rows, f .constants-lent)
 
+listed-inverses-requires : tie.Need-listed-inverses-requires
+listed-inverses-requires c κs = search needs
+
+slice-aggregate-answer : tie.Need-slice-aggregate-answer
+slice-aggregate-answer c = search needs
+
 cast-answer : tie.Need-cast-answer
-cast-answer c = omega (arith, good (accepted c) .short-prime)
+cast-answer c = search needs
 
 answer-requires : tie.Need-answer-requires
 answer-requires c κs =
-    let k = accepted c in
-    let a = begun (k .before) .args in
-    let g = good k in
-    let f = g .fits in
-    let filled = c .before .fill .ensures in
-    let pos = is-prime-reads (a .p) .0 (g .prime) .least in (
-      record {
-        full = filled .0;
-        below = filled-below (a .p) (a .n) (a .a) (a .constants .now) (replicate cells 0) _ (omega (arith, f .columns)) (f .constants-lent) (all-below-iff (a .p) (a .a * a .n) (a .constants .now) .0 (g .low)) (zeros-below (a .p) cells (omega arith)) (filled .1);
-      },
-      f .columns,
-      f .constant-rows,
-      f .parameter-rows,
-      g .inside,
-      g .prime,
-    )
+    let table = c .before .before in
+    let k = table .before .before in
+    let g = good (accepted k) in
+    (filled k, rw (table .before .if2 .taken) (table .listed-inverses .ensures .1), g .fits .columns, g .fits .constant-rows, g .fits .parameter-rows, g .inside, g .prime)
 
 returns-2 : tie.Need-returns-2
-returns-2 c =
-    let k = accepted (c .before) in
-    let start = begun (k .before) in
-    let a = start .args in
-    let g = good k in
-    let filled = c .before .before .fill .ensures in
-    let below : (x : ℕ) → x ∈ members (whole (a .offered)) → x < a .n = λ x e. within-iff (a .n) (whole (a .offered)) .0 (g .inside) x (columns-below (a .offered) x (search (needs, start .good .1 .1 .1 .1 .0)) e) e in
-    record {
-      is-valid = c .answer .ensures .0 ∙ sym (taken k);
-      if-not = λ z. absurd (true≢false (sym (taken k) ∙ z));
-      if-valid = λ z Q T E m.
-          let G : Given (a .p) (a .n) (a .b) (row-numbers (a .parameters .now)) = record { Q = Q; T = T; E = E; parameters = m .parameters } in
-          c .answer .ensures .1 G (λ i x li lx. ap (residue-of (a .p)) (filled .1 .done i x li lx) ∙ sym (m .constants i x li lx))
-          (λ x. ((λ e. (below x e, m .columns x (below x e) ∙ e)), λ w. sym (m .columns x (w .0)) ∙ w .1));
-    }
+returns-2 c = solved (c .before .before .before .before .before) (c .answer .result) (c .answer .ensures)
+
+slice-aggregate-answer-2 : tie.Need-slice-aggregate-answer-2
+slice-aggregate-answer-2 c = search needs
+
+cast-answer-2 : tie.Need-cast-answer-2
+cast-answer-2 c = omega (arith, good (accepted (c .before .before .before)) .short-prime)
+
+answer-requires-2 : tie.Need-answer-requires-2
+answer-requires-2 c κs =
+    let k = c .before .before .before in
+    let g = good (accepted k) in
+    (filled k, record { entry = λ i l. absurd (omega arith) }, g .fits .columns, g .fits .constant-rows, g .fits .parameter-rows, g .inside, g .prime)
+
+returns-3 : tie.Need-returns-3
+returns-3 c = solved (c .before .before .before .before) (c .answer2 .result) (c .answer2 .ensures)
 
 pub solve-spec : {M : Type 1} → statement M
 solve-spec =
@@ -103,6 +132,12 @@ solve-spec =
     nothing-requires
     returns
     fill-requires
+    listed-inverses-requires
+    slice-aggregate-answer
     cast-answer
     answer-requires
-    returns-2)
+    returns-2
+    slice-aggregate-answer-2
+    cast-answer-2
+    answer-requires-2
+    returns-3)

@@ -22,10 +22,10 @@ use Rattle.exchange.proofs.offering.offer_all.Statement.{statement}
 use Rattle.exchange.proofs.offering.offer_all.Tie as tie
 
 abbrev Inv-loop : tie.InvT-loop
-Inv-loop t₀ owner₀ parameters p n a b rest₀ placed₀ t owner rest placed = Arrays p n a b t owner × ((G : Given p n b (row-numbers parameters)) → Offers p n a b (row-numbers parameters) (members (whole rest₀)) t₀ owner₀ G → Offering p n a b (row-numbers parameters) G t owner (members (whole rest)) (members (whole placed)))
+Inv-loop t₀ owner₀ parameters inverses p n a b rest₀ placed₀ t owner rest placed = Arrays p n a b t owner × ((G : Given p n b (row-numbers parameters)) → Offers p n a b (row-numbers parameters) (members (whole rest₀)) t₀ owner₀ G → Offering p n a b (row-numbers parameters) G t owner (members (whole rest)) (members (whole placed)))
 
 abbrev μ-loop : tie.MeasureT-loop
-μ-loop t₀ owner₀ parameters p n a b rest₀ placed₀ t owner rest placed = # width (members (whole rest))
+μ-loop t₀ owner₀ parameters inverses p n a b rest₀ placed₀ t owner rest placed = # width (members (whole rest))
 
 -- the places of a turn: where its column is taken out of what is left, where it is chosen, where the turn begins, and where the call did
 
@@ -39,7 +39,7 @@ abbrev turn : tie.Then1 Inv-loop μ-loop → tie.At-loop Inv-loop μ-loop
 turn c = c .before .before
 
 abbrev begun : tie.At-loop Inv-loop μ-loop → tie.Start Inv-loop μ-loop
-begun k = k .before .before .before
+begun k = k .before .before .before .before
 
 abbrev entry : tie.After-first Inv-loop μ-loop → tie.Start Inv-loop μ-loop
 entry f = begun (turn (f .before))
@@ -71,7 +71,7 @@ empty-requires : tie.Need-empty-requires Inv-loop μ-loop
 empty-requires c κs = search needs
 
 loop-holds : tie.Need-loop-holds Inv-loop μ-loop
-loop-holds c = (c .before .before .pre .0, λ G m. rw (empty-none (c .empty .ensures)) (offering-start m))
+loop-holds c = (c .before .before .before .pre .0, λ G m. rw (empty-none (c .empty .ensures)) (offering-start m))
 
 is-empty-requires : tie.Need-is-empty-requires Inv-loop μ-loop
 is-empty-requires c κs = search needs
@@ -85,10 +85,10 @@ without-requires c κs = search needs
 place-requires : tie.Need-place-requires Inv-loop μ-loop
 place-requires c κs =
     let f = c .before .before .before in
-    let given = entry f .pre .1 in
+    let given = entry f .pre .2 in
     let d = so-far f (given .0) (given .1) in
     let first = least f (given .0) (given .1) in
-    (turn (f .before) .loop .inv .0, next-below d _ (there f .1) first, (given .0, next-offered d _ (there f .1) first, d .held))
+    (turn (f .before) .loop .inv .0, entry f .pre .1, next-below d _ (there f .1) first, (given .0, next-offered d _ (there f .1) first, d .held))
 
 with-requires : tie.Need-with-requires Inv-loop μ-loop
 with-requires c κs = search needs

@@ -18,14 +18,14 @@ use Rattle.exchange.proofs.seating.place.Statement.{statement}
 use Rattle.exchange.proofs.seating.place.Tie as tie
 
 abbrev Inv-loop : tie.InvT-loop
-Inv-loop t₀ owner₀ parameters p n a b j rows start f₀ t owner f = Arrays p n a b t owner × Finds n a b (row-numbers parameters) j t owner f × Holds p n a b (row-numbers parameters) j t₀ owner₀ t owner
+Inv-loop t₀ owner₀ parameters inverses p n a b j rows start f₀ t owner f = Arrays p n a b t owner × Finds n a b (row-numbers parameters) j t owner f × Holds p n a b (row-numbers parameters) j t₀ owner₀ t owner
 
 abbrev μ-loop : tie.MeasureT-loop
-μ-loop t₀ owner₀ parameters p n a b j rows start f₀ t owner f = f .depth
+μ-loop t₀ owner₀ parameters inverses p n a b j rows start f₀ t owner f = f .depth
 
 -- where the call begins, where its search starts, and where the first has ended, seen from where the loop begins
 abbrev begun : tie.After-with Inv-loop μ-loop → tie.Start Inv-loop μ-loop
-begun c = c .before .before .before
+begun c = c .before .before .before .before
 
 abbrev start : tie.After-search Inv-loop μ-loop → tie.After-with Inv-loop μ-loop
 start c = c .before .before .before
@@ -74,12 +74,12 @@ turned-seeks : (c : tie.After-search2 Inv-loop μ-loop) → let a = entry (turn 
     Seeks (a .n) (a .a) (a .b) (row-numbers (a .parameters .now)) (a .j) (st .last .0) (st .last .1 .0) (c .search2 .result)
 turned-seeks c =
     let given = entry (turn c) .pre in
-    seeks (c .search2 .result) _ (given .1) (omega (arith, given .0 .lengths .columns)) (starts (start (searched (turn c)))) (c .search2 .ensures)
+    seeks (c .search2 .result) _ (given .2) (omega (arith, given .0 .lengths .columns)) (starts (start (searched (turn c)))) (c .search2 .ensures)
 
 turned-nearer : (c : tie.After-search2 Inv-loop μ-loop) → let a = entry (turn c) .args in (c .search2 .result .row < a .a + a .b) × (c .search2 .result .depth < turn c .loop .f .depth)
 turned-nearer c =
     let v = turn c .loop .inv in
-    let given = entry (turn c) .pre .2 in
+    let given = entry (turn c) .pre .3 in
     turn-nearer (v .0) (v .1) (v .2) (turned-arrays c) (goes-on c .if2 .taken) (sat c .seat .ensures .2) (turned-seeks c) (given .0) (given .2) (given .1)
 
 add-rows : tie.Need-add-rows Inv-loop μ-loop
@@ -114,8 +114,8 @@ seat-requires : tie.Need-seat-requires Inv-loop μ-loop
 seat-requires c κs =
     let k = tested (c .before .before) in
     let v = k .loop .inv in
-    let given = entry k .pre .2 in
-    (v .0 .lengths, v .0 .below, found-below (v .0) (v .1) (v .2) (given .0) (given .2) (given .1), v .1 .at-row)
+    let given = entry k .pre .3 in
+    (v .0 .lengths, v .0 .below, entry k .pre .1, found-below (v .0) (v .1) (v .2) (given .0) (given .2) (given .1), v .1 .at-row)
 
 search-requires-2 : tie.Need-search-requires-2 Inv-loop μ-loop
 search-requires-2 c κs = search needs
@@ -129,7 +129,7 @@ loop-again c =
     (turned-arrays c, finds (turned-nearer c .0) (turned-seeks c), turn-holds (v .0) (v .1) (v .2) (turned-arrays c) (goes-on c .if2 .taken) (sat c .seat .ensures .2) (turned-seeks c))
 
 seat-requires-2 : tie.Need-seat-requires-2 Inv-loop μ-loop
-seat-requires-2 c κs = let v = ended (c .before .before) .loop .inv in (v .0 .lengths, v .0 .below, search needs, v .1 .at-row)
+seat-requires-2 c κs = let k = ended (c .before .before) in let v = k .loop .inv in (v .0 .lengths, v .0 .below, entry k .pre .1, entry k .pre .2, v .1 .at-row)
 
 returns-2 : tie.Need-returns-2 Inv-loop μ-loop
 returns-2 c =

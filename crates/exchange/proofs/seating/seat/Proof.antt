@@ -10,7 +10,7 @@ abbrev freed : tie.After-pivot → tie.After-vacate
 freed c = c .before .before .before
 
 abbrev begun : tie.After-vacate → tie.Start
-begun c = c .before .before
+begun c = c .before .before .before
 
 vacate-requires : tie.Need-vacate-requires
 vacate-requires c κs = search needs
