@@ -64,7 +64,19 @@ fn at(set: ColumnSet, x: usize) {
 fn pair(set: ColumnSet, other: ColumnSet) {
     io::write_all(1, b"pair");
     word(columns::union(set, other));
+    word(columns::intersection(set, other));
     word(columns::difference(set, other));
+    flag(columns::touches(set, other));
+    io::write_all(1, b"\n");
+}
+
+// One line: of the sets as rows, how many there are below each end, and which is the last to touch the set.
+fn over_rows(set: ColumnSet) {
+    io::write_all(1, b"rows");
+    for end in 0..8 {
+        number(columns::rows_within(&WORDS, end) as u64);
+        number(columns::last_touching(&WORDS, end, set) as u64);
+    }
     io::write_all(1, b"\n");
 }
 
@@ -97,5 +109,6 @@ fn main() {
         describe(set);
         over_places(set);
         over_words(set);
+        over_rows(set);
     }
 }

@@ -28,6 +28,9 @@ over-places-requires c κs = search needs
 over-words-requires : tie.Need-over-words-requires Inv-loop μ-loop
 over-words-requires c κs = search needs
 
+over-rows-requires : tie.Need-over-rows-requires Inv-loop μ-loop
+over-rows-requires c κs = search needs
+
 add-i : tie.Need-add-i Inv-loop μ-loop
 add-i c = search needs
 
@@ -52,6 +55,7 @@ main-spec =
     describe-requires
     over-places-requires
     over-words-requires
+    over-rows-requires
     add-i
     loop-less
     loop-again
