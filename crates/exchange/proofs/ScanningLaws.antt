@@ -16,7 +16,7 @@ use Rattle.columns.specs.Columns.{width, members, none, inserted}
 use Rattle.columns.specs.ColumnSets.{rows-touching}
 use Rattle.columns.specs.Words.SetLaws.{inserted-split}
 use Rattle.exchange.specs.Code.Cells.{cell}
-use Rattle.exchange.specs.Code.Scanning.{touched, RowRead, RowsRead, Owner, Owners, Scanned}
+use Rattle.exchange.specs.Code.Scanning.{touched, RowRead, RowsRead, Owners, Scanned}
 
 pub touched-constant : (a : ℕ) (t ws : List ℕ) (q x : ℕ) → q < a → touched a t ws q x ≡ not (eqb (cell t q x) 0)
 unfolding touched

@@ -1,7 +1,8 @@
--- The count of rows that touch a set is the middle term of the set's sum, by the definition of the sum; and the laws by which the code counts. Assumes nothing.
-use Prim.Native.Nat.{ℕ, zero, suc, _+_, _-_, _^_, _≤_, _<_}
+-- The count of rows that touch a set is the middle term of the set's sum, by the sum's own definition; and the laws by which the code counts. Assumes
+-- nothing.
+use Prim.Native.Nat.{ℕ, zero, suc, _+_, _-_, _≤_, _<_}
 use mathlib.Core.Path.{_≡_, refl, sym, ap, _∙_}
-use mathlib.Core.Bool.{Bool, true, false, _&&_}
+use mathlib.Core.Bool.{true, false, _&&_}
 use mathlib.Core.List.{List}
 use native.Mathlib.Omega.{arith}
 use native.Mathlib.Decide.{decLe}
@@ -16,7 +17,6 @@ use Rattle.columns.specs.Columns.{width, members, upto}
 use Rattle.columns.specs.ColumnSets.{rows-touching}
 use Rattle.columns.specs.Words.Rows.{no-row-touches}
 use Rattle.rank.specs.ListedModel.{parameter-at, listed-model}
-use Rattle.rank.specs.Layered.Model.{Model}
 use Rattle.rank.specs.Layered.Rank.{constant-rank, sum}
 use Rattle.touching.specs.RowCount.{touching-rows}
 

@@ -5,12 +5,12 @@ use Prim.Native.Nat.{ℕ, zero, suc, _+_, _-_, _*_, _/_, _%_, _^_, _≤_, _<_}
 use native.Mathlib.Nat.{div-one}
 use native.Mathlib.Decide.{decLt}
 use native.Mathlib.Omega.{arith}
-use lib.Dec.{eqb, lit<}
+use lib.Dec.{lit<}
 use lib.ListN.{length, getD, take, drop, length-take, List·getD-eq-default}
 use lib.Seq.{getD-take}
 use lib.Pow.{pow-pos, pow-add, shr-shr}
 use Rattle.columns.specs.Bytes.{number, bytes-of, bit-shown}
-use Rattle.columns.specs.Columns.{bit, members}
+use Rattle.columns.specs.Columns.{bit}
 use Rattle.columns.specs.Words.Bits.{bit-mod, bit-of-zero}
 
 -- every element is a byte
@@ -25,7 +25,7 @@ low-byte x m l = omega arith
 high-bytes : (x m : ℕ) → x < 256 → (x + 256 * m) / 2 ^ 8 ≡ m
 high-bytes x m l = omega arith
 
-pub number-bit : (bs : List ℕ) (c : ℕ) → AreBytes bs → bit (number bs) c ≡ bit (getD bs (c / 8) 0) (c % 8)
+number-bit : (bs : List ℕ) (c : ℕ) → AreBytes bs → bit (number bs) c ≡ bit-shown bs c
 number-bit [] c b = bit-of-zero c ∙ sym (bit-of-zero (c % 8))
 number-bit (x ∷ bs) c b = elim (decLt c 8) [
   | yes l ↦
@@ -49,12 +49,7 @@ number-bit (x ∷ bs) c b = elim (decLt c 8) [
     there : (q r : ℕ) → q ≡ suc ((c - 8) / 8) → r ≡ (c - 8) % 8 → bit (getD bs ((c - 8) / 8) 0) ((c - 8) % 8) ≡ bit (getD (x ∷ bs) q 0) r
     there q r e d = rw (e, d) refl
 
--- THE BIT LAW of eight bytes
-pub number-members : (bs : List ℕ) (c : ℕ) → AreBytes bs → members (number bs) c ≡ eqb (bit (getD bs (c / 8) 0) (c % 8)) 1
-unfolding members
-number-members bs c b = ap (λ (d : ℕ). eqb d 1) (number-bit bs c b)
-
--- of the first k bytes
+-- THE BIT LAW of the first k bytes
 pub bits-shown : (k : ℕ) (bs : List ℕ) (c : ℕ) → AreBytes bs → c < 8 * k → bit (number (take k bs)) c ≡ bit-shown bs c
 bits-shown k bs c b l =
     number-bit (take k bs) c (λ i. taken i)

@@ -5,7 +5,6 @@ use mathlib.Core.Logic.{_↔_}
 use mathlib.Core.Bool.{true, false, true≢false}
 use lib.ListN.{replicate}
 use borrow.Author.Tests.{not-true, not-false}
-use Rattle.residue.specs.Arithmetic.{InverseTable}
 use Rattle.residue.specs.Primes.{is-prime-reads}
 use Rattle.counting.specs.Sets.{_∈_}
 use Rattle.columns.specs.Columns.{members}

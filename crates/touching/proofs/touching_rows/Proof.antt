@@ -1,9 +1,9 @@
 -- `touching::touching_rows` meets its contract. The invariant: the rows below r have been counted. The measure is what is left. Assumes nothing.
-use Prim.Native.Nat.{ℕ, _+_, _-_, _≤_}
+use Prim.Native.Nat.{ℕ, _-_, _≤_}
 use mathlib.Core.Path.{_≡_, refl, sym, ap, _∙_}
 use mathlib.Core.Logic.{⊎-elim}
 use native.Mathlib.Omega.{arith}
-use lib.ListN.{length, getD}
+use lib.ListN.{length}
 use borrow.Author.Needs.{needs}
 use Rattle.counting.specs.Sets.{Set, _∩_, #, any}
 use Rattle.counting.specs.Counts.{#-le}
