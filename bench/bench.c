@@ -46,7 +46,7 @@ static Model balances(size_t a, size_t b, size_t parameters)
 
 static Model plant_like(void) { return balances(WUNDRESKA_ROWS_MAX, WUNDRESKA_ROWS_MAX, PARAMETERS_A_ROW); }
 
-/* As many rows as columns, and a parameter in every second place. */
+/* As many rows as columns; a parameter row has half of the columns, drawn. */
 static Model many_parameters(void)
 {
     return balances(FEW_CONSTANT_ROWS, WUNDRESKA_COLUMNS_MAX - FEW_CONSTANT_ROWS, WUNDRESKA_COLUMNS_MAX / 2);

@@ -48,10 +48,10 @@ extern "C" {
 #endif
 
 /* The version of this header and of the archive that it comes with. */
-#define WUNDRESKA_VERSION "2.0.0"
+#define WUNDRESKA_VERSION "2.0.1"
 #define WUNDRESKA_VERSION_MAJOR 2
 #define WUNDRESKA_VERSION_MINOR 0
-#define WUNDRESKA_VERSION_PATCH 0
+#define WUNDRESKA_VERSION_PATCH 1
 
 /* The limits: p is a prime from 2 to WUNDRESKA_PRIME_MAX, n is 1 to WUNDRESKA_COLUMNS_MAX, a and b are 0 to WUNDRESKA_ROWS_MAX
  * each. */

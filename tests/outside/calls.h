@@ -28,7 +28,7 @@ Called call_file(FileCall *call, const uint8_t *file, size_t length, size_t answ
  * legal constant or parameter row. */
 Called call_model(ModelCall *call, const Model *model, Lengths lengths, size_t written);
 
-/* The count of rows that touch a set, for n and b of the call's own, with so many of the model's rows lent. */
+/* A count of rows that touch a set: n and b of the call's own, how many rows the area holds, and the set's bytes. */
 typedef struct {
     size_t n, b, rows;
     const uint8_t *set;
@@ -36,8 +36,8 @@ typedef struct {
 } Touching;
 
 typedef struct {
-    size_t rows;
-    int intact;
+    size_t count;
+    int intact; /* every lent byte is as before */
 } Touched;
 
 Touched call_touching(const Model *model, Touching touching);

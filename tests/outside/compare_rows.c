@@ -27,7 +27,7 @@ static const char *touching_complaint(const Model *m, const Touching *t)
     for (size_t r = 0; r < t->b && r < t->rows; r++)
         count += row_touches(m, t, r);
     Touched touched = call_touching(m, *t);
-    if (touched.rows != count)
+    if (touched.count != count)
         return "the number of rows that touch the set is wrong";
     return touched.intact ? NULL : "a lent byte has changed";
 }
@@ -44,8 +44,8 @@ static void draw_set(uint8_t *set, size_t length)
             set[bit / 8] |= one_in(rare) << bit % 8;
 }
 
-/* Mostly the model's own n and a whole set. The area has the model's rows, and others behind them that do not count; or it has fewer than
- * are named. */
+/* Mostly the model's own n and a whole set. The area has the model's rows, and others behind them that do not count; or fewer, and b is
+ * drawn apart from them. */
 static Touching draw_touching(const Model *m, uint8_t *set)
 {
     Touching t = {m->n, m->b, m->b + draw(MORE), set, WUNDRESKA_SET_SIZE};

@@ -1,7 +1,8 @@
-/* The library's calls for models handed over without a file, as the crate `harness` exports them for tests and measuring.
+/* The library's calls for models handed over without a file, and the count of rows that touch a set, as the crate `harness` exports
+ * them for tests and measuring.
  *
- * Each takes p, n, a, b, the constants (row by row), the parameter rows as words, and an area to write to; lengths count
- * entries. Each returns 0 or the refusal: 3, 4, 8 for the constants' and parameters' areas, 5, 6, 10 where mixed, and last 8
+ * A ModelCall takes p, n, a, b, the constants (row by row), the parameter rows as words, and an area to write to; lengths count
+ * entries. It returns 0 or the refusal: 3, 4, 8 for the constants' and parameters' areas, 5, 6, 10 where mixed, and last 8
  * for the area written. */
 #ifndef HARNESS_H
 #define HARNESS_H
@@ -21,7 +22,7 @@ ModelCall harness_mixed;
 /* The bytes of the model's file. */
 ModelCall harness_write;
 
-/* How many of the first b parameter rows have a parameter in the set that the bytes show, at a column below n. */
+/* How many of the first b parameter rows have a parameter in the set that the bytes show, at a column below n. It refuses nothing. */
 size_t harness_touching(size_t n, size_t b, const uint64_t *parameters, size_t parameters_len, const uint8_t *set, size_t set_len);
 
 #endif

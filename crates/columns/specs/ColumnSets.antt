@@ -5,7 +5,7 @@ use mathlib.Core.Path.{_≡_}
 use mathlib.Core.List.{List}
 use lib.ListN.{getD, set, take}
 use Rattle.limits.specs.Limits.{most-rows}
-use Rattle.counting.specs.Sets.{Set, _∩_, any}
+use Rattle.counting.specs.Sets.{Set, touching}
 use Rattle.columns.specs.Bytes.{number, bit-shown}
 use Rattle.columns.specs.Columns.{width, room-bytes, bit, members}
 use Rattle.columns.specs.declared.ColumnSet.{ColumnSet}
@@ -45,7 +45,7 @@ row-numbers ws = ws
 
 -- of rows with these numbers, those that have a parameter in K
 abbrev pub rows-touching : List ℕ → Set → Set
-rows-touching ws K r = any width (K ∩ members (getD ws r 0))
+rows-touching ws K = touching width (λ r. members (getD ws r 0)) K
 
 -- the area with the number w for row r, where it has such a row
 unfoldable pub with-row : List ℕ → ℕ → ℕ → List ℕ

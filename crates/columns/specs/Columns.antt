@@ -48,9 +48,9 @@ least zero S = 0
 least (suc n) S = cond (S 0) 0 (suc (least n (λ x. S (suc x))))
 
 -- the greatest member of S below n, or d
-unfoldable pub greatest : (d n : ℕ) → Set → ℕ
-greatest d zero S = d
-greatest d (suc n) S = cond (S n) n (greatest d n S)
+unfoldable pub last-member : (d n : ℕ) → Set → ℕ
+last-member d zero S = d
+last-member d (suc n) S = cond (S n) n (last-member d n S)
 
 -- the number of the columns of S below k
 unfoldable pub word-of : ℕ → Set → ℕ

@@ -1,12 +1,12 @@
 // Sets of columns, a type of their own: no other code touches their bits or the words of a parameter row. Column x is in a set if bit x of its
 // word is 1. Every function is total: a column that a set has no room for is in none, and putting it into one changes nothing.
 ghost use mathlib.Core.Path.{_≡_};
-ghost use Prim.Native.Nat.{_+_, _-_, _*_, _<_, _≤_};
+ghost use Prim.Native.Nat.{_+_, _*_, _<_, _≤_, min};
 ghost use lib.Dec.{eqb};
 ghost use lib.ListN.{length, getD, take};
 ghost use Rattle.counting.specs.Sets.{_∪_, _∩_, ∁, #, any};
 ghost use Rattle.columns.specs.Bytes.{number, bytes-of};
-ghost use Rattle.columns.specs.Columns.{width, room-bytes, members, upto, inserted, removed, moved-up, moved-down, least, greatest, within};
+ghost use Rattle.columns.specs.Columns.{width, room-bytes, members, upto, inserted, removed, moved-up, moved-down, least, last-member, within};
 ghost use Rattle.columns.specs.ColumnSets.{row-words, most-words, empty-set, whole, ReadFrom, row-numbers, rows-touching, with-row};
 use limits::MOST_ROWS;
 
@@ -213,6 +213,7 @@ fn all_bytes(bytes: &[u8]) -> u64
     low + 4294967296 * high
 }
 
+// The number of four bytes, the low byte first.
 fn four_bytes(x: u8, y: u8, z: u8, w: u8) -> u64
     ensures { λ r. ⌜ (r ≡ x + 256 * y + 65536 * z + 16777216 * w) × (r < 4294967296) ⌝ }
 {
@@ -277,8 +278,8 @@ pub fn row(words: &[u64], r: usize) -> ColumnSet
 }
 
 // As many rows as named, or all that the area holds.
-pub fn rows_within(words: &[u64], end: usize) -> usize
-    ensures { λ r. ⌜ r ≡ end - (end - length (row-numbers (now (words .entry)))) ⌝ }
+pub fn rows_below(words: &[u64], end: usize) -> usize
+    ensures { λ r. ⌜ r ≡ min end (length (row-numbers (now (words .entry)))) ⌝ }
 {
     let all = rows(words);
     if end < all { end } else { all }
@@ -286,9 +287,9 @@ pub fn rows_within(words: &[u64], end: usize) -> usize
 
 // The last parameter row below `end` that has a parameter in the set, or `end` where none has.
 pub fn last_touching(words: &[u64], end: usize, set: ColumnSet) -> usize
-    ensures { λ r. ⌜ r ≡ greatest end end (rows-touching (row-numbers (now (words .entry))) (members (whole set))) ⌝ }
+    ensures { λ r. ⌜ r ≡ last-member end end (rows-touching (row-numbers (now (words .entry))) (members (whole set))) ⌝ }
 {
-    let mut r = rows_within(words, end);
+    let mut r = rows_below(words, end);
     while r > 0 {
         r -= 1;
         if touches(row(words, r), set) {

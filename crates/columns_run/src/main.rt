@@ -74,7 +74,7 @@ fn pair(set: ColumnSet, other: ColumnSet) {
 fn over_rows(set: ColumnSet) {
     io::write_all(1, b"rows");
     for end in 0..8 {
-        number(columns::rows_within(&WORDS, end) as u64);
+        number(columns::rows_below(&WORDS, end) as u64);
         number(columns::last_touching(&WORDS, end, set) as u64);
     }
     io::write_all(1, b"\n");

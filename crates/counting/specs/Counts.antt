@@ -6,6 +6,7 @@ use mathlib.Core.Logic.{_≢_, _↔_, inl, inr, by-cases}
 use native.Mathlib.Omega.{arith}
 use native.Mathlib.Decide.{ℕ-discrete}
 use native.Mathlib.Nat.{zero-add}
+use native.Mathlib.Numerals.{add-one}
 use lib.Dec.{eqb}
 use borrow.Author.Tests.{ne-eqb}
 use Rattle.counting.specs.Sets.{Set, _∈_, _∩_, ∁, indicator, #, all, any, Some, choose, set, touching}
@@ -108,6 +109,11 @@ pub ⊖-other : (S : Set) (j i : ℕ) → i ≢ j → (S ⊖ j) i ≡ S i
 ⊖-other S j i h = set-other S j false i h
 
 -- ---- counts
+
+-- one number more
+pub #-next : (n : ℕ) (S : Set) (b : Bool) → S n ≡ b → # (n + 1) S ≡ indicator b + # n S
+unfolding #
+#-next n S b e = ap (λ (k : ℕ). # k S) (add-one n) ∙ ap (λ c. indicator c + # n S) e
 
 pub #-ext : (n : ℕ) (S T : Set) → ((i : ℕ) → i < n → S i ≡ T i) → # n S ≡ # n T
 unfolding #

@@ -30,17 +30,17 @@ use Rattle.exchange.specs.Code.Cells.{cell, Below, Pivoted}
 use Rattle.exchange.specs.Code.Scanning.{Arrays, touched, owner-at}
 use Rattle.exchange.proofs.ScanningLaws.{touched-constant, touched-parameter}
 use Rattle.exchange.specs.Code.Searching.{Shows}
-use Rattle.exchange.specs.Code.Held.{left-by, Sat, Given, model-of, Held}
+use Rattle.exchange.specs.Code.Held.{vacated-owner, Sat, Given, model-of, Held}
 use Rattle.exchange.proofs.CellLaws.{cleared-is}
 
 -- the owner of a row that x leaves, and that of another
-pub left-same : (x n y : ℕ) → y ≡ x → left-by x n y ≡ n
-unfolding left-by
-left-same x n y e = ap (λ c. cond c n y) (eq-eqb y x e)
+pub vacated-same : (x n y : ℕ) → y ≡ x → vacated-owner x n y ≡ n
+unfolding vacated-owner
+vacated-same x n y e = ap (λ c. cond c n y) (eq-eqb y x e)
 
-pub left-other : (x n y : ℕ) → y ≢ x → left-by x n y ≡ y
-unfolding left-by
-left-other x n y ne = ap (λ c. cond c n y) (ne-eqb y x ne)
+pub vacated-other : (x n y : ℕ) → y ≢ x → vacated-owner x n y ≡ y
+unfolding vacated-owner
+vacated-other x n y ne = ap (λ c. cond c n y) (ne-eqb y x ne)
 
 module _ (p n a b : ℕ) (ws : List ℕ) (G : Given p n b ws) where
   abbrev M : Model
@@ -115,26 +115,26 @@ module _ (p n a b : ℕ) (ws : List ℕ) (G : Given p n b ws) where
   Seated t o t′ o′ x q h = (h′ : Held p n a b ws G t′ o′) × (((q′ : ℕ) × Moved (h .s) (h′ .s) x q q′) ⊎ ((Placed (h .s) x → ⊥) × Entered (h .s) (h′ .s) x q))
 
   module _ (t o t′ o′ : List ℕ) (x q : ℕ) (w : Arrays p n a b t o) (h : Held p n a b ws G t o)
-      (lx : x < n) (lq : q < a + b) (fq : n ≤ h .s .owner q) (tq : h .s .touch q x ≡ true) (d : Sat p n a (a + b) x q t o t′ o′) where
-    -- who owns the rows when x has left its own
-    abbrev OwnersThen : (ℕ → ℕ) → Type 0
-    OwnersThen f = (r : ℕ) → r < a + b → owner-at (d .middle) r ≡ f r
+      (lx : x < n) (lq : q < a + b) (fq : n ≤ h .s .owner q) (tq : h .s .touch q x ≡ true) (d : Sat p n a x q t o t′ o′) where
+    -- who owns the rows between, when x has left its own
+    abbrev MiddleOwners : (ℕ → ℕ) → Type 0
+    MiddleOwners f = (r : ℕ) → r < a + b → owner-at (d .middle) r ≡ f r
 
-    then : (r : ℕ) → r < a + b → owner-at (d .middle) r ≡ left-by x n (h .s .owner r)
-    then r lr = d .vacated r (omega (arith, w .lengths .all-rows)) ∙ ap (left-by x n) (h .owners r lr)
+    middle-owner : (r : ℕ) → r < a + b → owner-at (d .middle) r ≡ vacated-owner x n (h .s .owner r)
+    middle-owner r lr = d .vacated r (omega (arith, w .lengths .all-rows)) ∙ ap (vacated-owner x n) (h .owners r lr)
 
-    one-left : (q′ : ℕ) → q′ < a + b → h .s .owner q′ ≡ x → OwnersThen (set (h .s .owner) q′ n)
-    one-left q′ lq′ so r lr = elim (ℕ-discrete r q′) [
-      | yes e ↦ then r lr ∙ left-same x n (h .s .owner r) (ap (h .s .owner) e ∙ so) ∙ sym (rw e (set-same (h .s .owner) q′ n))
-      | no ne ↦ then r lr
-          ∙ left-other x n (h .s .owner r) (λ z. ne (sym (h .s .owns-one q′ r lq′ lr (omega (arith, so)) (so ∙ sym z))))
+    middle-moved : (q′ : ℕ) → q′ < a + b → h .s .owner q′ ≡ x → MiddleOwners (set (h .s .owner) q′ n)
+    middle-moved q′ lq′ so r lr = elim (ℕ-discrete r q′) [
+      | yes e ↦ middle-owner r lr ∙ vacated-same x n (h .s .owner r) (ap (h .s .owner) e ∙ so) ∙ sym (rw e (set-same (h .s .owner) q′ n))
+      | no ne ↦ middle-owner r lr
+          ∙ vacated-other x n (h .s .owner r) (λ z. ne (sym (h .s .owns-one q′ r lq′ lr (omega (arith, so)) (so ∙ sym z))))
           ∙ sym (set-other (h .s .owner) q′ n r ne)
     ]
 
-    none-left : ((r : ℕ) → r < a + b → h .s .owner r ≢ x) → OwnersThen (h .s .owner)
-    none-left new r lr = then r lr ∙ left-other x n (h .s .owner r) (new r lr)
+    middle-new : ((r : ℕ) → r < a + b → h .s .owner r ≢ x) → MiddleOwners (h .s .owner)
+    middle-new new r lr = middle-owner r lr ∙ vacated-other x n (h .s .owner r) (new r lr)
 
-    after : (f : ℕ → ℕ) → OwnersThen f → (r : ℕ) → r < a + b → owner-at o′ r ≡ set f q x r
+    after : (f : ℕ → ℕ) → MiddleOwners f → (r : ℕ) → r < a + b → owner-at o′ r ≡ set f q x r
     after f e r lr = ap (λ l. owner-at l r) (d .owners) ∙ stored (d .middle) f q x (d .full) (w .lengths .all-rows) lq e r lr
 
     moving : (q′ : ℕ) → q′ < a + b → h .s .owner q′ ≡ x → Seated t o t′ o′ x q h
@@ -145,7 +145,7 @@ module _ (p n a b : ℕ) (ws : List ℕ) (G : Given p n b ws) where
             s = state M (seated M (h .good .P) q x) (set (set (h .s .owner) q′ n) q x) w0;
             good = record { P = seated M (h .good .P) q x; reads = λ r z. refl; kernel = w0 .kernel; tableau = w0 .tableau };
             cells = seated-cells (w .prime) t t′ (h .good .P) q x (w .below) (h .cells) lx (d .pivoted) (d .kept);
-            owners = after (set (h .s .owner) q′ n) (one-left q′ lq′ so);
+            owners = after (set (h .s .owner) q′ n) (middle-moved q′ lq′ so);
           },
           inl (q′, moved M (h .s) (h .good) x q q′ lx lq fq tq lq′ so),
         )
@@ -159,7 +159,7 @@ module _ (p n a b : ℕ) (ws : List ℕ) (G : Given p n b ws) where
             s = state M (seated M (h .good .P) q x) (set (h .s .owner) q x) w0;
             good = record { P = seated M (h .good .P) q x; reads = λ r z. refl; kernel = w0 .kernel; tableau = w0 .tableau };
             cells = seated-cells (w .prime) t t′ (h .good .P) q x (w .below) (h .cells) lx (d .pivoted) (d .kept);
-            owners = after (h .s .owner) (none-left none);
+            owners = after (h .s .owner) (middle-new none);
           },
           inr (
             λ v. none (v .0) (v .1) (v .2),

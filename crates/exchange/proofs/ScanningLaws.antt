@@ -9,9 +9,9 @@ use native.Mathlib.Decide.{ℕ-discrete, decLt}
 use lib.ListN.{getD}
 use lib.Dec.{eqb}
 use borrow.Author.Tests.{eq-eqb, ne-eqb, lt-ltb, le-ltb}
-use Rattle.counting.specs.Bools.{and-in, and-right, or-left, or-right, or-split}
-use Rattle.counting.specs.Sets.{Set, _∈_, _∩_, _∪_, _⊆_}
-use Rattle.counting.specs.Counts.{any-iff}
+use Rattle.counting.specs.Bools.{or-left, or-right, or-split}
+use Rattle.counting.specs.Sets.{Set, _∈_, _∪_, _⊆_}
+use Rattle.counting.specs.Counts.{touching-iff}
 use Rattle.columns.specs.Columns.{width, members, none, inserted}
 use Rattle.columns.specs.ColumnSets.{rows-touching}
 use Rattle.columns.specs.Words.SetLaws.{inserted-split}
@@ -33,16 +33,14 @@ touched-nonzero a t ws q x l nz = touched-constant a t ws q x l ∙ ap not (ne-e
 pub not-touched-zero : (a : ℕ) (t ws : List ℕ) (q x : ℕ) → q < a → cell t q x ≡ 0 → touched a t ws q x ≡ true → ⊥
 not-touched-zero a t ws q x l z e = true≢false (sym e ∙ touched-constant a t ws q x l ∙ ap not (eq-eqb (cell t q x) 0 z))
 
--- parameter row r touches a column of the set where its number and the set have one in common, and else none
-pub touched-common : (a : ℕ) (t ws : List ℕ) (r : ℕ) (F : Set) (x : ℕ) → x ∈ F ∩ members (getD ws r 0) → touched a t ws (a + r) x ≡ true
-touched-common a t ws r F x e =
-    let at : a + r - a ≡ r = omega arith in
-    touched-parameter a t ws (a + r) x (omega arith) ∙ ap (λ (k : ℕ). members (getD ws k 0) x) at ∙ and-right (F x) (members (getD ws r 0) x) e
+-- parameter row r touches the columns of its number; where it touches no column of a set, none of these is in the set
+pub touched-row : (a : ℕ) (t ws : List ℕ) (r x : ℕ) → x ∈ members (getD ws r 0) → touched a t ws (a + r) x ≡ true
+touched-row a t ws r x e = let at : a + r - a ≡ r = omega arith in touched-parameter a t ws (a + r) x (omega arith) ∙ ap (λ (k : ℕ). members (getD ws k 0) x) at ∙ e
 
 pub not-touched-apart : (a : ℕ) (t ws : List ℕ) (q : ℕ) (F : Set) (x : ℕ) → a ≤ q → rows-touching ws F (q - a) ≡ false → x < width → x ∈ F
     → touched a t ws q x ≡ true → ⊥
 not-touched-apart a t ws q F x l z w e d =
-    true≢false (sym (any-iff width (F ∩ members (getD ws (q - a) 0)) .1 (x, w, and-in e (sym (touched-parameter a t ws q x l) ∙ d))) ∙ z)
+    true≢false (sym (touching-iff width (λ r. members (getD ws r 0)) F (q - a) .1 (x, w, (e, sym (touched-parameter a t ws q x l) ∙ d))) ∙ z)
 
 module _ (n N : ℕ) (tch : ℕ → ℕ → Bool) (own : ℕ → ℕ) where
   pub rows-kept : (next more : Set) (x l m : ℕ) → next ⊆ more → RowsRead n N tch own next x l m → RowsRead n N tch own more x l m

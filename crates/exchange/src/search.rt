@@ -43,30 +43,26 @@ fn scan_parameters(
     ensures { λ r. ⌜ ((t : List ℕ) → Scanned n rows (touched a t (row-numbers (now (parameters .entry)))) (owner-at (now (owner .entry))) (members (whole front)) a rows (r .column) (r .row) (members (whole (r .next)))) ⌝ }
 {
     let mut next = columns::empty();
+    let mut column: usize = n;
+    let mut row: usize = rows;
     let mut end = rows - a;
-    loop {
+    'search: loop {
         let r = columns::last_touching(parameters, end, front);
         if r >= end {
-            return Met {
-                column: n,
-                row: rows,
-                next,
-            };
+            break 'search;
         }
         let q = a + r;
         let y = widened(owner[q]);
         if y >= n {
-            let met = columns::intersection(front, columns::row(parameters, r));
-            let column = columns::first(met);
-            return Met {
-                column,
-                row: q,
-                next,
-            };
+            let common = columns::intersection(front, columns::row(parameters, r));
+            column = columns::first(common);
+            row = q;
+            break 'search;
         }
         next = columns::with(next, y);
         end = r;
     }
+    Met { column, row, next }
 }
 
 // Reads the constant rows for a set: of each row the columns of the set, until one is not zero.
@@ -99,6 +95,7 @@ fn scan_constants(
                     break 'search;
                 }
                 next = columns::with(next, y);
+                // the row has been read
                 rest = columns::empty();
             } else {
                 rest = columns::without(rest, x);

@@ -10,7 +10,7 @@ ghost use Rattle.rank.specs.Graph.States.{Placed};
 ghost use Rattle.exchange.specs.Sizes.{lines};
 ghost use Rattle.exchange.specs.Code.Cells.{Below};
 ghost use Rattle.exchange.specs.Code.Scanning.{Lengths, Arrays};
-ghost use Rattle.exchange.specs.Code.Held.{Given, Held, left-by, Vacated, Sat};
+ghost use Rattle.exchange.specs.Code.Held.{Given, Held, vacated-owner, Vacated, Sat};
 ghost use Rattle.exchange.specs.Code.Placing.{Placing};
 use crate::search;
 use crate::sizes::CELLS;
@@ -19,7 +19,7 @@ use crate::tableau;
 
 // The owner y of a row, or n where it is x.
 fn vacated(y: u8, x: u8, n: u8) -> u8
-    ensures { λ r. ⌜ r ≡ left-by x n y ⌝ }
+    ensures { λ r. ⌜ r ≡ vacated-owner x n y ⌝ }
 {
     if y == x { n } else { y }
 }
@@ -47,7 +47,7 @@ fn seat(
     q: usize,
 )
     requires { ⌜ Lengths n a rows (now t) (now owner) × Below p (now t) × InverseTable p (now inverses) × (x < n) × (q < rows) ⌝ }
-    ensures { λ _. ⌜ Lengths n a rows (now (t .exit)) (now (owner .exit)) × Below p (now (t .exit)) × Sat p n a rows x q (now (t .entry)) (now (owner .entry)) (now (t .exit)) (now (owner .exit)) ⌝ }
+    ensures { λ _. ⌜ Lengths n a rows (now (t .exit)) (now (owner .exit)) × Below p (now (t .exit)) × Sat p n a x q (now (t .entry)) (now (owner .entry)) (now (t .exit)) (now (owner .exit)) ⌝ }
 {
     vacate(owner, n, x);
     owner[q] = x as u8;

@@ -1,5 +1,5 @@
-// The calls for models handed over without a file, exported to C for the tests that hold the compiled library against a
-// reference, and for measuring. The product's archive has none of them.
+// The calls for models handed over without a file, and the count of rows that touch a set, exported to C for the tests that hold the
+// compiled library against a reference, and for measuring. The product's archive has none of them.
 ghost use mathlib.Core.Path.{_≡_};
 ghost use Prim.Native.Nat.{ℕ};
 ghost use lib.ListN.{take};
@@ -7,7 +7,7 @@ ghost use Rattle.columns.specs.Bytes.{number};
 ghost use Rattle.columns.specs.Columns.{room-bytes, members};
 ghost use Rattle.columns.specs.ColumnSets.{row-numbers};
 ghost use Rattle.format.specs.File.Format.{WriteCall};
-ghost use Rattle.touching.specs.RowCount.{touching-rows};
+ghost use Rattle.touching.specs.RowCount.{touching-count};
 ghost use Rattle.harness.specs.Calls.{LayeredBytes, MixedBytes};
 use host::put_answer;
 use host::put_mixed;
@@ -76,7 +76,7 @@ pub extern "C" fn harness_write(
 // How many parameter rows, b of them in an area, have a parameter in a set of columns below n; the bytes of the set are handed over.
 #[no_mangle]
 pub extern "C" fn harness_touching(n: usize, b: usize, parameters: &[u64], set: &[u8]) -> usize
-    ensures { λ r. ⌜ r ≡ touching-rows n b (row-numbers (now (parameters .entry))) (members (number (take room-bytes (now (set .entry))))) ⌝ }
+    ensures { λ r. ⌜ r ≡ touching-count n b (row-numbers (now (parameters .entry))) (members (number (take room-bytes (now (set .entry))))) ⌝ }
 {
     touching_rows(parameters, n, b, columns::of_bytes(set))
 }

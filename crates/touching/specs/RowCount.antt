@@ -5,5 +5,5 @@ use Rattle.counting.specs.Sets.{Set, #, touching}
 use Rattle.rank.specs.ListedModel.{parameter-at}
 
 -- of the first b rows of ws, those that have a parameter at a column of J below n; by `middle-term` it is what stands in the `sum` of J
-abbrev pub touching-rows : (n b : ℕ) → List ℕ → Set → ℕ
-touching-rows n b ws J = # b (touching n (parameter-at ws) J)
+abbrev pub touching-count : (n b : ℕ) → List ℕ → Set → ℕ
+touching-count n b ws J = # b (touching n (parameter-at ws) J)

@@ -5,11 +5,11 @@ use mathlib.Core.Bool.{false}
 use native.Mathlib.Omega.{arith}
 use native.Mathlib.Decide.{ℕ-discrete}
 use borrow.Author.Needs.{needs}
-use Rattle.counting.specs.Sets.{Set, _∩_, any}
+use Rattle.counting.specs.Sets.{Set, _∩_, any, touching}
 use Rattle.columns.specs.Columns.{width, members}
 use Rattle.columns.specs.ColumnSets.{whole, row-numbers, rows-touching}
 use Rattle.columns.specs.Words.Rows.{no-row-touches}
-use Rattle.columns.specs.Words.SetLaws.{greatest-is, greatest-none}
+use Rattle.columns.specs.Words.SetLaws.{last-member-is, last-member-none}
 use Rattle.columns.proofs.last_touching.Statement.{statement}
 use Rattle.columns.proofs.last_touching.Tie as tie
 
@@ -31,15 +31,16 @@ abbrev touchers : tie.At-loop Inv-loop μ-loop → Set
 touchers l = let a = begun l .args in rows-touching (row-numbers (a .words .now)) (members (whole (a .set)))
 
 says : (c : tie.After-touches Inv-loop μ-loop) → c .touches .result ≡ touchers (turn c) (turn c .loop .r - 1)
+unfolding touching
 says c = c .touches .ensures ∙ ap (λ (w : ℕ). any width (members (whole (begun (turn c) .args .set)) ∩ members w)) (c .before .row .ensures)
 
-rows-within-requires : tie.Need-rows-within-requires Inv-loop μ-loop
-rows-within-requires c κs = search needs
+rows-below-requires : tie.Need-rows-below-requires Inv-loop μ-loop
+rows-below-requires c κs = search needs
 
 loop-holds : tie.Need-loop-holds Inv-loop μ-loop
 loop-holds c =
     let a = c .before .before .args in
-    (omega (arith, c .rows-within .ensures), λ x l m. no-row-touches (row-numbers (a .words .now)) (members (whole (a .set))) x (omega (arith, c .rows-within .ensures)))
+    (omega (arith, c .rows-below .ensures), λ x l m. no-row-touches (row-numbers (a .words .now)) (members (whole (a .set))) x (omega (arith, c .rows-below .ensures)))
 
 sub-r : tie.Need-sub-r Inv-loop μ-loop
 sub-r c = search needs
@@ -54,7 +55,7 @@ returns : tie.Need-returns Inv-loop μ-loop
 returns c =
     let l = turn (c .before) in
     let end = begun l .args .end in
-    sym (greatest-is end end (l .loop .r - 1) (touchers l) (omega arith) (sym (says (c .before)) ∙ c .if1 .taken) (λ x lx hx. l .loop .inv .1 x (omega arith) hx))
+    sym (last-member-is end end (l .loop .r - 1) (touchers l) (omega arith) (sym (says (c .before)) ∙ c .if1 .taken) (λ x lx hx. l .loop .inv .1 x (omega arith) hx))
 
 loop-less : tie.Need-loop-less Inv-loop μ-loop
 loop-less c = search needs
@@ -67,7 +68,7 @@ loop-again c =
 returns-2 : tie.Need-returns-2 Inv-loop μ-loop
 returns-2 c =
     let l = c .before in
-    sym (greatest-none (begun l .args .end) (begun l .args .end) (touchers l) (λ x lx. l .loop .inv .1 x (omega arith) lx))
+    sym (last-member-none (begun l .args .end) (begun l .args .end) (touchers l) (λ x lx. l .loop .inv .1 x (omega arith) lx))
 
 pub last-touching-spec : {M : Type 1} → statement M
 last-touching-spec =
@@ -75,7 +76,7 @@ last-touching-spec =
     (tie.spec
     Inv-loop
     μ-loop
-    rows-within-requires
+    rows-below-requires
     loop-holds
     sub-r
     row-requires

@@ -293,7 +293,7 @@ members-ext k v w hv hw e = bits-ext k v w hv hw (λ x l. same (bit v x) (bit w 
     same (suc zero) (suc (suc d)) h l e = absurd (omega arith)
     same (suc (suc c)) d h l e = absurd (omega arith)
 
-pub no-members : (w : ℕ) → w < 2 ^ width → # width (members w) ≡ 0 → w ≡ 0
+no-members : (w : ℕ) → w < 2 ^ width → # width (members w) ≡ 0 → w ≡ 0
 no-members w h e = members-ext width w 0 h (omega arith) (λ x l. not-true (members w x) (λ m.
     omega (arith, e, #-⊖ width (members w) x l m)) ∙ sym (ap (λ (S : Set). S x) members-zero))
 

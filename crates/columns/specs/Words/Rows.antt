@@ -7,9 +7,9 @@ use native.Mathlib.Nat.{div-one}
 use native.Mathlib.Omega.{arith}
 use lib.ListN.{length, getD, replicate, set, length-set, List·getD-eq-default}
 use Rattle.limits.specs.Limits.{most-rows}
-use Rattle.counting.specs.Bools.{not-true, and-right}
-use Rattle.counting.specs.Sets.{Set, _∈_, _∩_, Some}
-use Rattle.counting.specs.Counts.{any-iff}
+use Rattle.counting.specs.Bools.{not-true}
+use Rattle.counting.specs.Sets.{Set}
+use Rattle.counting.specs.Counts.{touching-iff}
 use Rattle.columns.specs.Columns.{width, members}
 use Rattle.columns.specs.ColumnSets.{row-words, most-words, row-numbers, rows-touching, with-row}
 use Rattle.columns.specs.Words.Operations.{members-zero}
@@ -38,6 +38,6 @@ with-row-length ws r w = length-set ws r w
 -- a row that is not there has no parameter
 pub no-row-touches : (ws : List ℕ) (K : Set) (r : ℕ) → length ws ≤ r → rows-touching ws K r ≡ false
 no-row-touches ws K r l = not-true (rows-touching ws K r) (λ e.
-    let s : Some width (λ x. x ∈ K ∩ members (getD ws r 0)) = any-iff width (K ∩ members (getD ws r 0)) .0 e in
+    let s = touching-iff width (λ i. members (getD ws i 0)) K r .0 e in
     let none-there : members (getD ws r 0) (s .0) ≡ false = ap (λ (w : ℕ). members w (s .0)) (List·getD-eq-default ws 0 l) ∙ ap (λ (S : Set). S (s .0)) members-zero in
-    true≢false (sym (and-right (K (s .0)) (members (getD ws r 0) (s .0)) (s .2)) ∙ none-there))
+    true≢false (sym (s .2 .1) ∙ none-there))

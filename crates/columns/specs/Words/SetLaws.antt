@@ -11,7 +11,7 @@ use Rattle.counting.specs.Bools.{true?, not-true, and-in, and-left, and-right, 
 use Rattle.counting.specs.Sets.{Set, _∈_, _⊆_, _∩_, _∪_, ∁, #, any, Some}
 use Rattle.counting.specs.Counts.{#-⊖, #-pick, size-any}
 use Rattle.counting.specs.Injections.{#-strict}
-use Rattle.columns.specs.Columns.{width, upto, inserted, removed, least, greatest}
+use Rattle.columns.specs.Columns.{width, upto, inserted, removed, least, last-member}
 use Rattle.columns.specs.Words.Operations.{least-in, least-first}
 
 -- ---- a column put in
@@ -62,33 +62,33 @@ least-any n S e = least-there n S (eqb-false (# n S) 0 (not-in (eqb (# n S) 0) (
 
 -- ---- the greatest member of a set
 
-pub greatest-is : (d n k : ℕ) (S : Set) → k < n → k ∈ S → ((x : ℕ) → k < x → x < n → S x ≡ false) → greatest d n S ≡ k
-unfolding greatest
-greatest-is d zero k S l e h = absurd (omega arith)
-greatest-is d (suc n) k S l e h = elim (ℕ-discrete k n) [
-  | yes z ↦ ap (λ b. cond b n (greatest d n S)) (rw z at e) ∙ sym z
-  | no nz ↦ ap (λ b. cond b n (greatest d n S)) (h n (omega arith) (omega arith)) ∙ greatest-is d n k S (omega arith) e (λ x lx hx. h x lx (omega arith))
+pub last-member-is : (d n k : ℕ) (S : Set) → k < n → k ∈ S → ((x : ℕ) → k < x → x < n → S x ≡ false) → last-member d n S ≡ k
+unfolding last-member
+last-member-is d zero k S l e h = absurd (omega arith)
+last-member-is d (suc n) k S l e h = elim (ℕ-discrete k n) [
+  | yes z ↦ ap (λ b. cond b n (last-member d n S)) (rw z at e) ∙ sym z
+  | no nz ↦ ap (λ b. cond b n (last-member d n S)) (h n (omega arith) (omega arith)) ∙ last-member-is d n k S (omega arith) e (λ x lx hx. h x lx (omega arith))
 ]
 
-pub greatest-none : (d n : ℕ) (S : Set) → ((x : ℕ) → x < n → S x ≡ false) → greatest d n S ≡ d
-unfolding greatest
-greatest-none d zero S h = refl
-greatest-none d (suc n) S h = ap (λ b. cond b n (greatest d n S)) (h n (omega arith)) ∙ greatest-none d n S (λ x l. h x (omega arith))
+pub last-member-none : (d n : ℕ) (S : Set) → ((x : ℕ) → x < n → S x ≡ false) → last-member d n S ≡ d
+unfolding last-member
+last-member-none d zero S h = refl
+last-member-none d (suc n) S h = ap (λ b. cond b n (last-member d n S)) (h n (omega arith)) ∙ last-member-none d n S (λ x l. h x (omega arith))
 
 -- it is in the set, and no later one is; or there is none
-pub record Greatest (n k : ℕ) (S : Set) : Type 0 where
+pub record LastMember (n k : ℕ) (S : Set) : Type 0 where
   pub inside : k < n → k ∈ S
   pub last : k < n → (x : ℕ) → k < x → x < n → S x ≡ false
-  pub no-other : n ≤ k → (x : ℕ) → x < n → S x ≡ false
+  pub no-member : n ≤ k → (x : ℕ) → x < n → S x ≡ false
 
-pub greatest-reads : (n : ℕ) (S : Set) → Greatest n (greatest n n S) S
-greatest-reads n S = from n (λ x l m. absurd (omega arith)) (omega arith)
+pub last-member-reads : (n : ℕ) (S : Set) → LastMember n (last-member n n S) S
+last-member-reads n S = from n (λ x l m. absurd (omega arith)) (omega arith)
   where
-    from : (m : ℕ) → ((x : ℕ) → m ≤ x → x < n → S x ≡ false) → m ≤ n → Greatest n (greatest n n S) S
-    from zero h l = rw (greatest-none n n S (λ x lx. h x (omega arith) lx)) (record { inside = λ k. absurd (omega arith); last = λ k. absurd (omega arith); no-other = λ k x lx. h x (omega arith) lx })
+    from : (m : ℕ) → ((x : ℕ) → m ≤ x → x < n → S x ≡ false) → m ≤ n → LastMember n (last-member n n S) S
+    from zero h l = rw (last-member-none n n S (λ x lx. h x (omega arith) lx)) (record { inside = λ k. absurd (omega arith); last = λ k. absurd (omega arith); no-member = λ k x lx. h x (omega arith) lx })
     from (suc m) h l = elim (true? (S m)) [
-      | yes e ↦ rw (greatest-is n n m S (omega arith) e (λ x lx hx. h x (omega arith) hx))
-          (record { inside = λ k. e; last = λ k x lx hx. h x (omega arith) hx; no-other = λ k. absurd (omega arith) })
+      | yes e ↦ rw (last-member-is n n m S (omega arith) e (λ x lx hx. h x (omega arith) hx))
+          (record { inside = λ k. e; last = λ k x lx hx. h x (omega arith) hx; no-member = λ k. absurd (omega arith) })
       | no ne ↦ from m (λ x lx hx. elim (ℕ-discrete x m) [ yes z ↦ rw z (not-true (S m) ne) | no nz ↦ h x (omega arith) hx ]) (omega arith)
     ]
 

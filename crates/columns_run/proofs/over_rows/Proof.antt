@@ -19,11 +19,11 @@ write-all-requires c κs = search needs
 loop-holds : tie.Need-loop-holds Inv-loop μ-loop
 loop-holds c = search needs
 
-slice-aggregate-rows-within : tie.Need-slice-aggregate-rows-within Inv-loop μ-loop
-slice-aggregate-rows-within c = search needs
+slice-aggregate-rows-below : tie.Need-slice-aggregate-rows-below Inv-loop μ-loop
+slice-aggregate-rows-below c = search needs
 
-rows-within-requires : tie.Need-rows-within-requires Inv-loop μ-loop
-rows-within-requires c κs = search needs
+rows-below-requires : tie.Need-rows-below-requires Inv-loop μ-loop
+rows-below-requires c κs = search needs
 
 number-requires : tie.Need-number-requires Inv-loop μ-loop
 number-requires c κs = search needs
@@ -64,8 +64,8 @@ over-rows-spec =
     slice-aggregate-write-all
     write-all-requires
     loop-holds
-    slice-aggregate-rows-within
-    rows-within-requires
+    slice-aggregate-rows-below
+    rows-below-requires
     number-requires
     slice-aggregate-last-touching
     last-touching-requires

@@ -49,7 +49,7 @@ offer-all-requires c κs =
     let a = k .args in
     let below : (x : ℕ) → x ∈ members (whole (a .offered)) → x < a .n = λ x e. within-iff (a .n) (whole (a .offered)) .0 (k .pre .5) x (columns-below (a .offered) x (search needs) e) e in (
       record {
-        lengths = record { tableau = k .pre .0 .full; owners = refl; columns = k .pre .2; constant-rows = k .pre .3; ordered = omega arith; all-rows = omega arith };
+        lengths = record { tableau = k .pre .0 .full; owners = refl; columns = k .pre .2; constant-rows = k .pre .3; constants-among = omega arith; all-rows = omega arith };
         below = k .pre .0 .below;
         prime = k .pre .6;
       },

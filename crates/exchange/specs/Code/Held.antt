@@ -18,15 +18,15 @@ use Rattle.exchange.specs.Code.Cells.{cell, Pivoted}
 use Rattle.exchange.specs.Code.Scanning.{owner-at}
 
 -- the owner y of a row that x leaves: n, where it was x
-unfoldable pub left-by : (x n y : ℕ) → ℕ
-left-by x n y = cond (eqb y x) n y
+unfoldable pub vacated-owner : (x n y : ℕ) → ℕ
+vacated-owner x n y = cond (eqb y x) n y
 
 -- x has left its row, if it had one
 abbrev pub Vacated : (n x : ℕ) → List ℕ → List ℕ → Type 0
-Vacated n x o o′ = (r : ℕ) → r < lines → owner-at o′ r ≡ left-by x n (owner-at o r)
+Vacated n x o o′ = (r : ℕ) → r < lines → owner-at o′ r ≡ vacated-owner x n (owner-at o r)
 
 -- column x is seated at row q
-pub record Sat (p n a N x q : ℕ) (t o t′ o′ : List ℕ) : Type 0 where
+pub record Sat (p n a x q : ℕ) (t o t′ o′ : List ℕ) : Type 0 where
   pub middle : List ℕ
   pub full : length middle ≡ lines
   pub vacated : Vacated n x o middle

@@ -21,7 +21,7 @@ pub record Lengths (n a N : ℕ) (t o : List ℕ) : Type 0 where
   pub owners : length o ≡ lines
   pub columns : n ≤ most-columns
   pub constant-rows : a ≤ most-rows
-  pub ordered : a ≤ N
+  pub constants-among : a ≤ N
   pub all-rows : N ≤ lines
 
 -- they are those of a model modulo p, with b parameter rows

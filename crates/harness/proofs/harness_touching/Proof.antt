@@ -4,7 +4,7 @@ use mathlib.Core.Path.{ap, _∙_}
 use borrow.Author.Needs.{needs}
 use Rattle.columns.specs.Columns.{members}
 use Rattle.columns.specs.ColumnSets.{row-numbers}
-use Rattle.touching.specs.RowCount.{touching-rows}
+use Rattle.touching.specs.RowCount.{touching-count}
 use Rattle.harness.proofs.harness_touching.Statement.{statement}
 use Rattle.harness.proofs.harness_touching.Tie as tie
 
@@ -17,7 +17,7 @@ touching-rows-requires c κs = search needs
 returns : tie.Need-returns
 returns c =
     let a = c .before .before .before .before .args in
-    c .touching-rows .ensures ∙ ap (λ (w : ℕ). touching-rows (a .n) (a .b) (row-numbers (a .parameters .now)) (members w)) (c .before .of-bytes .ensures .is-number)
+    c .touching-rows .ensures ∙ ap (λ (w : ℕ). touching-count (a .n) (a .b) (row-numbers (a .parameters .now)) (members w)) (c .before .of-bytes .ensures .is-number)
 
 pub harness-touching-spec : {M : Type 1} → statement M
 harness-touching-spec = tie.close (tie.spec of-bytes-requires touching-rows-requires returns)

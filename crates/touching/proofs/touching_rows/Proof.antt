@@ -1,16 +1,17 @@
 -- `touching::touching_rows` meets its contract. The invariant: the rows below r have been counted. The measure is what is left. Assumes nothing.
-use Prim.Native.Nat.{ℕ, _-_, _≤_}
+use Prim.Native.Nat.{ℕ, _-_, _≤_, min}
 use mathlib.Core.Path.{_≡_, refl, sym, ap, _∙_}
 use mathlib.Core.Logic.{⊎-elim}
+use mathlib.Core.Bool.{true, false}
 use native.Mathlib.Omega.{arith}
 use lib.ListN.{length}
 use borrow.Author.Needs.{needs}
-use Rattle.counting.specs.Sets.{Set, _∩_, #, any}
-use Rattle.counting.specs.Counts.{#-le}
+use Rattle.counting.specs.Sets.{Set, _∩_, indicator, #, any, touching}
+use Rattle.counting.specs.Counts.{#-next, #-le}
 use Rattle.columns.specs.Columns.{width, members, upto}
 use Rattle.columns.specs.ColumnSets.{whole, row-numbers, rows-touching}
 use Rattle.columns.specs.Words.Sets.{columns-below}
-use Rattle.touching.specs.RowCountLaws.{count-taken, count-left, count-touching}
+use Rattle.touching.specs.RowCountLaws.{count-touching}
 use Rattle.touching.proofs.touching_rows.Statement.{statement}
 use Rattle.touching.proofs.touching_rows.Tie as tie
 
@@ -24,8 +25,8 @@ abbrev μ-loop : tie.MeasureT-loop
 abbrev begun : tie.At-loop Inv-loop μ-loop → tie.Start Inv-loop μ-loop
 begun l = l .before .before .before .before .before
 
-rows-within-requires : tie.Need-rows-within-requires Inv-loop μ-loop
-rows-within-requires c κs = search needs
+rows-below-requires : tie.Need-rows-below-requires Inv-loop μ-loop
+rows-below-requires c κs = search needs
 
 below-requires : tie.Need-below-requires Inv-loop μ-loop
 below-requires c κs = search needs
@@ -53,14 +54,15 @@ loop-less : tie.Need-loop-less Inv-loop μ-loop
 loop-less c = search needs
 
 loop-again : tie.Need-loop-again Inv-loop μ-loop
+unfolding indicator touching
 loop-again c =
     let l = c .before .before .before .before in
     let S = rows-touching (row-numbers (begun l .args .parameters .now)) (members (whole (l .before .intersection .result))) in
     let met : c .before .touches .result ≡ S (l .loop .r) = c .before .touches .ensures ∙ ap (λ (w : ℕ). any width (members (whole (l .before .intersection .result)) ∩ members w)) (c .before .before .row .ensures) in (
       search needs,
       ⊎-elim
-          (λ w. rw (w .1) (count-taken (l .loop .r) (l .loop .many) S (sym met ∙ w .0 .taken) (l .loop .inv .1)))
-          (λ w. rw (w .1) (count-left (l .loop .r) (l .loop .many) S (sym met ∙ w .0 .left) (l .loop .inv .1)))
+          (λ w. rw (w .1) (omega (arith, l .loop .inv .1, #-next (l .loop .r) S true (sym met ∙ w .0 .taken))))
+          (λ w. rw (w .1) (omega (arith, l .loop .inv .1, #-next (l .loop .r) S false (sym met ∙ w .0 .left))))
           (c .if1 .came),
     )
 
@@ -69,11 +71,11 @@ returns c =
     let l = c .before in
     let a = begun l .args in
     let ws = row-numbers (a .parameters .now) in
-    let done : l .loop .r ≡ a .b - (a .b - length ws) = omega (arith, l .before .before .before .rows-within .ensures) in
+    let done : l .loop .r ≡ min (a .b) (length ws) = omega (arith, l .before .before .before .rows-below .ensures) in
     let inside : members (whole (l .before .intersection .result)) ≡ members (whole (a .set)) ∩ upto (a .n) = l .before .intersection .ensures ∙ ap (λ (S : Set). members (whole (a .set)) ∩ S) (l .before .before .below .ensures) in
     l .loop .inv .1
     ∙ ap (λ (k : ℕ). # k (rows-touching ws (members (whole (l .before .intersection .result))))) done
-    ∙ ap (λ (S : Set). # (a .b - (a .b - length ws)) (rows-touching ws S)) inside
+    ∙ ap (λ (S : Set). # (min (a .b) (length ws)) (rows-touching ws S)) inside
     ∙ count-touching (a .n) (a .b) ws (members (whole (a .set))) (λ x e. columns-below (a .set) x (search (needs, begun l .good .1 .1 .1 .0)) e)
 
 pub touching-rows-spec : {M : Type 1} → statement M
@@ -82,7 +84,7 @@ touching-rows-spec =
     (tie.spec
     Inv-loop
     μ-loop
-    rows-within-requires
+    rows-below-requires
     below-requires
     intersection-requires
     loop-holds

@@ -27,7 +27,7 @@ pivot-requires c κs = search needs
 returns : tie.Need-returns
 returns c =
     let l = begun (freed c) .pre .0 in (
-      record { tableau = c .pivot .ensures .0 .full; owners = search needs; columns = l .columns; constant-rows = l .constant-rows; ordered = l .ordered; all-rows = l .all-rows },
+      record { tableau = c .pivot .ensures .0 .full; owners = search needs; columns = l .columns; constant-rows = l .constant-rows; constants-among = l .constants-among; all-rows = l .all-rows },
       c .pivot .ensures .0 .below,
       record { middle = freed c .vacate .last .0; full = freed c .vacate .ensures .0; vacated = freed c .vacate .ensures .1; owners = refl; pivoted = λ l. c .pivot .ensures .1; kept = λ l. absurd (omega arith) },
     )
@@ -35,7 +35,7 @@ returns c =
 returns-2 : tie.Need-returns-2
 returns-2 c =
     let l = begun (c .before) .pre .0 in (
-      record { tableau = l .tableau; owners = search needs; columns = l .columns; constant-rows = l .constant-rows; ordered = l .ordered; all-rows = l .all-rows },
+      record { tableau = l .tableau; owners = search needs; columns = l .columns; constant-rows = l .constant-rows; constants-among = l .constants-among; all-rows = l .all-rows },
       begun (c .before) .pre .1,
       record { middle = c .before .vacate .last .0; full = c .before .vacate .ensures .0; vacated = c .before .vacate .ensures .1; owners = refl; pivoted = λ l. absurd (omega arith); kept = λ l. refl },
     )

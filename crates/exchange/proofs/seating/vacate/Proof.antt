@@ -11,28 +11,28 @@ use lib.Seq.{getD-set-same, getD-set-other}
 use borrow.Author.Needs.{needs}
 use Rattle.exchange.specs.Sizes.{lines}
 use Rattle.exchange.specs.Code.Scanning.{owner-at}
-use Rattle.exchange.specs.Code.Held.{left-by}
+use Rattle.exchange.specs.Code.Held.{vacated-owner}
 use Rattle.exchange.proofs.seating.vacate.Statement.{statement}
 use Rattle.exchange.proofs.seating.vacate.Tie as tie
 
--- the rows of o below q have been left by x
-record Left (x n q : ℕ) (o₀ o : List ℕ) : Type 0 where
+-- x has left its row, if that is below q
+record VacatedBelow (x n q : ℕ) (o₀ o : List ℕ) : Type 0 where
   pub full : length o ≡ lines
-  pub done : (r : ℕ) → r < q → owner-at o r ≡ left-by x n (owner-at o₀ r)
+  pub done : (r : ℕ) → r < q → owner-at o r ≡ vacated-owner x n (owner-at o₀ r)
   pub rest : (r : ℕ) → q ≤ r → owner-at o r ≡ owner-at o₀ r
 
-more : {x n q : ℕ} {o₀ o : List ℕ} (v : ℕ) → q < lines → v ≡ left-by x n (owner-at o q) → length (ListN.set o q v) ≡ lines → Left x n q o₀ o → Left x n (q + 1) o₀ (ListN.set o q v)
+more : {x n q : ℕ} {o₀ o : List ℕ} (v : ℕ) → q < lines → v ≡ vacated-owner x n (owner-at o q) → length (ListN.set o q v) ≡ lines → VacatedBelow x n q o₀ o → VacatedBelow x n (q + 1) o₀ (ListN.set o q v)
 more {x} {n} {q} {o₀} {o} v lq e full h = record {
   full = full;
   done = λ r l. elim (ℕ-discrete r q) [
-    | yes d ↦ rw d (getD-set-same o q v 0 (omega (arith, h .full)) ∙ e ∙ ap (left-by x n) (h .rest q (omega arith)))
+    | yes d ↦ rw d (getD-set-same o q v 0 (omega (arith, h .full)) ∙ e ∙ ap (vacated-owner x n) (h .rest q (omega arith)))
     | no nd ↦ getD-set-other o q r v 0 nd ∙ h .done r (omega arith)
   ];
   rest = λ r l. getD-set-other o q r v 0 (λ d. omega arith) ∙ h .rest r (omega arith);
 }
 
 abbrev Inv-loop : tie.InvT-loop
-Inv-loop owner₀ n x q₀ owner q = (q ≤ lines) × Left x n q owner₀ owner
+Inv-loop owner₀ n x q₀ owner q = (q ≤ lines) × VacatedBelow x n q owner₀ owner
 
 abbrev μ-loop : tie.MeasureT-loop
 μ-loop owner₀ n x q₀ owner q = lines - q
