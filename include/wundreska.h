@@ -14,13 +14,13 @@
  *   1           2       p
  *   2           3       n, a, b, one byte each
  *   3, a times  2n      one constant row, two bytes an entry
- *   4, b times  8       one parameter row, a set of columns
+ *   4, b times  8 or 12 one parameter row, a set of columns: length 8 where n is at most 64, and 12 above
  *   5           0       end; nothing follows
  *
- * Its length is 14 + a * (3 + 2n) + 11 * b bytes. tools/model makes a file from readable text and prints one back.
+ * Its length is 14 + a * (3 + 2n) + b * (3 + WUNDRESKA_ROW_SIZE(n)) bytes. tools/model makes a file from readable text and prints one back.
  *
- * A set of columns or rows, in the file and in an answer, is WUNDRESKA_SET_SIZE bytes: column c is bit c % 8 (lowest is 0)
- * of byte c / 8.
+ * A set of columns or rows is WUNDRESKA_SET_SIZE bytes in an answer, and WUNDRESKA_ROW_SIZE(n) bytes in the file: column c is
+ * bit c % 8 (lowest is 0) of byte c / 8.
  *
  * Every call. It takes the bytes of a file and an answer area, and returns WUNDRESKA_ACCEPTED or the number of the refusal.
  * - Accepted: exactly the bytes of the answer are written, over the front of the area; the surplus is left as it was.
@@ -48,21 +48,23 @@ extern "C" {
 #endif
 
 /* The version of this header and of the archive that it comes with. */
-#define WUNDRESKA_VERSION "2.0.1"
-#define WUNDRESKA_VERSION_MAJOR 2
+#define WUNDRESKA_VERSION "3.0.0"
+#define WUNDRESKA_VERSION_MAJOR 3
 #define WUNDRESKA_VERSION_MINOR 0
-#define WUNDRESKA_VERSION_PATCH 1
+#define WUNDRESKA_VERSION_PATCH 0
 
 /* The limits: p is a prime from 2 to WUNDRESKA_PRIME_MAX, n is 1 to WUNDRESKA_COLUMNS_MAX, a and b are 0 to WUNDRESKA_ROWS_MAX
  * each. */
 #define WUNDRESKA_PRIME_MAX 65521
-#define WUNDRESKA_COLUMNS_MAX 64
-#define WUNDRESKA_ROWS_MAX 64
-#define WUNDRESKA_SET_SIZE 8
-#define WUNDRESKA_STACK_MAX 32768
+#define WUNDRESKA_COLUMNS_MAX 96
+#define WUNDRESKA_ROWS_MAX 96
+#define WUNDRESKA_SET_SIZE 12
+#define WUNDRESKA_STACK_MAX 81920
+/* How many bytes a parameter row has in the file, in a model of n columns. */
+#define WUNDRESKA_ROW_SIZE(n) ((n) <= 64 ? 8 : WUNDRESKA_SET_SIZE)
 /* The longest file that is accepted. A host may cut its reading one byte above: the refusal is that of the whole file. The launcher
  * ./check takes the number from here. */
-#define WUNDRESKA_FILE_MAX 9102
+#define WUNDRESKA_FILE_MAX 20174
 
 /* The verdicts of both calls, by the rank, the n columns and the rows: a + b of them, in a mixed model m. */
 #define WUNDRESKA_OPEN 0       /* the rank is below n: equations are lacking */
@@ -94,7 +96,7 @@ extern "C" {
 #define WUNDRESKA_ROWS (WUNDRESKA_SHORT + WUNDRESKA_SET_SIZE) /* for each parameter row, one byte: the column it determines, or */
 #define WUNDRESKA_NO_COLUMN 255 /* where it determines none, and for every row from b on */
 #define WUNDRESKA_ROWS_SIZE WUNDRESKA_ROWS_MAX
-#define WUNDRESKA_ANSWER_SIZE (WUNDRESKA_ROWS + WUNDRESKA_ROWS_SIZE) /* 90 */
+#define WUNDRESKA_ANSWER_SIZE (WUNDRESKA_ROWS + WUNDRESKA_ROWS_SIZE) /* 134 */
 
 /* The layered question. Of an accepted model:
  * - the rank is the largest number of columns that can be placed: each on the constant side, where the placed columns are
@@ -111,7 +113,7 @@ uint32_t wundreska_check(const uint8_t *file, size_t file_len, uint8_t *answer, 
 #define WUNDRESKA_MIXED_ROWS 2    /* a set of rows, I */
 #define WUNDRESKA_MIXED_COLUMNS (WUNDRESKA_MIXED_ROWS + WUNDRESKA_SET_SIZE)  /* a set of columns, J */
 #define WUNDRESKA_MIXED_SHORT (WUNDRESKA_MIXED_COLUMNS + WUNDRESKA_SET_SIZE) /* a set of columns of the layered form */
-#define WUNDRESKA_MIXED_SIZE (WUNDRESKA_MIXED_SHORT + WUNDRESKA_SET_SIZE)    /* 26 */
+#define WUNDRESKA_MIXED_SIZE (WUNDRESKA_MIXED_SHORT + WUNDRESKA_SET_SIZE)    /* 38 */
 
 /* The mixed question. Of an accepted model:
  * - the rank is the largest sum of the rank of the constants on some rows I and columns J, and the size of a matching of

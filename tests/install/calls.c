@@ -79,11 +79,11 @@ static void make_model(unsigned p, unsigned n, unsigned rows, unsigned share)
     }
     for (row = 0; row < rows; row++) {
         uint8_t set[WUNDRESKA_SET_SIZE] = {0};
-        put_head(4, WUNDRESKA_SET_SIZE);
+        put_head(4, WUNDRESKA_ROW_SIZE(n));
         for (c = 0; c < n; c++)
             if (drawn(100) < share)
                 set[c / 8] |= (uint8_t)(1 << c % 8);
-        for (c = 0; c < WUNDRESKA_SET_SIZE; c++)
+        for (c = 0; c < WUNDRESKA_ROW_SIZE(n); c++)
             put(set[c]);
     }
     put_head(5, 0);

@@ -1,12 +1,20 @@
--- What a number means as a set of columns, and the set operations that the contracts cite. Definitions only.
+-- What a number means as a set of columns, and the set operations that the contracts cite: over any room for columns, and over that of a set.
+-- Definitions only.
 use Prim.Native.Nat.{ℕ, zero, suc, _+_, _-_, _*_, _/_, _%_, _^_}
 use mathlib.Core.Bool.{Bool, false, not, _&&_, _||_, cond}
 use lib.Dec.{eqb, leb, ltb}
 use Rattle.counting.specs.Sets.{Set, indicator, all}
 
--- how many columns a set has room for, and in how many bytes
+-- how many columns a word has room for, and a set of two words
+abbrev pub word-width : ℕ
+word-width = 64
+
 abbrev pub width : ℕ
-width = 64
+width = 2 * word-width
+
+-- in how many bytes
+abbrev pub word-bytes : ℕ
+word-bytes = word-width / 8
 
 abbrev pub room-bytes : ℕ
 room-bytes = width / 8
@@ -22,21 +30,30 @@ members w x = eqb (bit w x) 1
 abbrev pub none : Set
 none x = false
 
--- the columns below n that a set has room for
-unfoldable pub upto : ℕ → Set
-upto n x = ltb x n && ltb x width
+-- the columns below n that there is room for among k
+unfoldable pub upto-in : ℕ → ℕ → Set
+upto-in k n x = ltb x n && ltb x k
 
--- S with column j, where a set has room for j
-unfoldable pub inserted : Set → ℕ → Set
-inserted S j x = S x || (eqb x j && ltb j width)
+abbrev pub upto : ℕ → Set
+upto = upto-in width
+
+-- S with column j, where there is room for j among k
+unfoldable pub inserted-in : ℕ → Set → ℕ → Set
+inserted-in k S j x = S x || (eqb x j && ltb j k)
+
+abbrev pub inserted : Set → ℕ → Set
+inserted = inserted-in width
 
 -- S without column j
 unfoldable pub removed : Set → ℕ → Set
 removed S j x = S x && not (eqb x j)
 
--- S moved m columns up, as far as a set has room
-unfoldable pub moved-up : Set → ℕ → Set
-moved-up S m x = leb m x && S (x - m) && ltb x width
+-- S moved m columns up, as far as there is room among k
+unfoldable pub moved-up-in : ℕ → Set → ℕ → Set
+moved-up-in k S m x = leb m x && S (x - m) && ltb x k
+
+abbrev pub moved-up : Set → ℕ → Set
+moved-up = moved-up-in width
 
 -- S moved m columns down
 unfoldable pub moved-down : Set → ℕ → Set
@@ -57,6 +74,9 @@ unfoldable pub word-of : ℕ → Set → ℕ
 word-of zero S = 0
 word-of (suc k) S = indicator (S 0) + 2 * word-of k (λ x. S (suc x))
 
--- no column of the number w is n or more
-unfoldable pub within : ℕ → ℕ → Bool
-within n w = all width (λ x. not (members w x) || ltb x n)
+-- no column of the number w that there is room for among k is n or more
+unfoldable pub within-in : ℕ → ℕ → ℕ → Bool
+within-in k n w = all k (λ x. not (members w x) || ltb x n)
+
+abbrev pub within : ℕ → ℕ → Bool
+within = within-in width

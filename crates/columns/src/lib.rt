@@ -1,22 +1,25 @@
-// Sets of columns, a type of their own: no other code touches their bits or the words of a parameter row. Column x is in a set if bit x of its
-// word is 1. Every function is total: a column that a set has no room for is in none, and putting it into one changes nothing.
+// Sets of columns, a type of their own: no other code touches their bits or the words of a parameter row, or knows how many words they
+// are. Column x below 64 is in a set if bit x of its low word is 1, and column 64 + x if bit x of its high word is. Every function is
+// total: a column that a set has no room for is in none, and putting it into one changes nothing.
 ghost use mathlib.Core.Path.{_≡_};
-ghost use Prim.Native.Nat.{_+_, _*_, _<_, _≤_, min};
+ghost use Prim.Native.Nat.{min};
 ghost use lib.Dec.{eqb};
-ghost use lib.ListN.{length, getD, take};
+ghost use lib.ListN.{length, getD};
 ghost use Rattle.counting.specs.Sets.{_∪_, _∩_, ∁, #, any};
-ghost use Rattle.columns.specs.Bytes.{number, bytes-of};
+ghost use Rattle.columns.specs.Bytes.{bytes-of};
 ghost use Rattle.columns.specs.Columns.{width, room-bytes, members, upto, inserted, removed, moved-up, moved-down, least, last-member, within};
 ghost use Rattle.columns.specs.ColumnSets.{row-words, most-words, empty-set, whole, ReadFrom, row-numbers, rows-touching, with-row};
 use limits::MOST_ROWS;
 
+mod word;
+
 // How many columns a set has room for, and in how many bytes.
-pub const WIDTH: usize = 64;
+pub const WIDTH: usize = 2 * word::WIDTH;
 
 const BYTES: usize = WIDTH / 8;
 
 // How many words an area has for each parameter row, and for those of every model.
-pub const ROW_WORDS: usize = 1;
+pub const ROW_WORDS: usize = 2;
 
 pub const MOST_WORDS: usize = MOST_ROWS * ROW_WORDS;
 
@@ -46,69 +49,86 @@ fn most_words_tied() -> usize
 
 // A set of columns.
 pub struct ColumnSet {
-    word: u64,
+    low: u64,
+    high: u64,
 }
-
-// The word with no column, and that with all.
-const EMPTY: u64 = 0;
-
-const FULL: u64 = 18446744073709551615;
 
 // The empty set.
 pub fn empty() -> ColumnSet
     ensures { λ r. ⌜ r ≡ empty-set ⌝ }
 {
-    ColumnSet { word: EMPTY }
+    ColumnSet {
+        low: word::EMPTY,
+        high: word::EMPTY,
+    }
 }
 
 // Whether the set has no column.
 pub fn is_empty(set: ColumnSet) -> bool
     ensures { λ r. ⌜ r ≡ eqb (# width (members (whole set))) 0 ⌝ }
 {
-    set.word == EMPTY
+    if word::is_empty(set.low) {
+        return word::is_empty(set.high);
+    }
+    false
 }
 
 // All columns below n.
 pub fn below(n: usize) -> ColumnSet
     ensures { λ r. ⌜ members (whole r) ≡ upto n ⌝ }
 {
-    if n < WIDTH {
-        let word = (1u64 << n) - 1;
-        return ColumnSet { word };
+    if n < word::WIDTH {
+        return ColumnSet {
+            low: word::below(n),
+            high: word::EMPTY,
+        };
     }
-    ColumnSet { word: FULL }
+    ColumnSet {
+        low: word::below(n),
+        high: word::below(n - word::WIDTH),
+    }
 }
 
 // Whether column x is in the set.
 pub fn contains(set: ColumnSet, x: usize) -> bool
     ensures { λ r. ⌜ r ≡ members (whole set) x ⌝ }
 {
-    if x < WIDTH {
-        return (set.word >> x) % 2 == 1;
+    if x < word::WIDTH {
+        return word::contains(set.low, x);
     }
-    false
+    word::contains(set.high, x - word::WIDTH)
 }
 
 // The set with column x.
 pub fn with(set: ColumnSet, x: usize) -> ColumnSet
     ensures { λ r. ⌜ members (whole r) ≡ inserted (members (whole set)) x ⌝ }
 {
-    if x < WIDTH {
-        let word = set.word | (1u64 << x);
-        return ColumnSet { word };
+    if x < word::WIDTH {
+        return ColumnSet {
+            low: word::with(set.low, x),
+            high: set.high,
+        };
     }
-    set
+    ColumnSet {
+        low: set.low,
+        high: word::with(set.high, x - word::WIDTH),
+    }
 }
 
 // The set without column x.
 pub fn without(set: ColumnSet, x: usize) -> ColumnSet
     ensures { λ r. ⌜ members (whole r) ≡ removed (members (whole set)) x ⌝ }
 {
-    if x < WIDTH {
-        let word = set.word & !(1u64 << x);
-        return ColumnSet { word };
+    if x < word::WIDTH {
+        return ColumnSet {
+            low: word::without(set.low, x),
+            high: set.high,
+        };
     }
-    set
+    ColumnSet {
+        low: set.low,
+        high: word::without(set.high, x - word::WIDTH),
+    }
 }
 
 // The columns of either set.
@@ -116,7 +136,8 @@ pub fn union(set: ColumnSet, other: ColumnSet) -> ColumnSet
     ensures { λ r. ⌜ members (whole r) ≡ members (whole set) ∪ members (whole other) ⌝ }
 {
     ColumnSet {
-        word: set.word | other.word,
+        low: set.low | other.low,
+        high: set.high | other.high,
     }
 }
 
@@ -125,7 +146,8 @@ pub fn intersection(set: ColumnSet, other: ColumnSet) -> ColumnSet
     ensures { λ r. ⌜ members (whole r) ≡ members (whole set) ∩ members (whole other) ⌝ }
 {
     ColumnSet {
-        word: set.word & other.word,
+        low: set.low & other.low,
+        high: set.high & other.high,
     }
 }
 
@@ -134,7 +156,8 @@ pub fn difference(set: ColumnSet, other: ColumnSet) -> ColumnSet
     ensures { λ r. ⌜ members (whole r) ≡ members (whole set) ∩ ∁ (members (whole other)) ⌝ }
 {
     ColumnSet {
-        word: set.word & !other.word,
+        low: set.low & !other.low,
+        high: set.high & !other.high,
     }
 }
 
@@ -142,121 +165,95 @@ pub fn difference(set: ColumnSet, other: ColumnSet) -> ColumnSet
 pub fn touches(row: ColumnSet, set: ColumnSet) -> bool
     ensures { λ r. ⌜ r ≡ any width (members (whole set) ∩ members (whole row)) ⌝ }
 {
-    set.word & row.word != EMPTY
+    !is_empty(intersection(set, row))
 }
 
-// The least column of the set, or `WIDTH` where it is empty.
+// The least column of the set, or `WIDTH` where it is empty: of the first word that is not empty.
 pub fn first(set: ColumnSet) -> usize
     ensures { λ r. ⌜ r ≡ least width (members (whole set)) ⌝ }
 {
-    u64::trailing_zeros(set.word) as usize
+    if word::is_empty(set.low) {
+        return word::WIDTH + word::first(set.high);
+    }
+    word::first(set.low)
 }
 
 // How many columns the set has.
 pub fn size(set: ColumnSet) -> usize
     ensures { λ r. ⌜ r ≡ # width (members (whole set)) ⌝ }
 {
-    u64::count_ones(set.word) as usize
+    word::size(set.low) + word::size(set.high)
 }
 
 // The columns of the set moved m up; those that a set has no room for are gone.
 pub fn raised(set: ColumnSet, m: usize) -> ColumnSet
     ensures { λ r. ⌜ members (whole r) ≡ moved-up (members (whole set)) m ⌝ }
 {
-    if m < WIDTH {
-        let word = set.word << m;
-        return ColumnSet { word };
+    if m < word::WIDTH {
+        return ColumnSet {
+            low: word::raised(set.low, m),
+            high: word::raised(set.high, m) | word::lowered(set.low, word::WIDTH - m),
+        };
     }
-    empty()
+    ColumnSet {
+        low: word::EMPTY,
+        high: word::raised(set.low, m - word::WIDTH),
+    }
 }
 
 // The columns of the set from m on, moved m down.
 pub fn lowered(set: ColumnSet, m: usize) -> ColumnSet
     ensures { λ r. ⌜ members (whole r) ≡ moved-down (members (whole set)) m ⌝ }
 {
-    if m < WIDTH {
-        let word = set.word >> m;
-        return ColumnSet { word };
+    if m < word::WIDTH {
+        return ColumnSet {
+            low: word::lowered(set.low, m) | word::raised(set.high, word::WIDTH - m),
+            high: word::lowered(set.high, m),
+        };
     }
-    empty()
+    ColumnSet {
+        low: word::lowered(set.high, m - word::WIDTH),
+        high: word::EMPTY,
+    }
 }
 
 // Whether every column of the set is below n.
 pub fn within(set: ColumnSet, n: usize) -> bool
     ensures { λ r. ⌜ r ≡ within n (whole set) ⌝ }
 {
-    if n < WIDTH {
-        return set.word >> n == 0;
+    if n < word::WIDTH {
+        if word::is_empty(set.high) {
+            return word::within(set.low, n);
+        }
+        return false;
     }
-    true
+    word::within(set.high, n - word::WIDTH)
 }
 
 // The set that bytes show, the low byte first: column c is bit c mod 8 of byte c div 8. Bytes that are missing count as 0.
 pub fn of_bytes(bytes: &[u8]) -> ColumnSet
     ensures { λ r. ⌜ ReadFrom (now (bytes .entry)) r ⌝ }
 {
-    if bytes.len() < BYTES {
-        let word = few_bytes(bytes);
-        return ColumnSet { word };
+    if bytes.len() < word::BYTES {
+        return ColumnSet {
+            low: word::of_bytes(bytes),
+            high: word::EMPTY,
+        };
     }
-    let word = all_bytes(bytes);
-    ColumnSet { word }
-}
-
-// The word of as many bytes as it has: the compiler reads them at once.
-fn all_bytes(bytes: &[u8]) -> u64
-    requires { ⌜ room-bytes ≤ length (now bytes) ⌝ }
-    ensures { λ r. ⌜ r ≡ number (take room-bytes (now (bytes .entry))) ⌝ }
-{
-    let low = four_bytes(bytes[0], bytes[1], bytes[2], bytes[3]);
-    let high = four_bytes(bytes[4], bytes[5], bytes[6], bytes[7]);
-    low + 4294967296 * high
-}
-
-// The number of four bytes, the low byte first.
-fn four_bytes(x: u8, y: u8, z: u8, w: u8) -> u64
-    ensures { λ r. ⌜ (r ≡ x + 256 * y + 65536 * z + 16777216 * w) × (r < 4294967296) ⌝ }
-{
-    x as u64 + 256 * y as u64 + 65536 * z as u64 + 16777216 * w as u64
-}
-
-// The word of fewer bytes, from the last to the first.
-fn few_bytes(bytes: &[u8]) -> u64
-    ensures { λ r. ⌜ r ≡ number (take room-bytes (now (bytes .entry))) ⌝ }
-{
-    let mut word: u64 = 0;
-    let mut k: usize = BYTES;
-    while k > 0 {
-        k -= 1;
-        word = word * 256 + byte_or_zero(bytes, k);
+    ColumnSet {
+        low: word::of_bytes(bytes),
+        high: word::of_bytes(&bytes[word::BYTES..]),
     }
-    word
-}
-
-// The byte at k, or 0 past the end.
-fn byte_or_zero(bytes: &[u8], k: usize) -> u64
-    ensures { λ r. ⌜ r ≡ getD (now (bytes .entry)) k 0 ⌝ }
-{
-    if k < bytes.len() {
-        return widened(bytes[k]);
-    }
-    0
-}
-
-fn widened(x: u8) -> u64
-    ensures { λ r. ⌜ r ≡ x ⌝ }
-{
-    x as u64
 }
 
 // Byte k of those that show the set, and 0 past the last.
 pub fn byte(set: ColumnSet, k: usize) -> u8
     ensures { λ r. ⌜ r ≡ getD (bytes-of room-bytes (whole set)) k 0 ⌝ }
 {
-    if k < BYTES {
-        return ((set.word >> (8 * k)) % 256) as u8;
+    if k < word::BYTES {
+        return word::byte(set.low, k);
     }
-    0
+    word::byte(set.high, k - word::BYTES)
 }
 
 // How many parameter rows an area holds.
@@ -270,9 +267,12 @@ pub fn rows(words: &[u64]) -> usize
 pub fn row(words: &[u64], r: usize) -> ColumnSet
     ensures { λ s. ⌜ whole s ≡ getD (row-numbers (now (words .entry))) r 0 ⌝ }
 {
-    if r < words.len() {
-        let word = words[r];
-        return ColumnSet { word };
+    if r < rows(words) {
+        let at = ROW_WORDS * r;
+        return ColumnSet {
+            low: words[at],
+            high: words[at + 1],
+        };
     }
     empty()
 }
@@ -303,7 +303,9 @@ pub fn last_touching(words: &[u64], end: usize, set: ColumnSet) -> usize
 pub fn put_row(words: &mut [u64], r: usize, set: ColumnSet)
     ensures { λ _. ⌜ now (words .exit) ≡ with-row (now (words .entry)) r (whole set) ⌝ }
 {
-    if r < words.len() {
-        words[r] = set.word;
+    if r < rows(words) {
+        let at = ROW_WORDS * r;
+        words[at] = set.low;
+        words[at + 1] = set.high;
     }
 }

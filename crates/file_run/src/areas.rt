@@ -2,38 +2,38 @@
 use crate::said;
 use crate::sample;
 
-// The document's file has two constants and one parameter row.
+// The document's file has two constants and one parameter row of two words.
 pub fn short() {
     let file = sample();
     let mut constants = [7u16; 3];
-    let mut parameters = [7u64; 2];
+    let mut parameters = [7u64; 4];
     said::label(b"constants short");
-    read_into(&file, &mut constants, 1, &mut parameters, 1);
+    read_into(&file, &mut constants, 1, &mut parameters, 2);
     said::label(b"parameters short");
-    read_into(&file, &mut constants, 2, &mut parameters, 0);
+    read_into(&file, &mut constants, 2, &mut parameters, 1);
     said::label(b"file refused");
     read_into(
         said::front(&file, 31),
         &mut constants,
         3,
         &mut parameters,
-        2,
+        4,
     );
 }
 
 pub fn long_enough() {
     let file = sample();
     let mut constants = [7u16; 3];
-    let mut parameters = [7u64; 2];
+    let mut parameters = [7u64; 4];
     said::label(b"just long enough");
-    read_into(&file, &mut constants, 2, &mut parameters, 1);
+    read_into(&file, &mut constants, 2, &mut parameters, 2);
     let mut others = [9u16; 3];
-    let mut more = [9u64; 2];
+    let mut more = [9u64; 4];
     said::label(b"longer");
-    read_into(&file, &mut others, 3, &mut more, 2);
+    read_into(&file, &mut others, 3, &mut more, 4);
 }
 
-// The file is read into the first k constants and the first j parameter rows; both areas are printed whole.
+// The file is read into the first k constants and the first j words of parameter rows; both areas are printed whole.
 fn read_into(file: &[u8], constants: &mut [u16], k: usize, parameters: &mut [u64], j: usize) {
     if constants.len() < k {
         return;
@@ -67,7 +67,7 @@ fn write_into(out: &mut [u8], k: usize, p: u32) {
         return;
     }
     let constants = [1u16, 0];
-    let parameters = [2u64];
+    let parameters = [2u64, 0];
     let w = writer::write_file(p, 2, 1, 1, &constants, &parameters, &mut out[..k]);
     said::number(w.refusal as u64);
     said::number(w.length as u64);

@@ -1,6 +1,7 @@
 // The longest file: written, read, and written again.
 use crate::rows::looked_up;
 use crate::said;
+use columns::MOST_WORDS;
 use limits::LARGEST_PRIME;
 use limits::LONGEST_FILE;
 use limits::MOST_COLUMNS;
@@ -16,19 +17,20 @@ fn fill_constants(constants: &mut [u16]) {
     }
 }
 
+// No column of a high word beyond the last.
 fn fill_parameters(parameters: &mut [u64]) {
     let mut i = 0;
     let mut set: u64 = 1;
     while i < parameters.len() {
         parameters[i] = set;
-        set = set % 4294967296 * 3 + 1;
+        set = set % 1073741824 * 3 + 1;
         i = i + 1;
     }
 }
 
 pub fn there_and_back() {
     let mut constants = [0u16; MOST_CONSTANTS];
-    let mut parameters = [0u64; MOST_ROWS];
+    let mut parameters = [0u64; MOST_WORDS];
     fill_constants(&mut constants);
     fill_parameters(&mut parameters);
     let mut file = [0u8; LONGEST_FILE];
@@ -47,7 +49,7 @@ pub fn there_and_back() {
 
 fn back(file: &[u8]) {
     let mut constants = [0u16; MOST_CONSTANTS];
-    let mut parameters = [0u64; MOST_ROWS];
+    let mut parameters = [0u64; MOST_WORDS];
     let r = loader::read_file(file, &mut constants, &mut parameters);
     said::label(b"read");
     said::sizes(r);

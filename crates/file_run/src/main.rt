@@ -109,11 +109,11 @@ fn primes() {
 }
 
 fn sizes() {
-    label(b"n 0 65, a 65, b 65");
+    label(b"n 0 97, a 97, b 97");
     with_bytes(8, 0, 1);
-    with_bytes(8, 65, 1);
-    with_bytes(9, 65, 1);
-    with_bytes(10, 65, 3);
+    with_bytes(8, 97, 1);
+    with_bytes(9, 97, 1);
+    with_bytes(10, 97, 3);
     end_line();
 }
 
@@ -130,7 +130,7 @@ fn contents() {
 // The document's model, written into an area with a byte more than it needs: the bytes before the last are the document's file.
 fn one_byte_more() {
     let constants = [1u16, 0];
-    let parameters = [2u64];
+    let parameters = [2u64, 0];
     let mut out = [0u8; 33];
     let w = writer::write_file(1021, 2, 1, 1, &constants, &parameters, &mut out);
     label(b"written");

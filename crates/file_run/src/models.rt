@@ -4,14 +4,14 @@ use crate::said;
 // A model with two constants 1 0 and a parameter row {1}.
 fn judged(p: u32, n: usize, a: usize, b: usize) {
     let constants = [1u16, 0];
-    let parameters = [2u64];
+    let parameters = [2u64, 0];
     said::number(format::judge_model(p, n, a, b, &constants, &parameters) as u64);
 }
 
 // A model of one constant and one parameter row, at n 2.
 fn with_contents(p: u32, constant: u16, set: u64) {
     let constants = [0u16, constant];
-    let parameters = [set];
+    let parameters = [set, 0];
     said::number(format::judge_model(p, 2, 1, 1, &constants, &parameters) as u64);
 }
 
@@ -26,7 +26,7 @@ fn accepted() {
 
 fn primes() {
     said::label(b"p");
-    judged(0, 0, 65, 65);
+    judged(0, 0, 97, 97);
     judged(1, 2, 1, 1);
     judged(4, 2, 1, 1);
     judged(65535, 2, 1, 1);
@@ -37,9 +37,9 @@ fn primes() {
 fn sizes() {
     said::label(b"sizes");
     judged(1021, 0, 1, 1);
-    judged(1021, 65, 1, 1);
-    judged(1021, 2, 65, 1);
-    judged(1021, 2, 1, 65);
+    judged(1021, 97, 1, 1);
+    judged(1021, 2, 97, 1);
+    judged(1021, 2, 1, 97);
     said::end_line();
 }
 
@@ -48,7 +48,7 @@ fn areas() {
     judged(1021, 3, 1, 1);
     judged(1021, 2, 2, 1);
     judged(1021, 2, 1, 2);
-    judged(1021, 64, 64, 64);
+    judged(1021, 96, 96, 96);
     said::end_line();
 }
 

@@ -6,12 +6,13 @@ use native.Mathlib.Omega.{arith}
 use lib.ListN.{length, take, drop, length-drop}
 use lib.Seq.{length-take-le, take-all}
 use Rattle.columns.specs.Bytes.{number}
-use Rattle.limits.specs.Limits.{set-bytes}
+use Rattle.columns.specs.Columns.{room-bytes}
 use Rattle.format.specs.Refusals.{head-bytes, said-length, first-refusal}
 use Rattle.format.specs.RefusalLaws.{then-zero}
 use Rattle.format.specs.File.Piece.{Body, Piece, head-tests, field, many-tests, many-dec, many-rest, closed, said-rest, said-bodies, said-rests}
 use Rattle.format.specs.File.Format.{entries, prime-tag, sizes-tag, constant-tag, parameter-tag, prime-body, sizes-body, constant-body, parameter-body, prime-field, sizes-field, constant-row, parameter-row, row-fields, size-fields, fields, judge, decode, rows-part, from-row}
 use Rattle.format.specs.File.Steps.{constants-said, parameters-said}
+use Rattle.format.specs.File.RowSizes.{parameter-size-most}
 use Rattle.format.specs.File.PieceLaws.{head-good}
 use Rattle.format.proofs.Judging.{body-due, rest-due}
 
@@ -96,7 +97,7 @@ module _ (s : List ℕ) (e : judge s ≡ 0) where
       let n = decode s .n in
       let b = decode s .b in
       ap (parameters-said b) (many-rest-said constant-tag (constant-body p n) (decode s .a) (decode s .a) (rows-part s) (rows-pass .0) (omega arith))
-      ∙ many-dec-said parameter-tag (parameter-body n) (λ w. number (take set-bytes w)) (λ w l. ap number (take-all set-bytes w (omega arith))) b (many-rest (constant-row p n) (decode s .a) (rows-part s)) (rows-pass .1)
+      ∙ many-dec-said parameter-tag (parameter-body n) (λ w. number (take room-bytes w)) (λ w l. ap number (take-all room-bytes w (omega (arith, parameter-size-most n)))) b (many-rest (constant-row p n) (decode s .a) (rows-part s)) (rows-pass .1)
 
   -- constant row i stands behind i rows, and its head says its size
   module _ (i : ℕ) (h : i < decode s .a) where

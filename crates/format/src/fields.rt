@@ -8,6 +8,7 @@ ghost use Rattle.format.specs.File.Piece.{said-body, said-rest, PartAt, 
 ghost use Rattle.format.specs.File.Format.{parameter-size};
 use crate::content::byte_at;
 use crate::content::two;
+use limits::SET_BYTES;
 
 // How many bytes a field's head has: a tag, and the length of the body in two.
 pub const HEAD_BYTES: usize = 3;
@@ -27,11 +28,19 @@ pub const PRIME_BYTES: usize = 2;
 
 pub const SIZES_BYTES: usize = 3;
 
+// Up to so many columns a parameter row's body has so many bytes; above it has as many as show a set.
+const NARROW_COLUMNS: usize = 64;
+
+const NARROW_BYTES: usize = 8;
+
 // How long the body of a parameter row is, by n.
 pub fn parameter_size(n: usize) -> usize
     ensures { λ r. ⌜ r ≡ parameter-size n ⌝ }
 {
-    8
+    if n > NARROW_COLUMNS {
+        return SET_BYTES;
+    }
+    NARROW_BYTES
 }
 
 // The length that the head of the field in front says.

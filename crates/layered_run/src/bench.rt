@@ -8,11 +8,12 @@ const USUAL: u32 = 1021;
 
 const S4_CONSTANTS: [u16; 10] = [1, 1, 1, 1, 0, 0, 2, 1, 1, 0];
 
-const S4_PARAMETERS: [u64; 2] = [17, 18];
+// Areas of parameter rows have two words a row.
+const S4_PARAMETERS: [u64; 4] = [17, 0, 18, 0];
 
 fn run_without_constants() {
     let none = [0u16; 1];
-    let twice = [1u64, 1];
+    let twice = [1u64, 0, 1, 0];
     line(b"S1", USUAL, 1, 0, 0, &none[..0], &twice[..0]);
     line(b"S10", USUAL, 2, 0, 2, &none[..0], &twice);
     line(b"S11", USUAL, 1, 0, 2, &none[..0], &twice);
@@ -29,7 +30,7 @@ fn run_without_parameters() {
 
 fn run_with_both() {
     let balance = [1u16, 0];
-    let second = [2u64];
+    let second = [2u64, 0];
     line(b"S2", USUAL, 2, 1, 1, &balance, &second);
     let constants = S4_CONSTANTS;
     let parameters = S4_PARAMETERS;
@@ -39,8 +40,8 @@ fn run_with_both() {
 // Four unknowns: the first rows of the unit matrix, and laws that have all unknowns, or the first alone.
 fn run_rows() {
     let unit = [1u16, 0, 0, 0, 0, 1, 0, 0, 0, 0, 1, 0, 0, 0, 0, 1];
-    let wide = [15u64, 15];
-    let narrow = [1u64, 1];
+    let wide = [15u64, 0, 15, 0];
+    let narrow = [1u64, 0, 1, 0];
     line(b"3 equations", USUAL, 4, 1, 2, &unit, &wide);
     line(b"4 equations", USUAL, 4, 2, 2, &unit, &wide);
     line(b"5 equations", USUAL, 4, 3, 2, &unit, &wide);
@@ -82,7 +83,9 @@ fn run_order(step: usize, start: usize) {
     }
     let parameters = [
         moved_row(S4_PARAMETERS[0], step, start),
-        moved_row(S4_PARAMETERS[1], step, start),
+        0,
+        moved_row(S4_PARAMETERS[2], step, start),
+        0,
     ];
     io::write_all(1, b"S4 in order");
     number(step as u64);

@@ -4,27 +4,29 @@ use crate::report::line;
 const USUAL: u32 = 1021;
 
 fn run_sizes() {
-    let constants = [0u16; 4225];
-    let parameters = [0u64; 65];
+    let constants = [0u16; 9409];
+    let parameters = [0u64; 194];
     line(b"n 64", USUAL, 64, 0, 0, &constants, &parameters);
+    line(b"n 65", USUAL, 65, 0, 0, &constants, &parameters);
+    line(b"n 96", USUAL, 96, 0, 0, &constants, &parameters);
     line(
-        b"n 64, a 64, b 64",
+        b"n 96, a 96, b 96",
         USUAL,
-        64,
-        64,
-        64,
+        96,
+        96,
+        96,
         &constants,
         &parameters,
     );
     line(b"n 0", USUAL, 0, 0, 0, &constants, &parameters);
-    line(b"n 65", USUAL, 65, 0, 0, &constants, &parameters);
-    line(b"a 65", USUAL, 1, 65, 0, &constants, &parameters);
-    line(b"b 65", USUAL, 1, 0, 65, &constants, &parameters);
+    line(b"n 97", USUAL, 97, 0, 0, &constants, &parameters);
+    line(b"a 97", USUAL, 1, 97, 0, &constants, &parameters);
+    line(b"b 97", USUAL, 1, 0, 97, &constants, &parameters);
 }
 
 fn run_primes() {
     let constants = [1u16, 1];
-    let parameters = [2u64];
+    let parameters = [2u64, 0];
     line(b"p 2", 2, 2, 1, 1, &constants, &parameters);
     line(b"p 65521", 65521, 2, 1, 1, &constants, &parameters);
     line(b"p 0", 0, 2, 1, 1, &constants, &parameters);
@@ -66,7 +68,7 @@ fn run_constants() {
 
 fn run_parameters() {
     let none = [0u16; 1];
-    let rows = [16u64, 32, 9223372036854775808];
+    let rows = [16u64, 0, 32, 0, 9223372036854775808, 0];
     line(b"parameter at column n - 1", USUAL, 5, 0, 1, &none, &rows);
     line(b"parameter at column n", USUAL, 5, 0, 2, &none, &rows);
     line(
@@ -87,11 +89,48 @@ fn run_parameters() {
         &none,
         &rows,
     );
+    let high = [0u64, 1, 1, 2147483648];
+    line(
+        b"parameter at column 64 of 65",
+        USUAL,
+        65,
+        0,
+        1,
+        &none,
+        &high,
+    );
+    line(
+        b"parameter at column 64 of 64",
+        USUAL,
+        64,
+        0,
+        1,
+        &none,
+        &high,
+    );
+    line(
+        b"parameter at column 95 of 96",
+        USUAL,
+        96,
+        0,
+        2,
+        &none,
+        &high,
+    );
+    line(
+        b"parameter at column 95 of 95",
+        USUAL,
+        95,
+        0,
+        2,
+        &none,
+        &high,
+    );
 }
 
 fn run_areas() {
     let constants = [3u16; 6];
-    let parameters = [7u64; 2];
+    let parameters = [7u64, 0, 7, 0];
     line(
         b"areas that just hold",
         USUAL,
@@ -117,17 +156,17 @@ fn run_areas() {
         2,
         2,
         &constants,
-        &parameters[..1],
+        &parameters[..3],
     );
 }
 
 // Each line mends the fault that the line before is refused for.
 fn run_faults() {
     let constants = [1u16, 1021, 5];
-    let parameters = [4u64];
+    let parameters = [4u64, 0];
     let sound = [1u16, 1020, 5];
-    line(b"faults 3 4 8 5 6", 1, 0, 65, 2, &constants, &parameters);
-    line(b"faults 4 8 5 6", USUAL, 0, 65, 2, &constants, &parameters);
+    line(b"faults 3 4 8 5 6", 1, 0, 97, 2, &constants, &parameters);
+    line(b"faults 4 8 5 6", USUAL, 0, 97, 2, &constants, &parameters);
     line(b"faults 8 5 6", USUAL, 2, 1, 2, &constants, &parameters);
     line(b"faults 5 6", USUAL, 2, 1, 1, &constants, &parameters);
     line(b"fault 6", USUAL, 2, 1, 1, &sound, &parameters);

@@ -3,11 +3,11 @@ use Prim.Native.Nat.{ℕ, _+_, _*_}
 
 -- n is 1 to so many columns
 abbrev pub most-columns : ℕ
-most-columns = 64
+most-columns = 96
 
 -- a and b are 0 to so many rows each
 abbrev pub most-rows : ℕ
-most-rows = 64
+most-rows = 96
 
 -- how many constants a model has at most
 abbrev pub most-constants : ℕ
@@ -19,7 +19,7 @@ largest-prime = 65521
 
 -- how many bytes show a column set in an answer, and at most in a file's row
 abbrev pub set-bytes : ℕ
-set-bytes = 8
+set-bytes = 12
 
 -- what a parameter row shows that has no column
 abbrev pub no-column : ℕ

@@ -4,10 +4,10 @@ ghost use mathlib.Core.Path.{_≡_};
 ghost use Rattle.limits.specs.Limits.{most-columns, most-rows, most-constants, largest-prime, set-bytes, no-column, longest-file};
 
 // n is 1 to so many columns.
-pub const MOST_COLUMNS: usize = 64;
+pub const MOST_COLUMNS: usize = 96;
 
 // a and b are 0 to so many rows each.
-pub const MOST_ROWS: usize = 64;
+pub const MOST_ROWS: usize = 96;
 
 // How many constants a model has at most.
 pub const MOST_CONSTANTS: usize = MOST_ROWS * MOST_COLUMNS;
@@ -16,7 +16,7 @@ pub const MOST_CONSTANTS: usize = MOST_ROWS * MOST_COLUMNS;
 pub const LARGEST_PRIME: u32 = 65521;
 
 // How many bytes show a column set in an answer, and at most in a file's row.
-pub const SET_BYTES: usize = 8;
+pub const SET_BYTES: usize = 12;
 
 // What a parameter row shows that has no column.
 pub const NO_COLUMN: u8 = 255;

@@ -9,7 +9,7 @@ use lib.ListN.{length, take, length-append}
 use borrow.Author.Tests.{le-leb, lt-leb}
 use Rattle.columns.specs.Bytes.{number}
 use Rattle.columns.specs.Words.Bytes.{AreBytes}
-use Rattle.limits.specs.Limits.{set-bytes}
+use Rattle.columns.specs.Columns.{room-bytes}
 use Rattle.format.specs.declared.header.Header.{Header}
 use Rattle.format.specs.Lists.{All, over}
 use Rattle.format.specs.OverLaws.{over-none}
@@ -41,11 +41,11 @@ module _ (k : ℕ) (s : List ℕ) where
       go zero h = absurd (omega arith)
       go (suc k) h = let q : suc k - 1 ≡ k = omega arith in rw q refl
 
-  pub parameters-next : 0 < k → parameters-said k s ≡ number (take set-bytes (said-body s)) ∷ parameters-said (k - 1) (said-rest s)
+  pub parameters-next : 0 < k → parameters-said k s ≡ number (take room-bytes (said-body s)) ∷ parameters-said (k - 1) (said-rest s)
   unfolding parameters-said said-bodies
   parameters-next h = go k h
     where
-      go : (k : ℕ) → 0 < k → parameters-said k s ≡ number (take set-bytes (said-body s)) ∷ parameters-said (k - 1) (said-rest s)
+      go : (k : ℕ) → 0 < k → parameters-said k s ≡ number (take room-bytes (said-body s)) ∷ parameters-said (k - 1) (said-rest s)
       go zero h = absurd (omega arith)
       go (suc k) h = let q : suc k - 1 ≡ k = omega arith in rw q refl
 

@@ -17,7 +17,7 @@ use Rattle.counting.specs.Sets.{Set, _∈_, indicator}
 use Rattle.counting.specs.Counts.{#-ext}
 use Rattle.counting.specs.Beside.{beside}
 use Rattle.counting.specs.Blocks.{beside-low, beside-high, low-or-high}
-use Rattle.columns.specs.Columns.{width, members, upto, moved-up, word-of}
+use Rattle.columns.specs.Columns.{width, members, upto, moved-up-in, moved-up, word-of}
 use Rattle.columns.specs.ColumnSets.{whole, Fits}
 use Rattle.columns.specs.Words.Sets.{whole-below}
 use Rattle.columns.specs.Words.Operations.{within-iff, word-members}
@@ -85,7 +85,7 @@ module _ (p m n : ℕ) (cs ws : List ℕ) where
       (λ y e. rw e (beside-high m (unit (field-of p) i) (X .Q i) y ∙ ap (residue-of p) (sym (entry-high i y (omega arith)))))
 
   pub parameters-at : m + n ≤ width → (i x : ℕ) → i < m → x < m + n → form-parameters X i x ≡ form-row m (members (getD ws i 0)) i x
-  unfolding moved-up
+  unfolding moved-up-in
   parameters-at h i x li l = low-or-high m x
       (λ lx. beside-low m (λ j. decide (ℕ-discrete i j)) (X .T i) x lx ∙ iff-eq (decide (ℕ-discrete i x)) (form-row m (members (getD ws i 0)) i x)
       (λ e. let d : i ≡ x = decide-iff (ℕ-discrete i x) .0 e in rw d (inserted-same (moved-up (members (getD ws x 0)) m) x (omega arith)))

@@ -58,17 +58,18 @@ const S12_CONSTANTS: [u16; 49] = [
     1,
 ];
 
-const S12_PARAMETERS: [u64; 7] = [5, 2, 12, 0, 0, 0, 0];
+// Areas of parameter rows have two words a row.
+const S12_PARAMETERS: [u64; 14] = [5, 0, 2, 0, 12, 0, 0, 0, 0, 0, 0, 0, 0, 0];
 
 fn run_small() {
     let ones = [1u16, 1, 1, 1];
-    let none = [0u64, 0];
-    let corner = [1u64, 0];
+    let none = [0u64; 4];
+    let corner = [1u64, 0, 0, 0];
     line(b"S7", USUAL, 1, 1, 1, &ones, &corner);
     line(b"S8", USUAL, 2, 2, 2, &ones, &none);
     line(b"S9", USUAL, 2, 2, 2, &ones, &corner);
     let first = [1u16, 0];
-    let both = [3u64];
+    let both = [3u64, 0];
     line(
         b"constant beside a parameter",
         USUAL,

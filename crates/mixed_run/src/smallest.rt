@@ -13,7 +13,7 @@ fn run_model(k: u64) {
         constant(k, 2),
         constant(k, 3),
     ];
-    let parameters = [k / 16 % 4, k / 64 % 4];
+    let parameters = [k / 16 % 4, 0, k / 64 % 4, 0];
     io::write_all(1, b"smallest");
     number(k);
     answer_line(2, 2, 2, 2, &constants, &parameters);

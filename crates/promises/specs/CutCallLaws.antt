@@ -25,14 +25,14 @@ use Rattle.text.specs.Text.{refused-line, Prints}
 use Rattle.text.specs.declared.Printed.{Printed}
 use Rattle.report.specs.FileReport.{Reports, FileReport}
 use Rattle.mixed_report.specs.MixedReport.{mixed-answer-text, MixedFileReport}
-use Rattle.promises.specs.CutLaws.{rows-most, judge-cut}
+use Rattle.promises.specs.CutLaws.{rows-most, parameter-rows-most, judge-cut}
 
 -- an accepted file is no longer than the longest
 pub accepted-most : (s : List ℕ) → AreBytes s → judge s ≡ 0 → length s ≤ longest-file
 accepted-most s bytes e =
     let v = decoded-valid s bytes e in
     let l = sym (ap length (encode-decode s bytes e)) ∙ file-length (decode s) v in
-    omega (arith, rows-most (decode s .a) (decode s .n) (v .a-most) (v .n-most), v .b-most)
+    omega (arith, rows-most (decode s .a) (decode s .n) (v .a-most) (v .n-most), parameter-rows-most (decode s .b) (decode s .n) (v .b-most))
 
 module _ (k : ℕ) (s : List ℕ) (bytes : AreBytes s) (h : longest-file < k) where
   -- an accepted file is not cut

@@ -10,12 +10,13 @@ use native.Mathlib.Nat.{suc-mul, zero-mul, mul-le-mul}
 use lib.ListN.{length, getD, take, drop}
 use lib.Seq.{take-nil, getD-take, take-take}
 use Rattle.counting.specs.Bools.{iff-eq}
-use Rattle.limits.specs.Limits.{most-columns, most-rows, longest-file}
+use Rattle.limits.specs.Limits.{most-columns, most-rows, set-bytes, longest-file}
 use Rattle.format.specs.Refusals.{Tests, unless, _then_, first-refusal, trailing, head-test, body-test, due-test, end-test}
 use Rattle.format.specs.RefusalLaws.{then-zero, unless-zero}
 use Rattle.format.specs.TestLaws.{head-reads, body-reads, end-reads, size-reads}
 use Rattle.format.specs.File.Piece.{Body, Piece, head-tests, field, many, many-tests, many-dec, many-rest, seq, closed}
-use Rattle.format.specs.File.Format.{sizes-body, prime-body, constant-body, parameter-body, end-body, constant-row, parameter-row, end-field, row-fields}
+use Rattle.format.specs.File.RowSizes.{parameter-size-most}
+use Rattle.format.specs.File.Format.{sizes-body, prime-body, constant-body, parameter-body, end-body, constant-row, parameter-size, parameter-row, end-field, row-fields}
 use Rattle.format.specs.File.Format.{prime-tag, sizes-tag, constant-tag, parameter-tag, end-tag, prime-field, sizes-field, size-fields, fields, judge}
 use Rattle.format.proofs.Judging.{seq-refused, seq-passed}
 
@@ -146,15 +147,16 @@ seq-same {A} P Q used L k s h go =
 abbrev parameter-fields : ℕ → ℕ → Piece (List ℕ × Unit {0})
 parameter-fields n b = seq (many b (parameter-row n)) (λ _. end-field)
 
-parameters-same : (n b k : ℕ) (s : List ℕ) → 3 + 11 * b < k
+parameters-same : (n b k : ℕ) (s : List ℕ) → 3 + b * (3 + parameter-size n) < k
     → first-refusal (closed (parameter-fields n b) (take k s)) ≡ first-refusal (closed (parameter-fields n b) s)
 unfolding parameter-row end-field
 parameters-same n b k s h =
     let P = many b (parameter-row n) in
-    seq-same P (λ _. end-field) (b * 11) (many-local b (parameter-row n) 11 (field-local parameter-tag (parameter-body n))) k s (omega arith)
-    (λ _. ap first-refusal (closed-same end-field 3 (field-local end-tag end-body) (k - b * 11) (P .rest s) (omega arith)))
+    let u = b * (3 + parameter-size n) in
+    seq-same P (λ _. end-field) u (many-local b (parameter-row n) (3 + parameter-size n) (field-local parameter-tag (parameter-body n))) k s (omega arith)
+    (λ _. ap first-refusal (closed-same end-field 3 (field-local end-tag end-body) (k - u) (P .rest s) (omega arith)))
 
-rows-same : (p n a b k : ℕ) (s : List ℕ) → 3 + a * (3 + 2 * n) + 11 * b < k
+rows-same : (p n a b k : ℕ) (s : List ℕ) → 3 + a * (3 + 2 * n) + b * (3 + parameter-size n) < k
     → first-refusal (closed (row-fields p (n, a, b)) (take k s)) ≡ first-refusal (closed (row-fields p (n, a, b)) s)
 unfolding row-fields constant-row
 rows-same p n a b k s h =
@@ -172,6 +174,9 @@ sizes-within s e = size-reads _ _ _ .0 (unless-zero _ _ (then-zero (head-tests s
 pub rows-most : (a n : ℕ) → a ≤ most-rows → n ≤ most-columns → a * (3 + 2 * n) ≤ most-rows * (3 + 2 * most-columns)
 rows-most a n l m = mul-le-mul l (let w : 3 + 2 * n ≤ 3 + 2 * most-columns = omega arith in w)
 
+pub parameter-rows-most : (b n : ℕ) → b ≤ most-rows → b * (3 + parameter-size n) ≤ most-rows * (3 + set-bytes)
+parameter-rows-most b n l = mul-le-mul l (let w : 3 + parameter-size n ≤ 3 + set-bytes = omega (arith, parameter-size-most n) in w)
+
 sizes-same : (p k : ℕ) (s : List ℕ) → longest-file < k + 5
     → first-refusal (closed (size-fields p) (take k s)) ≡ first-refusal (closed (size-fields p) s)
 unfolding size-fields sizes-field
@@ -179,7 +184,7 @@ sizes-same p k s h =
     seq-same (field sizes-tag sizes-body) (λ z. row-fields p z) 6 (field-local sizes-tag sizes-body) k s (omega arith) (λ e.
     let z = field sizes-tag sizes-body .dec s in
     let v = sizes-within s e in
-    rows-same p (z .0) (z .1) (z .2) (k - 6) (field sizes-tag sizes-body .rest s) (omega (arith, rows-most (z .1) (z .0) (v .2) (v .1), v .3)))
+    rows-same p (z .0) (z .1) (z .2) (k - 6) (field sizes-tag sizes-body .rest s) (omega (arith, rows-most (z .1) (z .0) (v .2) (v .1), parameter-rows-most (z .2) (z .0) (v .3))))
 
 -- any bound above the longest file
 pub judge-cut : (k : ℕ) (s : List ℕ) → longest-file < k → judge (take k s) ≡ judge s

@@ -4,13 +4,13 @@ use mathlib.Core.Path.{_≡_, refl, ap}
 use mathlib.Core.List.{List, [], _∷_, flatten}
 use Rattle.residue.specs.Arithmetic.{is-prime, undivided}
 use Rattle.counting.specs.Sets.{all}
-use Rattle.columns.specs.Columns.{members, within}
+use Rattle.columns.specs.Columns.{members, within-in}
 use Rattle.rank.specs.ListedModel.{listed-model}
 use Rattle.mixed_models.specs.Starred.Models.{S2}
 use Rattle.format.specs.Lists.{all-pass}
 use Rattle.format.specs.Refusals.{first-refusal, head-test, body-test, due-test, prime-test, size-test, constant-test, end-test}
 use Rattle.format.specs.File.Piece.{head-tests, closed}
-use Rattle.format.specs.File.Format.{FileModel, entries, prime-field, sizes-field, constant-row, parameter-row, end-field, row-fields, size-fields, fields, judge, decode}
+use Rattle.format.specs.File.Format.{FileModel, entries, prime-field, sizes-field, constant-row, parameter-size, parameter-row, end-field, row-fields, size-fields, fields, judge, decode}
 use Rattle.layered.specs.FileModel.{file-model}
 
 -- document 01's 32 bytes
@@ -21,11 +21,11 @@ document-file =
 
 -- what the computations below open
 unfoldable tests : ℕ
-unfolding is-prime undivided all members within all-pass first-refusal head-test body-test due-test prime-test size-test constant-test end-test head-tests
+unfolding is-prime undivided all members within-in all-pass first-refusal head-test body-test due-test prime-test size-test constant-test end-test head-tests
 tests = 0
 
 unfoldable run : ℕ
-unfolding document-file tests closed entries prime-field sizes-field constant-row parameter-row end-field row-fields size-fields fields judge decode
+unfolding document-file tests closed entries prime-field sizes-field constant-row parameter-size parameter-row end-field row-fields size-fields fields judge decode
 run = 0
 
 pub document-accepted : judge document-file ≡ 0

@@ -4,12 +4,12 @@ use mathlib.Core.Path.{_≡_, refl}
 use mathlib.Core.List.{[], _∷_}
 use Rattle.residue.specs.Arithmetic.{is-prime, undivided}
 use Rattle.counting.specs.Sets.{all, indicator}
-use Rattle.columns.specs.Columns.{members, within}
+use Rattle.columns.specs.Columns.{members, within-in}
 use Rattle.format.specs.Lists.{all-pass}
 use Rattle.format.specs.Refusals.{first-refusal, prime-test, size-test, constant-test, parameter-test, area-test, model-tests, refusal, mixed-test, mixed-tests, mixed-refusal}
 
 unfoldable pub judging : ℕ
-unfolding all members within indicator is-prime undivided all-pass first-refusal prime-test size-test constant-test parameter-test area-test model-tests refusal mixed-test mixed-tests mixed-refusal
+unfolding all members within-in indicator is-prime undivided all-pass first-refusal prime-test size-test constant-test parameter-test area-test model-tests refusal mixed-test mixed-tests mixed-refusal
 judging = 0
 
 pub S9-accepted : mixed-refusal 1021 2 2 2 (1 ∷ 1 ∷ 1 ∷ 1 ∷ []) (1 ∷ 0 ∷ []) ≡ 0

@@ -9,7 +9,7 @@ use native.Mathlib.Omega.{arith}
 use lib.ListN.{getD}
 use Rattle.residue.specs.Arithmetic.{is-prime, undivided}
 use Rattle.counting.specs.Sets.{all}
-use Rattle.columns.specs.Columns.{members, within}
+use Rattle.columns.specs.Columns.{members, within-in}
 use Rattle.columns.specs.ColumnSets.{whole}
 use Rattle.rank.specs.Layered.Rank.{rank, placed}
 use Rattle.rank.specs.ListedModel.{listed-model}
@@ -21,10 +21,10 @@ use Rattle.promises.specs.DocumentFile.{document-file}
 use Rattle.refutations.specs.Computing.{computing}
 use Rattle.refutations.specs.Accepted.{judging}
 use Rattle.format.specs.File.Piece.{head-tests, closed}
-use Rattle.format.specs.File.Format.{entries, prime-field, sizes-field, constant-row, parameter-row, end-field, row-fields, size-fields, fields, judge, decode, read-refusal, model-read, ReadCall}
+use Rattle.format.specs.File.Format.{entries, prime-field, sizes-field, constant-row, parameter-size, parameter-row, end-field, row-fields, size-fields, fields, judge, decode, read-refusal, model-read, ReadCall}
 
 unfoldable file-run : ℕ
-unfolding flatMap flatten is-prime undivided all members within all-pass over first-refusal head-test body-test due-test prime-test size-test constant-test area-test end-test head-tests closed entries prime-field sizes-field constant-row parameter-row end-field row-fields size-fields fields judge decode read-refusal model-read
+unfolding flatMap flatten is-prime undivided all members within-in all-pass over first-refusal head-test body-test due-test prime-test size-test constant-test area-test end-test head-tests closed entries prime-field sizes-field constant-row parameter-size parameter-row end-field row-fields size-fields fields judge decode read-refusal model-read
 file-run = 0
 
 -- p 2, n 2, a 1, constants 0 1: column 0 is blocked, column 1 is not

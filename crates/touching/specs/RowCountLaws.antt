@@ -13,7 +13,7 @@ use Rattle.counting.specs.Bools.{iff-eq, and-in, and-left, and-right}
 use Rattle.counting.specs.Sets.{Set, _∈_, _∩_, ∁, #, touching}
 use Rattle.counting.specs.Counts.{Touching, touching-iff, #-ext, #-none}
 use Rattle.counting.specs.Blocks.{#-plus}
-use Rattle.columns.specs.Columns.{width, upto}
+use Rattle.columns.specs.Columns.{width, upto-in, upto}
 use Rattle.columns.specs.ColumnSets.{rows-touching}
 use Rattle.columns.specs.Words.Rows.{no-row-touches}
 use Rattle.rank.specs.ListedModel.{parameter-at, listed-model}
@@ -30,7 +30,7 @@ middle-term p n a b cs ws J = refl
 
 -- a row that has a parameter in J's columns below n touches J at one of these; J has no column that a set has no room for
 touches-below : (n : ℕ) (ws : List ℕ) (J : Set) (r : ℕ) → ((x : ℕ) → x ∈ J → x < width) → rows-touching ws (J ∩ upto n) r ≡ touching n (parameter-at ws) J r
-unfolding upto
+unfolding upto-in
 touches-below n ws J r room = iff-eq (rows-touching ws (J ∩ upto n) r) (touching n (parameter-at ws) J r)
     (λ e.
     let s : Touching width (parameter-at ws) (J ∩ upto n) r = touching-iff width (parameter-at ws) (J ∩ upto n) r .0 e in

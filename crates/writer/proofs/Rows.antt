@@ -7,6 +7,7 @@ use native.Mathlib.Nat.{suc-mul, zero-mul}
 use lib.ListN.{length, getD, take, drop, length-append, length-drop}
 use lib.Seq.{length-take-le}
 use Rattle.columns.specs.Bytes.{bytes-of}
+use Rattle.columns.specs.Words.Bytes.{bytes-front}
 use Rattle.limits.specs.Limits.{set-bytes}
 use Rattle.format.specs.Lists.{rows-of}
 use Rattle.format.specs.ListLaws.{first-left, nothing}
@@ -14,7 +15,8 @@ use Rattle.format.specs.Refusals.{head-bytes, PutRoom}
 use Rattle.format.specs.File.Piece.{field-bytes}
 use Rattle.format.specs.File.Format.{prime-tag, sizes-tag, parameter-tag, end-tag, parameter-size, entry-bytes, prime-field, sizes-field, constant-row, parameter-row, end-field, row-fields, size-fields, fields, encode, handed-over}
 use Rattle.format.specs.File.Steps.{constant-bytes, parameter-bytes, Put}
-use Rattle.format.specs.File.BodyLaws.{entries-back}
+use Rattle.format.specs.File.RowSizes.{parameter-size-most}
+use Rattle.format.specs.File.BodyLaws.{bytes-of-length, entries-back}
 use Rattle.format.proofs.Puts.{put-next, put-room, put-same, left-length}
 
 -- what is left of the constants holds the rows that are left
@@ -66,7 +68,7 @@ constant-rows-length n (suc k) s h =
 module _ (n : ℕ) where
   pub parameter-bytes-length : (w : ℕ) → length (parameter-bytes n w) ≡ head-bytes + parameter-size n
   unfolding parameter-bytes
-  parameter-bytes-length w = refl
+  parameter-bytes-length w = omega (arith, bytes-of-length (parameter-size n) w)
 
   -- the head, and behind it the set's first bytes
   pub parameter-row-put : (w : ℕ) {size : ℕ} → size ≡ parameter-size n → {d₀ d e : List ℕ} {k r : ℕ} → Put (field-bytes parameter-tag size []) d₀ d k
@@ -77,7 +79,8 @@ module _ (n : ℕ) where
       let l = put-same p (omega arith) in
       let m = p .many-is in
       let room = left-length k d in
-      rw q (put-next (rw q at p) (put-room (rw q at s) (omega arith)))
+      let set : PutRoom (bytes-of (parameter-size n) w) (take (length d - k) (drop k d)) e _ = rw (bytes-front (parameter-size n) set-bytes w (parameter-size-most n)) at (rw q at s) in
+      rw q (put-next (rw q at p) (rw bytes-of-length at (put-room set (omega arith))))
 
   -- row r is the first of those that are left when r are written
   pub parameter-rows-next : (b r : ℕ) (ws : List ℕ) → r < b → b ≤ length ws
@@ -91,8 +94,12 @@ module _ (n : ℕ) where
 
   parameter-rows-length : (s : List ℕ) → length (flatMap (parameter-bytes n) s) ≡ length s * (head-bytes + parameter-size n)
   unfolding flatMap parameter-bytes
-  parameter-rows-length [] = refl
-  parameter-rows-length (w ∷ s) = let i = parameter-rows-length s in omega arith
+  parameter-rows-length [] = sym (zero-mul (head-bytes + parameter-size n))
+  parameter-rows-length (w ∷ s) =
+      let l = bytes-of-length (parameter-size n) w in
+      let i = parameter-rows-length s in
+      let j : suc (length s) * (head-bytes + parameter-size n) ≡ length s * (head-bytes + parameter-size n) + (head-bytes + parameter-size n) = suc-mul (length s) (head-bytes + parameter-size n) in
+      rw length-append (omega arith)
 
 -- ---- the whole file
 

@@ -1,17 +1,19 @@
--- Eight bytes as a word: column c is bit c mod 8 of byte c div 8. Assumes nothing.
+-- Bytes as the number of a word or of a set: column c is bit c mod 8 of byte c div 8. Assumes nothing.
 use mathlib.Core.Path.{_≡_, refl, sym, ap, _∙_}
 use mathlib.Core.List.{List, [], _∷_}
 use Prim.Native.Nat.{ℕ, zero, suc, _+_, _-_, _*_, _/_, _%_, _^_, _≤_, _<_}
-use native.Mathlib.Nat.{div-one}
+use native.Mathlib.Nat.{div-one, mul-assoc, mul-zero}
 use native.Mathlib.Decide.{decLt}
 use native.Mathlib.Omega.{arith}
 use lib.Dec.{lit<}
-use lib.ListN.{length, getD, take, drop, length-take, List·getD-eq-default}
-use lib.Seq.{getD-take}
-use lib.Pow.{pow-pos, pow-add, shr-shr}
+use lib.ListN.{length, getD, take, drop, length-take, length-drop, List·getD-eq-default}
+use lib.Seq.{getD-take, take-all}
+use lib.Pow.{pow-pos, pow-add, shr-shr, field, mod-mod-pow}
 use Rattle.columns.specs.Bytes.{number, bytes-of, bit-shown}
-use Rattle.columns.specs.Columns.{bit}
+use Rattle.columns.specs.Columns.{word-width, word-bytes, room-bytes, bit}
+use Rattle.columns.specs.ColumnSets.{joined}
 use Rattle.columns.specs.Words.Bits.{bit-mod, bit-of-zero}
+use Rattle.columns.specs.Words.Halves.{joined-low, joined-high}
 
 -- every element is a byte
 abbrev pub AreBytes : List ℕ → Type 0
@@ -101,7 +103,35 @@ number-eight bs = omega (
   number-front 7 0 bs,
 )
 
--- ---- the bytes of a word
+-- ---- bytes in two parts
+
+number-parts : (a b : ℕ) (bs : List ℕ) → number (take a bs) + 2 ^ (8 * a) * number (take b (drop a bs)) ≡ number (take (a + b) bs)
+number-parts zero b bs = let e : 0 + b ≡ b = omega arith in rw e (omega arith)
+number-parts (suc a) b [] = rw (none-left b, none-left (suc a + b)) (omega (arith, mul-zero (2 ^ (8 * suc a))))
+number-parts (suc a) b (x ∷ bs) =
+    let e : suc a + b ≡ suc (a + b) = omega arith in
+    let split : 2 ^ (8 * suc a) ≡ 256 * 2 ^ (8 * a) = ap (λ (k : ℕ). 2 ^ k) (eight-more a) ∙ pow-add 2 8 (8 * a) in
+    rw e (rw split (omega (arith, mul-assoc 256 (2 ^ (8 * a)) (number (take b (drop a bs))), number-parts a b bs)))
+
+drop-all : (n : ℕ) (bs : List ℕ) → length bs ≤ n → drop n bs ≡ []
+drop-all zero [] l = refl
+drop-all zero (x ∷ bs) l = absurd (omega arith)
+drop-all (suc n) [] l = refl
+drop-all (suc n) (x ∷ bs) l = drop-all n bs (omega arith)
+
+-- a set from its bytes: as many as a word has for the low word, and what is behind them for the high word
+pub bytes-short : (bs : List ℕ) (l : ℕ) → length bs < word-bytes → l ≡ number (take word-bytes bs) → joined l 0 ≡ number (take room-bytes bs)
+bytes-short bs l s e =
+    let gone : drop word-bytes bs ≡ [] = drop-all word-bytes bs (omega arith) in
+    omega (arith, number-parts word-bytes word-bytes bs, ap (λ (t : List ℕ). number (take word-bytes t)) gone)
+
+pub bytes-long : (bs : List ℕ) (l h : ℕ) → word-bytes ≤ length bs → l ≡ number (take word-bytes bs)
+    → h ≡ number (take word-bytes (take (length bs - word-bytes) (drop word-bytes bs))) → joined l h ≡ number (take room-bytes bs)
+bytes-long bs l h s e d =
+    let whole-rest : take (length bs - word-bytes) (drop word-bytes bs) ≡ drop word-bytes bs = take-all (length bs - word-bytes) (drop word-bytes bs) (omega (arith, length-drop word-bytes bs)) in
+    omega (arith, number-parts word-bytes word-bytes bs, ap (λ (t : List ℕ). number (take word-bytes t)) whole-rest)
+
+-- ---- the bytes of a number
 
 pub byte-at : (k j w : ℕ) → j < k → getD (bytes-of k w) j 0 ≡ w / 2 ^ (8 * j) % 256
 byte-at zero j w l = absurd (omega arith)
@@ -114,3 +144,37 @@ pub byte-past : (k j w : ℕ) → k ≤ j → getD (bytes-of k w) j 0 ≡ 0
 byte-past zero j w l = refl
 byte-past (suc k) zero w l = absurd (omega arith)
 byte-past (suc k) (suc j) w l = byte-past k j (w / 256) (omega arith)
+
+-- byte i is the same among few bytes and among many
+pub bytes-agree : (j k i w : ℕ) → i < j → i < k → getD (bytes-of j w) i 0 ≡ getD (bytes-of k w) i 0
+bytes-agree j k i w h l = byte-at j i w h ∙ sym (byte-at k i w l)
+
+-- the first j of k bytes are the j bytes
+pub bytes-front : (j k w : ℕ) → j ≤ k → take j (bytes-of k w) ≡ bytes-of j w
+bytes-front zero k w l = refl
+bytes-front (suc j) zero w l = absurd (omega arith)
+bytes-front (suc j) (suc k) w l = ap (λ (t : List ℕ). w % 256 ∷ t) (bytes-front j k (w / 256) (omega arith))
+
+-- ---- the bytes of a set: those of its low word, and behind them those of its high word
+
+pub byte-low : (l h k : ℕ) → l < 2 ^ word-width → k < word-bytes → getD (bytes-of word-bytes l) k 0 ≡ getD (bytes-of room-bytes (joined l h)) k 0
+byte-low l h k b lk =
+    byte-at word-bytes k l lk ∙ ap (λ (w : ℕ). w / 2 ^ (8 * k) % 256) (sym (joined-low l h b) ∙ ap (λ (m : ℕ). joined l h % 2 ^ m) room)
+    ∙ ap (λ (w : ℕ). w % 256) (field (joined l h) (56 - 8 * k + 8) (8 * k))
+    ∙ mod-mod-pow (joined l h / 2 ^ (8 * k)) (56 - 8 * k) 8
+    ∙ sym (byte-at room-bytes k (joined l h) (omega arith))
+  where
+    room : word-width ≡ 56 - 8 * k + 8 + 8 * k
+    room = omega arith
+
+pub byte-high : (l h k : ℕ) → l < 2 ^ word-width → word-bytes ≤ k → getD (bytes-of word-bytes h) (k - word-bytes) 0 ≡ getD (bytes-of room-bytes (joined l h)) k 0
+byte-high l h k b lk = elim (decLt k room-bytes) [
+  | yes inside ↦
+      byte-at word-bytes (k - word-bytes) h (omega arith) ∙ ap (λ (w : ℕ). w / 2 ^ (8 * (k - word-bytes)) % 256) (sym (joined-high l h b))
+      ∙ ap (λ (w : ℕ). w % 256) (shr-shr (joined l h) word-width (8 * (k - word-bytes)) ∙ ap (λ (m : ℕ). joined l h / 2 ^ m) (place inside))
+      ∙ sym (byte-at room-bytes k (joined l h) inside)
+  | no past ↦ byte-past word-bytes (k - word-bytes) h (omega arith) ∙ sym (byte-past room-bytes k (joined l h) (omega arith))
+]
+  where
+    place : k < room-bytes → word-width + 8 * (k - word-bytes) ≡ 8 * k
+    place l = omega arith

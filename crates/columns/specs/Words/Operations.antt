@@ -10,13 +10,13 @@ use native.Mathlib.Omega.{arith}
 use lib.Arith.{lt-one}
 use lib.Dec.{lit<, eqb, leb, ltb}
 use lib.Pow.{pow-pos, pow-mono, pow-add, mod-pow-add, shr-shr}
-use lib.Bits.{bitAnd, bitOr, and-le-l}
+use lib.Bits.{bitAnd, bitOr}
 use lib.Count.{ones, ones-cat, trailingZeros, under}
 use borrow.Author.Tests.{le-leb, lt-leb, eq-eqb, ne-eqb, eqb-true, lt-ltb, le-ltb, ltb-true}
 use Rattle.counting.specs.Bools.{not-true, iff-eq, implies, implied}
-use Rattle.counting.specs.Sets.{Set, _∈_, _∩_, _∪_, ∁, indicator, #, any}
-use Rattle.counting.specs.Counts.{all-iff, #-none, #-⊖, size-any}
-use Rattle.columns.specs.Columns.{width, bit, members, none, upto, inserted, removed, moved-up, moved-down, least, word-of, within}
+use Rattle.counting.specs.Sets.{Set, _∈_, _∩_, _∪_, ∁, indicator, #}
+use Rattle.counting.specs.Counts.{all-iff, #-none, #-⊖}
+use Rattle.columns.specs.Columns.{width, bit, members, none, upto-in, inserted-in, removed, moved-up-in, moved-down, least, word-of, within-in, within}
 use Rattle.columns.specs.Words.Bits.{bit-lt, two-cases, bit-suc, bit-zero, bit-and, bit-or, bit-not, bit-pow-same, bit-pow-other, bit-of-zero, bit-mod, bits-ext}
 
 -- ---- members by their bits
@@ -46,7 +46,7 @@ members-pow j x = elim (ℕ-discrete x j) [
 ]
 
 -- the low k bits have the members below k
-members-mod : (k w x : ℕ) → x < k → members (w % 2 ^ k) x ≡ members w x
+pub members-mod : (k w x : ℕ) → x < k → members (w % 2 ^ k) x ≡ members w x
 unfolding members
 members-mod k w x l = ap (λ (b : ℕ). eqb b 1) (bit-mod k w x l)
 
@@ -103,14 +103,14 @@ pub members-and : (v w : ℕ) → members (bitAnd v w) ≡ members v ∩ members
 unfolding members
 members-and v w = fun-ext (λ x. ap (λ (b : ℕ). eqb b 1) (bit-and v w x) ∙ both-ones (bit v x) (bit w x) (bit-lt v x) (bit-lt w x))
 
-members-not : (w x : ℕ) → w < 2 ^ width → x < width → members (2 ^ width - 1 - w) x ≡ not (members w x)
+members-not : (k w x : ℕ) → w < 2 ^ k → x < k → members (2 ^ k - 1 - w) x ≡ not (members w x)
 unfolding members
-members-not w x h l = ap (λ (b : ℕ). eqb b 1) (bit-not width w x h l) ∙ one-turned (bit w x) (bit-lt w x)
+members-not k w x h l = ap (λ (b : ℕ). eqb b 1) (bit-not k w x h l) ∙ one-turned (bit w x) (bit-lt w x)
 
-pub members-less : (v w : ℕ) → v < 2 ^ width → w < 2 ^ width → members (bitAnd v (2 ^ width - 1 - w)) ≡ members v ∩ ∁ (members w)
-members-less v w hv hw = members-and v (2 ^ width - 1 - w) ∙ fun-ext (λ x. elim (decLt x width) [
-  | yes l ↦ ap (λ b. members v x && b) (members-not w x hw l)
-  | no nl ↦ let none-here : members v x ≡ false = members-beyond width v x hv (omega arith) in rw none-here refl
+pub members-less : (k v w : ℕ) → v < 2 ^ k → w < 2 ^ k → members (bitAnd v (2 ^ k - 1 - w)) ≡ members v ∩ ∁ (members w)
+members-less k v w hv hw = members-and v (2 ^ k - 1 - w) ∙ fun-ext (λ x. elim (decLt x k) [
+  | yes l ↦ ap (λ b. members v x && b) (members-not k w x hw l)
+  | no nl ↦ let none-here : members v x ≡ false = members-beyond k v x hv (omega arith) in rw none-here refl
 ])
 
 and-none : (b : Bool) → false ≡ (b && false)
@@ -121,58 +121,58 @@ and-true : (b : Bool) → b ≡ (b && true)
 and-true true = refl
 and-true false = refl
 
-pub members-with : (w j : ℕ) → j < width → members (bitOr w (2 ^ j)) ≡ inserted (members w) j
-unfolding inserted
-members-with w j l = members-or w (2 ^ j) ∙ fun-ext (λ x. ap (λ b. members w x || b) (members-pow j x ∙ with-room x))
+pub members-with : (k w j : ℕ) → j < k → members (bitOr w (2 ^ j)) ≡ inserted-in k (members w) j
+unfolding inserted-in
+members-with k w j l = members-or w (2 ^ j) ∙ fun-ext (λ x. ap (λ b. members w x || b) (members-pow j x ∙ with-room x))
   where
-    with-room : (x : ℕ) → eqb x j ≡ (eqb x j && ltb j width)
-    with-room x = rw (lt-ltb j width l) (and-true (eqb x j))
+    with-room : (x : ℕ) → eqb x j ≡ (eqb x j && ltb j k)
+    with-room x = rw (lt-ltb j k l) (and-true (eqb x j))
 
-pub inserted-beyond : (S : Set) (j : ℕ) → width ≤ j → S ≡ inserted S j
-unfolding inserted
-inserted-beyond S j h = fun-ext (λ x. rw (le-ltb j width h) (or-none (S x) (eqb x j)))
+pub inserted-beyond : (k : ℕ) (S : Set) (j : ℕ) → k ≤ j → S ≡ inserted-in k S j
+unfolding inserted-in
+inserted-beyond k S j h = fun-ext (λ x. rw (le-ltb j k h) (or-none (S x) (eqb x j)))
   where
     or-none : (b d : Bool) → b ≡ (b || (d && false))
     or-none true d = refl
     or-none false true = refl
     or-none false false = refl
 
-pub members-without : (w j : ℕ) → w < 2 ^ width → j < width → members (bitAnd w (2 ^ width - 1 - 2 ^ j)) ≡ removed (members w) j
+pub members-without : (k w j : ℕ) → w < 2 ^ k → j < k → members (bitAnd w (2 ^ k - 1 - 2 ^ j)) ≡ removed (members w) j
 unfolding removed
-members-without w j hw l =
-    members-less w (2 ^ j) hw (pow-below j l)
+members-without k w j hw l =
+    members-less k w (2 ^ j) hw (pow-below j l)
     ∙ fun-ext (λ x. ap (λ b. members w x && not b) (members-pow j x))
   where
-    pow-below : (j : ℕ) → j < width → 2 ^ j < 2 ^ width
-    pow-below j l = let m : 2 ^ suc j ≤ 2 ^ width = pow-mono {i = suc j} {j = width} l in
+    pow-below : (j : ℕ) → j < k → 2 ^ j < 2 ^ k
+    pow-below j l = let m : 2 ^ suc j ≤ 2 ^ k = pow-mono {i = suc j} {j = k} l in
         omega (arith, pow-pos j, ap (λ (k : ℕ). 2 ^ k) (one-add j), pow-add 2 1 j)
 
-pub removed-beyond : (w j : ℕ) → w < 2 ^ width → width ≤ j → members w ≡ removed (members w) j
+pub removed-beyond : (k w j : ℕ) → w < 2 ^ k → k ≤ j → members w ≡ removed (members w) j
 unfolding removed
-removed-beyond w j hw h = fun-ext (λ x. elim (ℕ-discrete x j) [
-  | yes e ↦ ap (members w) e ∙ members-beyond width w j hw h ∙ sym (ap (λ b. b && not (eqb x j)) (ap (members w) e ∙ members-beyond width w j hw h))
+removed-beyond k w j hw h = fun-ext (λ x. elim (ℕ-discrete x j) [
+  | yes e ↦ ap (members w) e ∙ members-beyond k w j hw h ∙ sym (ap (λ b. b && not (eqb x j)) (ap (members w) e ∙ members-beyond k w j hw h))
   | no ne ↦ rw (ne-eqb x j ne) (and-true (members w x))
 ])
 
 -- ---- all columns below n
 
-pub members-upto : (n : ℕ) → n ≤ width → members (2 ^ n - 1) ≡ upto n
-unfolding members upto
-members-upto n h = fun-ext (λ x. elim (decLt x n) [
+pub members-upto : (k n : ℕ) → n ≤ k → members (2 ^ n - 1) ≡ upto-in k n
+unfolding members upto-in
+members-upto k n h = fun-ext (λ x. elim (decLt x n) [
   | yes l ↦
       ap (λ (m : ℕ). eqb (bit m x) 1) (sym (minus-zero (2 ^ n - 1))) ∙ ap (λ (b : ℕ). eqb b 1) (bit-not n 0 x (pow-pos n) l ∙ ap (λ (b : ℕ). 1 - b) (bit-of-zero x))
-      ∙ sym (ap₂ _&&_ (lt-ltb x n l) (lt-ltb x width (omega arith)))
-  | no nl ↦ members-beyond n (2 ^ n - 1) x (omega (arith, pow-pos n)) (omega arith) ∙ sym (ap (λ b. b && ltb x width) (le-ltb x n (omega arith)))
+      ∙ sym (ap₂ _&&_ (lt-ltb x n l) (lt-ltb x k (omega arith)))
+  | no nl ↦ members-beyond n (2 ^ n - 1) x (omega (arith, pow-pos n)) (omega arith) ∙ sym (ap (λ b. b && ltb x k) (le-ltb x n (omega arith)))
 ])
   where
     minus-zero : (m : ℕ) → m - 0 ≡ m
     minus-zero m = omega arith
 
-pub upto-wide : (n : ℕ) → width ≤ n → upto width ≡ upto n
-unfolding upto
-upto-wide n h = fun-ext (λ x. elim (decLt x width) [
-  | yes l ↦ ap₂ _&&_ (lt-ltb x width l ∙ sym (lt-ltb x n (omega arith))) refl
-  | no nl ↦ rw (le-ltb x width (omega arith)) (and-none (ltb x n))
+pub upto-wide : (k n : ℕ) → k ≤ n → upto-in k k ≡ upto-in k n
+unfolding upto-in
+upto-wide k n h = fun-ext (λ x. elim (decLt x k) [
+  | yes l ↦ ap₂ _&&_ (lt-ltb x k l ∙ sym (lt-ltb x n (omega arith))) refl
+  | no nl ↦ rw (le-ltb x k (omega arith)) (and-none (ltb x n))
 ])
 
 -- ---- columns moved up and down
@@ -181,15 +181,15 @@ pub members-down : (w m : ℕ) → members (w / 2 ^ m) ≡ moved-down (members w
 unfolding members moved-down
 members-down w m = fun-ext (λ x. ap (λ (q : ℕ). eqb (q % 2) 1) (shr-shr w m x))
 
-pub none-down : (w m : ℕ) → w < 2 ^ width → width ≤ m → none ≡ moved-down (members w) m
+pub none-down : (k w m : ℕ) → w < 2 ^ k → k ≤ m → none ≡ moved-down (members w) m
 unfolding moved-down
-none-down w m h l = fun-ext (λ x. sym (members-beyond width w (m + x) h (omega arith)))
+none-down k w m h l = fun-ext (λ x. sym (members-beyond k w (m + x) h (omega arith)))
 
-pub members-up : (w m : ℕ) → members (w * 2 ^ m % 2 ^ width) ≡ moved-up (members w) m
-unfolding moved-up moved-down
-members-up w m = fun-ext (λ x. elim (decLt x width) [
-  | no nl ↦ members-beyond width (w * 2 ^ m % 2 ^ width) x (mod-lt (w * 2 ^ m) (pow-pos width)) (omega arith) ∙ rw (le-ltb x width (omega arith)) (and-none (leb m x && members w (x - m)))
-  | yes l ↦ members-mod width (w * 2 ^ m) x l ∙ rw (lt-ltb x width l) (shifted x ∙ and-true (leb m x && members w (x - m)))
+pub members-up : (k w m : ℕ) → members (w * 2 ^ m % 2 ^ k) ≡ moved-up-in k (members w) m
+unfolding moved-up-in moved-down
+members-up k w m = fun-ext (λ x. elim (decLt x k) [
+  | no nl ↦ members-beyond k (w * 2 ^ m % 2 ^ k) x (mod-lt (w * 2 ^ m) (pow-pos k)) (omega arith) ∙ rw (le-ltb x k (omega arith)) (and-none (leb m x && members w (x - m)))
+  | yes l ↦ members-mod k (w * 2 ^ m) x l ∙ rw (lt-ltb x k l) (shifted x ∙ and-true (leb m x && members w (x - m)))
 ])
   where
     shifted : (x : ℕ) → members (w * 2 ^ m) x ≡ (leb m x && members w (x - m))
@@ -201,11 +201,11 @@ members-up w m = fun-ext (λ x. elim (decLt x width) [
           ∙ sym (ap (λ b. b && members w (x - m)) (le-leb m x (omega arith)))
     ]
 
-pub none-up : (S : Set) (m : ℕ) → width ≤ m → none ≡ moved-up S m
-unfolding moved-up
-none-up S m h = fun-ext (λ x. elim (decLt x m) [
-  | yes l ↦ ap (λ b. b && S (x - m) && ltb x width) (sym (lt-leb m x l))
-  | no nl ↦ rw (le-ltb x width (omega arith)) (and-none (leb m x && S (x - m)))
+pub none-up : (k : ℕ) (S : Set) (m : ℕ) → k ≤ m → none ≡ moved-up-in k S m
+unfolding moved-up-in
+none-up k S m h = fun-ext (λ x. elim (decLt x m) [
+  | yes l ↦ ap (λ b. b && S (x - m) && ltb x k) (sym (lt-leb m x l))
+  | no nl ↦ rw (le-ltb x k (omega arith)) (and-none (leb m x && S (x - m)))
 ])
 
 -- ---- the least column
@@ -293,21 +293,15 @@ members-ext k v w hv hw e = bits-ext k v w hv hw (λ x l. same (bit v x) (bit w 
     same (suc zero) (suc (suc d)) h l e = absurd (omega arith)
     same (suc (suc c)) d h l e = absurd (omega arith)
 
-no-members : (w : ℕ) → w < 2 ^ width → # width (members w) ≡ 0 → w ≡ 0
-no-members w h e = members-ext width w 0 h (omega arith) (λ x l. not-true (members w x) (λ m.
-    omega (arith, e, #-⊖ width (members w) x l m)) ∙ sym (ap (λ (S : Set). S x) members-zero))
+no-members : (k w : ℕ) → w < 2 ^ k → # k (members w) ≡ 0 → w ≡ 0
+no-members k w h e = members-ext k w 0 h (pow-pos k) (λ x l. not-true (members w x) (λ m.
+    omega (arith, e, #-⊖ k (members w) x l m)) ∙ sym (ap (λ (S : Set). S x) members-zero))
 
 -- the number with no column is 0, and no other
-pub none-test : (w : ℕ) → w < 2 ^ width → eqb w 0 ≡ eqb (# width (members w)) 0
-none-test w h = iff-eq (eqb w 0) (eqb (# width (members w)) 0)
-    (λ e. eq-eqb _ 0 (ap (λ (v : ℕ). # width (members v)) (eqb-true w 0 e) ∙ ap (# width) members-zero ∙ #-none width))
-    (λ e. eq-eqb w 0 (no-members w h (eqb-true _ 0 e)))
-
--- two numbers have a column in common
-pub common-test : (v w : ℕ) → v < 2 ^ width → not (eqb (bitAnd v w) 0) ≡ any width (members v ∩ members w)
-common-test v w h =
-    ap not (none-test (bitAnd v w) (omega (arith, and-le-l v w)) ∙ ap (λ (S : Set). eqb (# width S) 0) (members-and v w))
-    ∙ size-any width (members v ∩ members w)
+pub none-test : (k w : ℕ) → w < 2 ^ k → eqb w 0 ≡ eqb (# k (members w)) 0
+none-test k w h = iff-eq (eqb w 0) (eqb (# k (members w)) 0)
+    (λ e. eq-eqb _ 0 (ap (λ (v : ℕ). # k (members v)) (eqb-true w 0 e) ∙ ap (# k) members-zero ∙ #-none k))
+    (λ e. eq-eqb w 0 (no-members k w h (eqb-true _ 0 e)))
 
 pub word-members : (k w : ℕ) → w < 2 ^ k → w ≡ word-of k (members w)
 unfolding word-of members
@@ -321,37 +315,40 @@ word-members (suc k) w h =
 
 -- ---- no column from n on
 
-pub within-iff : (n w : ℕ) → (within n w ≡ true) ↔ ((x : ℕ) → x < width → x ∈ members w → x < n)
-unfolding within
-within-iff n w = (
-  λ e x l m. ltb-true x n (implied (members w x) (ltb x n) (all-iff width (λ x. not (members w x) || ltb x n) .0 e x l) m),
-  λ h. all-iff width (λ x. not (members w x) || ltb x n) .1 (λ x l. implies (members w x) (ltb x n) (λ m. lt-ltb x n (h x l m))),
+pub within-in-iff : (k n w : ℕ) → (within-in k n w ≡ true) ↔ ((x : ℕ) → x < k → x ∈ members w → x < n)
+unfolding within-in
+within-in-iff k n w = (
+  λ e x l m. ltb-true x n (implied (members w x) (ltb x n) (all-iff k (λ x. not (members w x) || ltb x n) .0 e x l) m),
+  λ h. all-iff k (λ x. not (members w x) || ltb x n) .1 (λ x l. implies (members w x) (ltb x n) (λ m. lt-ltb x n (h x l m))),
 )
 
-pub within-pow : (n w : ℕ) → w < 2 ^ width → within n w ≡ ltb w (2 ^ n)
-within-pow n w h = iff-eq (within n w) (ltb w (2 ^ n))
-    (λ e. lt-ltb w (2 ^ n) (small (within-iff n w .0 e)))
-    (λ e. within-iff n w .1 (λ x l m. elim (decLt x n) [
+pub within-iff : (n w : ℕ) → (within n w ≡ true) ↔ ((x : ℕ) → x < width → x ∈ members w → x < n)
+within-iff = within-in-iff width
+
+pub within-pow : (k n w : ℕ) → w < 2 ^ k → within-in k n w ≡ ltb w (2 ^ n)
+within-pow k n w h = iff-eq (within-in k n w) (ltb w (2 ^ n))
+    (λ e. lt-ltb w (2 ^ n) (small (within-in-iff k n w .0 e)))
+    (λ e. within-in-iff k n w .1 (λ x l m. elim (decLt x n) [
       | yes lx ↦ lx
       | no nx ↦ absurd (true≢false (sym m ∙ members-beyond n w x (ltb-true w (2 ^ n) e) (omega arith)))
     ]))
   where
-    small : ((x : ℕ) → x < width → x ∈ members w → x < n) → w < 2 ^ n
-    small inside = elim (decLt n width) [
-      | no nl ↦ let m : 2 ^ width ≤ 2 ^ n = pow-mono {i = width} {j = n} (omega arith) in omega arith
+    small : ((x : ℕ) → x < k → x ∈ members w → x < n) → w < 2 ^ n
+    small inside = elim (decLt n k) [
+      | no nl ↦ let m : 2 ^ k ≤ 2 ^ n = pow-mono {i = k} {j = n} (omega arith) in omega arith
       | yes l ↦
-          let same : w ≡ w % 2 ^ n = members-ext width w (w % 2 ^ n) h (omega (arith, mod-le w (2 ^ n))) (λ x lx. agree x lx) in
+          let same : w ≡ w % 2 ^ n = members-ext k w (w % 2 ^ n) h (omega (arith, mod-le w (2 ^ n))) (λ x lx. agree x lx) in
           omega (arith, mod-lt w (pow-pos n))
     ]
       where
-        agree : (x : ℕ) → x < width → members w x ≡ members (w % 2 ^ n) x
+        agree : (x : ℕ) → x < k → members w x ≡ members (w % 2 ^ n) x
         agree x lx = elim (decLt x n) [
           | yes lo ↦ sym (members-mod n w x lo)
           | no hi ↦ not-true (members w x) (λ m. hi (inside x lx m)) ∙ sym (members-beyond n (w % 2 ^ n) x (mod-lt w (pow-pos n)) (omega arith))
         ]
 
-pub within-shift : (n w : ℕ) → w < 2 ^ width → eqb (w / 2 ^ n) 0 ≡ within n w
-within-shift n w h = iff-eq (eqb (w / 2 ^ n) 0) (ltb w (2 ^ n))
+pub within-shift : (k n w : ℕ) → w < 2 ^ k → eqb (w / 2 ^ n) 0 ≡ within-in k n w
+within-shift k n w h = iff-eq (eqb (w / 2 ^ n) 0) (ltb w (2 ^ n))
     (λ e. lt-ltb w (2 ^ n) (omega (arith, div-lt-iff-lt-mul {k = 2 ^ n} {x = w} {y = 1} (pow-pos n) .0 (omega (arith, eqb-true (w / 2 ^ n) 0 e)))))
     (λ e. eq-eqb (w / 2 ^ n) 0 (div-eq-of-lt (ltb-true w (2 ^ n) e)))
-    ∙ sym (within-pow n w h)
+    ∙ sym (within-pow k n w h)

@@ -11,21 +11,21 @@ use Rattle.counting.specs.Bools.{true?, not-true, and-in, and-left, and-right, 
 use Rattle.counting.specs.Sets.{Set, _∈_, _⊆_, _∩_, _∪_, ∁, #, any, Some}
 use Rattle.counting.specs.Counts.{#-⊖, #-pick, size-any}
 use Rattle.counting.specs.Injections.{#-strict}
-use Rattle.columns.specs.Columns.{width, upto, inserted, removed, least, last-member}
+use Rattle.columns.specs.Columns.{width, upto-in, upto, inserted-in, inserted, removed, least, last-member}
 use Rattle.columns.specs.Words.Operations.{least-in, least-first}
 
 -- ---- a column put in
 
 pub inserted-same : (S : Set) (j : ℕ) → j < width → j ∈ inserted S j
-unfolding inserted
+unfolding inserted-in
 inserted-same S j l = or-right (S j) (eqb j j && ltb j width) (and-in (eq-eqb j j refl) (lt-ltb j width l))
 
 pub inserted-old : (S : Set) (j : ℕ) → S ⊆ inserted S j
-unfolding inserted
+unfolding inserted-in
 inserted-old S j x e = or-left (S x) (eqb x j && ltb j width) e
 
 pub inserted-split : (S : Set) (j x : ℕ) → x ∈ inserted S j → (x ≡ j) ⊎ (x ∈ S)
-unfolding inserted
+unfolding inserted-in
 inserted-split S j x e = elim (or-split (S x) (eqb x j && ltb j width) e) [
   | inl o ↦ inr o
   | inr w ↦ inl (eqb-true x j (and-left (eqb x j) (ltb j width) w))
@@ -108,5 +108,5 @@ union-more n S T h =
 -- ---- all columns below n
 
 pub upto-iff : (n x : ℕ) → n ≤ width → (x ∈ upto n → x < n) × (x < n → x ∈ upto n)
-unfolding upto
+unfolding upto-in
 upto-iff n x h = (λ e. ltb-true x n (and-left (ltb x n) (ltb x width) e), λ l. and-in (lt-ltb x n l) (lt-ltb x width (omega arith)))

@@ -5,11 +5,12 @@ use Rattle.counting.specs.Sets.{_∈_}
 use Rattle.columns.specs.Columns.{width, members, none}
 use Rattle.columns.specs.ColumnSets.{whole, empty-set, Fits}
 use Rattle.columns.specs.Words.Operations.{members-zero, members-below}
+use Rattle.columns.specs.Words.Halves.{joined-below}
 use Rattle.columns.specs.declared.ColumnSet.{ColumnSet}
 
 pub whole-below : (s : ColumnSet) → Fits s → whole s < 2 ^ width
 unfolding whole
-whole-below s f = f
+whole-below s f = joined-below (s .low) (s .high) (f .0) (f .1)
 
 -- a set has no column that it has no room for
 pub columns-below : (s : ColumnSet) (x : ℕ) → Fits s → x ∈ members (whole s) → x < width

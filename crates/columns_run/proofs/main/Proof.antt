@@ -8,7 +8,7 @@ abbrev Inv-loop : tie.InvT-loop
 Inv-loop i₀ i = Unit {0}
 
 abbrev μ-loop : tie.MeasureT-loop
-μ-loop i₀ i = 7 - i
+μ-loop i₀ i = 8 - i
 
 read-requires : tie.Need-read-requires Inv-loop μ-loop
 read-requires c κs = search needs
@@ -25,8 +25,8 @@ describe-requires c κs = search needs
 over-places-requires : tie.Need-over-places-requires Inv-loop μ-loop
 over-places-requires c κs = search needs
 
-over-words-requires : tie.Need-over-words-requires Inv-loop μ-loop
-over-words-requires c κs = search needs
+over-sets-requires : tie.Need-over-sets-requires Inv-loop μ-loop
+over-sets-requires c κs = search needs
 
 over-rows-requires : tie.Need-over-rows-requires Inv-loop μ-loop
 over-rows-requires c κs = search needs
@@ -54,7 +54,7 @@ main-spec =
     nth-requires
     describe-requires
     over-places-requires
-    over-words-requires
+    over-sets-requires
     over-rows-requires
     add-i
     loop-less

@@ -8,7 +8,7 @@ abbrev Inv-loop : tie.InvT-loop
 Inv-loop set i₀ i = Unit {0}
 
 abbrev μ-loop : tie.MeasureT-loop
-μ-loop set i₀ i = 7 - i
+μ-loop set i₀ i = 14 - i
 
 loop-holds : tie.Need-loop-holds Inv-loop μ-loop
 loop-holds c = search needs

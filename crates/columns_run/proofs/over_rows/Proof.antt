@@ -8,7 +8,7 @@ abbrev Inv-loop : tie.InvT-loop
 Inv-loop set end₀ t4 t5 t6 end = Unit {0}
 
 abbrev μ-loop : tie.MeasureT-loop
-μ-loop set end₀ t4 t5 t6 end = 8 - end
+μ-loop set end₀ t4 t5 t6 end = 10 - end
 
 slice-aggregate-write-all : tie.Need-slice-aggregate-write-all Inv-loop μ-loop
 slice-aggregate-write-all c = search needs

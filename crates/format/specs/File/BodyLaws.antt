@@ -1,16 +1,19 @@
 -- The law of each field's body: what passes its tests is of the stated form, and reading and writing undo one another. Assumes nothing.
 use Prim.Native.Nat.{ℕ, zero, suc, _+_, _*_, _/_, _%_, _^_, _≤_, _<_}
-use mathlib.Core.Path.{_≡_, refl, ap, _∙_}
+use mathlib.Core.Path.{_≡_, refl, sym, ap, _∙_}
 use mathlib.Core.Bool.{true}
 use mathlib.Core.List.{List, [], _∷_}
 use native.Mathlib.Omega.{arith}
-use native.Mathlib.Nat.{pow-suc}
+use native.Mathlib.Nat.{lt-of-lt-of-le}
 use lib.ListN.{length, getD}
 use lib.Seq.{take-all}
+use lib.Pow.{pow-add, pow-mono}
+use borrow.Author.Tests.{ltb-true}
 use Rattle.residue.specs.Arithmetic.{Prime}
 use Rattle.columns.specs.Bytes.{number, bytes-of}
 use Rattle.columns.specs.Columns.{width, within}
 use Rattle.columns.specs.Words.Bytes.{AreBytes, number-below}
+use Rattle.columns.specs.Words.Operations.{within-pow}
 use Rattle.format.specs.Lists.{All}
 use Rattle.limits.specs.Limits.{largest-prime, most-columns, most-rows}
 use Rattle.format.specs.Refusals.{first-refusal}
@@ -18,6 +21,7 @@ use Rattle.format.specs.RefusalLaws.{unless-zero, zero-unless}
 use Rattle.format.specs.TestLaws.{prime-reads, size-reads, constant-reads}
 use Rattle.format.specs.File.Format.{parameter-size, entries, entry-bytes, prime-body, sizes-body, constant-body, parameter-body, end-body}
 use Rattle.format.specs.File.PieceLaws.{BodyLaw}
+use Rattle.format.specs.File.RowSizes.{parameter-size-most, parameter-room}
 
 -- ---- numbers
 
@@ -32,12 +36,17 @@ bytes-number (suc k) (x ∷ b) h e =
     let i = bytes-number k b (λ j. h (suc j)) (omega arith) in
     rw (lo, hi, i)
 
-number-bytes : (k w : ℕ) → w < 256 ^ k → number (bytes-of k w) ≡ w
+number-bytes : (k w : ℕ) → w < 2 ^ (8 * k) → number (bytes-of k w) ≡ w
 number-bytes zero w h = omega arith
 number-bytes (suc k) w h =
-    let l : w < 256 ^ k * 256 = rw pow-suc at h in
+    let more : 8 * suc k ≡ 8 + 8 * k = omega arith in
+    let split : 2 ^ (8 * suc k) ≡ 256 * 2 ^ (8 * k) = ap (λ (m : ℕ). 2 ^ m) more ∙ pow-add 2 8 (8 * k) in
     let i = number-bytes k (w / 256) (omega arith) in
     rw i (omega arith)
+
+pub bytes-of-length : (k w : ℕ) → length (bytes-of k w) ≡ k
+bytes-of-length zero w = refl
+bytes-of-length (suc k) w = ap suc (bytes-of-length k (w / 256))
 
 -- ---- p, and n, a, b
 
@@ -108,18 +117,28 @@ constant-law p n k =
 abbrev pub IsParameters : ℕ → ℕ → Type 0
 IsParameters n w = (w < 2 ^ width) × (within n w ≡ true)
 
-pub parameter-law : (n : ℕ) → BodyLaw (parameter-body n) (IsParameters n)
-parameter-law n =
+pub parameter-law : (n : ℕ) → n ≤ most-columns → BodyLaw (parameter-body n) (IsParameters n)
+parameter-law n k =
     record {
-      small = omega arith;
+      small = omega (arith, parameter-size-most n);
       good = λ b h l e.
           let below = number-below (parameter-size n) b h in
           let all = take-all (parameter-size n) b (omega arith) in
-          ((rw all at below, unless-zero _ _ e), bytes-number (parameter-size n) b h l);
+          ((lt-of-lt-of-le (rw all at below) room, unless-zero _ _ e), bytes-number (parameter-size n) b h l);
       back = λ w v.
-          let q : number (bytes-of (parameter-size n) w) ≡ w = number-bytes (parameter-size n) w (v .0) in
-          (refl, zero-unless _ _ (ap (within n) q ∙ v .1), q);
+          let q : number (bytes-of (parameter-size n) w) ≡ w = number-bytes (parameter-size n) w (lt-of-lt-of-le (in-n w v) enough) in
+          (bytes-of-length (parameter-size n) w, zero-unless _ _ (ap (within n) q ∙ v .1), q);
     }
+  where
+    -- a set has room for the body's bits, and the body has one for each column
+    room : 2 ^ (8 * parameter-size n) ≤ 2 ^ width
+    room = pow-mono {i = 8 * parameter-size n} {j = width} (omega (arith, parameter-size-most n))
+
+    enough : 2 ^ n ≤ 2 ^ (8 * parameter-size n)
+    enough = pow-mono {i = n} {j = 8 * parameter-size n} (parameter-room n k)
+
+    in-n : (w : ℕ) → IsParameters n w → w < 2 ^ n
+    in-n w v = ltb-true w (2 ^ n) (sym (within-pow width n w (v .0)) ∙ v .1)
 
 pub end-law : BodyLaw end-body (λ x. Unit {0})
 unfolding first-refusal

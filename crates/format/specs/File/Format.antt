@@ -2,15 +2,16 @@
 -- Definitions only.
 use Prim.Native.Nat.{ℕ, _+_, _-_, _*_, _/_, _%_, _^_, _≤_, _<_}
 use mathlib.Core.Path.{_≡_}
-use mathlib.Core.Bool.{true}
+use mathlib.Core.Bool.{true, cond}
 use mathlib.Core.List.{List, [], _∷_, flatten}
+use lib.Dec.{leb}
 use lib.ListN.{length, getD, take, drop}
 use Rattle.residue.specs.Arithmetic.{Prime}
 use Rattle.columns.specs.Bytes.{number, bytes-of}
 use Rattle.columns.specs.Columns.{width, within}
 use Rattle.format.specs.declared.header.Header.{Header}
 use Rattle.format.specs.Lists.{All, rows-of, over}
-use Rattle.limits.specs.Limits.{largest-prime, most-columns, most-rows}
+use Rattle.limits.specs.Limits.{largest-prime, most-columns, most-rows, set-bytes}
 use Rattle.format.specs.Refusals.{head-bytes, unless, _then_, first-refusal, where-accepted, not-prime, sizes-beyond, constant-beyond, parameter-beyond, area-short, row-beyond, prime-test, size-test, constant-test, area-test, row-test, model-tests}
 use Rattle.format.specs.File.Piece.{Body, Piece, field, many, seq, closed}
 
@@ -53,8 +54,15 @@ parameter-tag = 4
 abbrev pub end-tag : ℕ
 end-tag = 5
 
-abbrev pub parameter-size : ℕ → ℕ
-parameter-size n = 8
+-- up to so many columns it has so many bytes, and above as many as show a set
+abbrev pub narrow-columns : ℕ
+narrow-columns = 64
+
+abbrev pub narrow-bytes : ℕ
+narrow-bytes = 8
+
+unfoldable pub parameter-size : ℕ → ℕ
+parameter-size n = cond (leb n narrow-columns) narrow-bytes set-bytes
 
 -- ---- the bodies
 

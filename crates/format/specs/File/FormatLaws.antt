@@ -26,7 +26,7 @@ rows-law : (p : ℕ) (z : ℕ × ℕ × ℕ) → IsSizes z → Law (row-fields p
 unfolding row-fields constant-row parameter-row end-field
 rows-law p z v =
     seq-law (many-law (z .1) (field-law constant-tag (constant-law p (z .0) (v .1))))
-    (λ _ _. seq-law (many-law (z .2) (field-law parameter-tag (parameter-law (z .0))))
+    (λ _ _. seq-law (many-law (z .2) (field-law parameter-tag (parameter-law (z .0) (v .1))))
     (λ _ _. field-law end-tag end-law))
 
 abbrev AreValues : ℕ × ((ℕ × ℕ × ℕ) × Rows) → Type 0

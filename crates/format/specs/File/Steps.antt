@@ -7,7 +7,7 @@ use mathlib.Core.List.{List, map, flatMap}
 use lib.Dec.{eqb}
 use lib.ListN.{length, take}
 use Rattle.columns.specs.Bytes.{number, bytes-of}
-use Rattle.limits.specs.Limits.{set-bytes}
+use Rattle.columns.specs.Columns.{room-bytes}
 use Rattle.format.specs.declared.header.Header.{Header}
 use Rattle.format.specs.Lists.{over}
 use Rattle.format.specs.Refusals.{first-refusal, where-accepted}
@@ -42,7 +42,7 @@ constants-said k s = flatMap entries (said-bodies k s)
 
 -- the k parameter rows in front
 unfoldable pub parameters-said : ℕ → List ℕ → List ℕ
-parameters-said k s = map (λ b. number (take set-bytes b)) (said-bodies k s)
+parameters-said k s = map (λ b. number (take room-bytes b)) (said-bodies k s)
 
 -- ---- written
 

@@ -1,6 +1,6 @@
 -- What is written: bytes, how many, and field after field. Assumes nothing.
 use Prim.Native.Nat.{ℕ, zero, suc, _+_, _*_, _/_, _≤_, _<_}
-use mathlib.Core.Path.{_≡_, refl, sym, ap}
+use mathlib.Core.Path.{_≡_, sym, ap, _∙_}
 use mathlib.Core.List.{List, [], _∷_, _++_, flatMap}
 use native.Mathlib.Omega.{arith}
 use native.Mathlib.Nat.{suc-mul, zero-mul}
@@ -10,8 +10,9 @@ use Rattle.columns.specs.Words.Bytes.{AreBytes}
 use Rattle.format.specs.Lists.{All}
 use Rattle.format.specs.Refusals.{head-bytes}
 use Rattle.format.specs.File.Piece.{Body, field}
-use Rattle.format.specs.File.Format.{FileModel, ValidModel, prime-tag, sizes-tag, constant-tag, parameter-tag, end-tag, parameter-size, prime-field, sizes-field, entry-bytes, prime-body, sizes-body, constant-body, parameter-body, end-body, constant-row, parameter-row, end-field, row-fields, size-fields, fields, encode}
-use Rattle.format.specs.File.BodyLaws.{entries-back}
+use Rattle.format.specs.File.Format.{FileModel, ValidModel, narrow-columns, prime-tag, sizes-tag, constant-tag, parameter-tag, end-tag, parameter-size, prime-field, sizes-field, entry-bytes, prime-body, sizes-body, constant-body, parameter-body, end-body, constant-row, parameter-row, end-field, row-fields, size-fields, fields, encode}
+use Rattle.format.specs.File.RowSizes.{narrow-size, wide-size, parameter-size-most}
+use Rattle.format.specs.File.BodyLaws.{bytes-of-length, entries-back}
 
 -- ---- a file is made of bytes
 
@@ -56,7 +57,7 @@ encode-bytes m v =
     bytes-append f₁ (f₂ ++ (f₃ ++ (f₄ ++ f₅))) (bytes-field prime-tag prime-body (m .p) (omega arith) (omega arith) (bytes-of-are-bytes 2 (m .p)))
     (bytes-append f₂ (f₃ ++ (f₄ ++ f₅)) (bytes-field sizes-tag sizes-body (m .n, m .a, m .b) (omega arith) (omega arith) sizes)
     (bytes-append f₃ (f₄ ++ f₅) (bytes-many (row .enc) (λ r w. bytes-field constant-tag (constant-body (m .p) (m .n)) r (omega arith) (omega (arith, v .n-most)) (bytes-entries (m .p) r (omega (arith, v .p-most)) (w .1))) (m .constants) (v .constants-below))
-    (bytes-append f₄ f₅ (bytes-many (parameters .enc) (λ w _. bytes-field parameter-tag (parameter-body (m .n)) w (omega arith) (omega arith) (bytes-of-are-bytes (parameter-size (m .n)) w)) (m .parameters) (v .parameters-within))
+    (bytes-append f₄ f₅ (bytes-many (parameters .enc) (λ w _. bytes-field parameter-tag (parameter-body (m .n)) w (omega arith) (omega (arith, parameter-size-most (m .n))) (bytes-of-are-bytes (parameter-size (m .n)) w)) (m .parameters) (v .parameters-within))
     (bytes-field end-tag end-body tt (omega arith) (omega arith) (λ i. omega arith)))))
   where
     sizes : AreBytes (m .n ∷ m .a ∷ m .b ∷ [])
@@ -76,12 +77,19 @@ length-many f k h (x ∷ xs) v =
     let m : suc (length xs) * k ≡ length xs * k + k = suc-mul (length xs) k in
     rw length-append (omega arith)
 
--- document 01: the length is 14 + a × (3 + 2n) + 11 × b
-pub file-length : (m : FileModel) → ValidModel m → length (encode m) ≡ 14 + m .a * (3 + 2 * m .n) + 11 * m .b
+-- the length is 14 + a × (3 + 2n) + b × (3 + a parameter row's size)
+pub file-length : (m : FileModel) → ValidModel m → length (encode m) ≡ 14 + m .a * (3 + 2 * m .n) + m .b * (3 + parameter-size (m .n))
 unfolding encode fields size-fields row-fields prime-field sizes-field constant-row parameter-row end-field
 file-length m v =
     let r = length-many (field constant-tag (constant-body (m .p) (m .n)) .enc) (3 + 2 * m .n) (λ r w. (let e = entries-back r in let l = w .0 in omega arith)) (m .constants) (v .constants-below) in
-    let s = length-many (field parameter-tag (parameter-body (m .n)) .enc) (head-bytes + parameter-size (m .n)) (λ w _. refl) (m .parameters) (v .parameters-within) in
+    let s = length-many (field parameter-tag (parameter-body (m .n)) .enc) (head-bytes + parameter-size (m .n)) (λ w _. omega (arith, bytes-of-length (parameter-size (m .n)) w)) (m .parameters) (v .parameters-within) in
     let ra : length (m .constants) * (3 + 2 * m .n) ≡ m .a * (3 + 2 * m .n) = ap (λ (k : ℕ). k * (3 + 2 * m .n)) (v .constant-rows) in
     let sb : length (m .parameters) * (head-bytes + parameter-size (m .n)) ≡ m .b * (head-bytes + parameter-size (m .n)) = ap (λ (k : ℕ). k * (head-bytes + parameter-size (m .n))) (v .parameter-rows) in
     simp length-append (omega arith)
+
+-- document 01: 14 + a × (3 + 2n) + 11 × b up to 64 columns; document 02, E13: 14 + a × (3 + 2n) + 15 × b above
+pub narrow-length : (m : FileModel) → ValidModel m → m .n ≤ narrow-columns → length (encode m) ≡ 14 + m .a * (3 + 2 * m .n) + 11 * m .b
+narrow-length m v h = file-length m v ∙ rw (narrow-size (m .n) h) (omega arith)
+
+pub wide-length : (m : FileModel) → ValidModel m → narrow-columns < m .n → length (encode m) ≡ 14 + m .a * (3 + 2 * m .n) + 15 * m .b
+wide-length m v h = file-length m v ∙ rw (wide-size (m .n) h) (omega arith)

@@ -40,10 +40,10 @@ judged c = copied c .before .before
 
 -- the solver's answer has a place for each row, and its sets are sets
 rows-long : (c : tie.After-solve) → length (c .solve .result .rows) ≡ most-rows
-rows-long c = search (needs, c .solve .ok)
+rows-long c = search (needs, c .solve .ok .1 .1 .1 .1 .1 .1 .1)
 
 sets-fit : (c : tie.After-solve) → Fits (c .solve .result .placed) × Fits (c .solve .result .short)
-sets-fit c = search (needs, c .solve .ok)
+sets-fit c = let sets = c .solve .ok .1 .1 .1 .1 in (search (needs, sets .0), search (needs, sets .1 .1 .0))
 
 -- what holds where the solver takes the model
 

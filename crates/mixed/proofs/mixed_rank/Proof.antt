@@ -68,7 +68,7 @@ form-solved c =
     (shows-form (a .p) (a .a) (a .n) (a .constants .now) (row-numbers (a .parameters .now)) (h .0) (h .1) _ _ _ (constants .0) lent (constants .1) all (parameters .1))
 
 sets-fit : (c : tie.After-solve) → Fits (c .solve .result .short)
-sets-fit c = search (needs, c .solve .ok)
+sets-fit c = search (needs, c .solve .ok .1 .1 .1 .1 .1 .1 .0)
 
 judge-mixed-requires : tie.Need-judge-mixed-requires
 judge-mixed-requires c κs = search needs

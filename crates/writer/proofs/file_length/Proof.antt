@@ -5,8 +5,9 @@ use Prim.Native.Nat.{_+_, _*_, _≤_}
 use mathlib.Core.Path.{sym}
 use native.Mathlib.Nat.{mul-le-mul}
 use Rattle.columns.specs.ColumnSets.{row-numbers}
-use Rattle.limits.specs.Limits.{most-columns, most-rows}
+use Rattle.limits.specs.Limits.{most-columns, most-rows, set-bytes}
 use Rattle.format.specs.Refusals.{head-bytes}
+use Rattle.format.specs.File.RowSizes.{parameter-size-most}
 use Rattle.writer.proofs.Rows.{handed-over-length}
 use Rattle.writer.proofs.file_length.Statement.{statement}
 use Rattle.writer.proofs.file_length.Tie as tie
@@ -14,6 +15,13 @@ use Rattle.writer.proofs.file_length.Tie as tie
 -- the constant rows are not many
 rows : (c : tie.After-parameter-size) → let a = c .before .before .before .args in a .a * (head-bytes + 2 * a .n) ≤ most-rows * (head-bytes + 2 * most-columns)
 rows c = let a = c .before .before .before .args in mul-le-mul (c .before .before .before .pre .1) (let m : head-bytes + 2 * a .n ≤ head-bytes + 2 * most-columns = omega arith in m)
+
+-- nor are the bytes of the parameter rows
+size-small : (c : tie.After-parameter-size) → c .parameter-size .result ≤ set-bytes
+size-small c = rw (c .parameter-size .ensures) (parameter-size-most (c .before .before .before .args .n))
+
+row-bytes : (c : tie.After-parameter-size) → c .before .before .before .args .b * (head-bytes + c .parameter-size .result) ≤ most-rows * (head-bytes + set-bytes)
+row-bytes c = mul-le-mul (c .before .before .before .pre .2) (let m : head-bytes + c .parameter-size .result ≤ head-bytes + set-bytes = omega (arith, size-small c) in m)
 
 add-prime : tie.Need-add-prime
 add-prime c = search needs
@@ -31,7 +39,7 @@ parameter-size-requires : tie.Need-parameter-size-requires
 parameter-size-requires c κs = search needs
 
 add-parameter : tie.Need-add-parameter
-add-parameter c = search needs
+add-parameter c = omega (arith, size-small c)
 
 add-result : tie.Need-add-result
 add-result c = search needs
@@ -43,13 +51,13 @@ add-result-2 : tie.Need-add-result-2
 add-result-2 c = search needs
 
 mul-result-2 : tie.Need-mul-result-2
-mul-result-2 c = rw (c .parameter-size .ensures) (omega arith)
+mul-result-2 c = omega (arith, row-bytes c)
 
 add-result-3 : tie.Need-add-result-3
-add-result-3 c = rw (c .parameter-size .ensures) (omega (arith, rows c))
+add-result-3 c = omega (arith, rows c, row-bytes c)
 
 add-result-4 : tie.Need-add-result-4
-add-result-4 c = rw (c .parameter-size .ensures) (omega (arith, rows c))
+add-result-4 c = omega (arith, rows c, row-bytes c)
 
 returns : tie.Need-returns
 returns c = let a = c .before .before .before .args in

@@ -4,6 +4,8 @@ use native.Mathlib.Omega.{arith}
 use Prim.Native.Nat.{_≤_}
 use lib.ListN.{length}
 use Rattle.columns.specs.ColumnSets.{whole}
+use Rattle.limits.specs.Limits.{set-bytes}
+use Rattle.format.specs.File.RowSizes.{parameter-size-most}
 use Rattle.format.proofs.Puts.{put-same}
 use Rattle.writer.proofs.Rows.{parameter-bytes-length, parameter-row-put}
 use Rattle.writer.proofs.put_parameter_row.Statement.{statement}
@@ -34,11 +36,15 @@ room c =
     let l = parameter-bytes-length (s .args .n) (whole (s .args .set)) in
     omega (arith, h .many-is, l, s .pre, put-same h (omega (arith, l, s .pre)))
 
+-- the size is not large
+size-small : (c : tie.After-parameter-size) → c .parameter-size .result ≤ set-bytes
+size-small c = rw (c .parameter-size .ensures) (parameter-size-most (c .before .before .args .n))
+
 parameter-size-requires : tie.Need-parameter-size-requires
 parameter-size-requires c κs = search needs
 
 cast-put-head : tie.Need-cast-put-head
-cast-put-head c = search needs
+cast-put-head c = omega (arith, size-small (c .before))
 
 put-head-requires : tie.Need-put-head-requires
 put-head-requires c κs = let s = entry c in omega (arith, parameter-bytes-length (s .args .n) (whole (s .args .set)), s .pre)
@@ -56,7 +62,7 @@ put-set-front-requires : tie.Need-put-set-front-requires
 put-set-front-requires c κs = search needs
 
 add-result : tie.Need-add-result
-add-result c = search needs
+add-result c = omega (arith, size-small (sized (behind-head c)), head-put (behind-head c) .put-head .ensures .many-is)
 
 same-length : tie.Need-same-length
 same-length c = search needs

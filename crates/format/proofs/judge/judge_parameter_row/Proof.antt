@@ -5,14 +5,14 @@ use mathlib.Core.Path.{_≡_, sym, ap, _∙_}
 use lib.ListN.{drop}
 use lib.Seq.{take-all}
 use Rattle.columns.specs.Bytes.{number}
-use Rattle.columns.specs.Columns.{within}
+use Rattle.columns.specs.Columns.{room-bytes, within}
 use Rattle.columns.specs.ColumnSets.{whole}
-use Rattle.limits.specs.Limits.{set-bytes}
 use Rattle.format.specs.Refusals.{head-bytes}
 use Rattle.format.specs.File.Piece.{head-tests, Judgement}
 use borrow.Author.Tests.{not-true, not-false}
 use Rattle.format.specs.RefusalLaws.{first-fails, zero-unless}
 use Rattle.format.specs.File.Format.{parameter-tag, parameter-size, parameter-body, parameter-row}
+use Rattle.format.specs.File.RowSizes.{parameter-size-most}
 use Rattle.format.proofs.Judging.{handed-on, content-refused, content-passed, body-length}
 use Rattle.format.proofs.judge.judge_parameter_row.Statement.{statement}
 use Rattle.format.proofs.judge.judge_parameter_row.Tie as tie
@@ -38,7 +38,7 @@ set c =
     let a = entry (judged c) .args in
     let b = c .before .said-body in
     let l = body-length parameter-tag (parameter-body (a .n)) (a .rest .now) (head (judged c)) (not-refused c .if1 .left) (b .ensures .bytes-are) in
-    c .of-bytes .ensures .is-number ∙ ap number (take-all set-bytes (b .result .now) (omega arith))
+    c .of-bytes .ensures .is-number ∙ ap number (take-all room-bytes (b .result .now) (omega (arith, parameter-size-most (a .n))))
 
 parameter-size-requires : tie.Need-parameter-size-requires
 parameter-size-requires c κs = search needs

@@ -10,11 +10,14 @@ use lib.ListN.{length, getD, take, drop, length-drop, drop-of-length-le}
 use lib.Seq.{drop-cons, getD-take}
 use borrow.Author.Tests.{le-leb, lt-leb}
 use Rattle.columns.specs.Bytes.{bytes-of}
+use Rattle.columns.specs.Columns.{room-bytes}
 use Rattle.columns.specs.ColumnSets.{whole}
+use Rattle.columns.specs.Words.Bytes.{bytes-agree}
 use Rattle.limits.specs.Limits.{set-bytes}
 use Rattle.format.specs.Refusals.{area-test}
 use Rattle.format.specs.RefusalLaws.{first-fails, zero-unless}
 use Rattle.format.specs.OverLaws.{over-room-fits, over-no-room, Wrote, wrote-none, wrote-set, wrote-all}
+use Rattle.format.specs.File.BodyLaws.{bytes-of-length}
 use Rattle.format.proofs.Parts.{front-length}
 use Rattle.format.proofs.sets.put_set_front.Statement.{statement}
 use Rattle.format.proofs.sets.put_set_front.Tie as tie
@@ -82,7 +85,7 @@ loop-again c =
     let e = end-is (measured k) in
     let f = front-length many (set-all s) in
     let below : l .at < length (front s) = omega arith in
-    let byte : getD (front s) (l .at) 0 ≡ c .byte .result = getD-take many (set-all s) (l .at) 0 (omega arith) ∙ sym (c .byte .ensures) in
+    let byte : getD (front s) (l .at) 0 ≡ c .byte .result = getD-take many (set-all s) (l .at) 0 (omega arith) ∙ bytes-agree set-bytes room-bytes (l .at) (whole (s .args .set)) (omega (arith, bytes-of-length set-bytes (whole (s .args .set)))) (omega (arith, bytes-of-length set-bytes (whole (s .args .set)))) ∙ sym (c .byte .ensures) in
     let next : drop (l .at) (front s) ≡ c .byte .result ∷ drop (l .at + 1) (front s) = drop-cons (front s) (l .at) 0 below ∙ rw (byte, add-one) refl in
     (wrote-set (c .byte .result) _ (l .inv .0) next, omega arith)
 

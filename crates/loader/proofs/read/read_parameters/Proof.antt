@@ -9,7 +9,7 @@ use lib.ListN.{length, take}
 use Rattle.columns.specs.Bytes.{number}
 use Rattle.columns.specs.ColumnSets.{whole, row-numbers}
 use Rattle.columns.specs.Words.Rows.{rows-with-row, with-row-length}
-use Rattle.limits.specs.Limits.{set-bytes}
+use Rattle.columns.specs.Columns.{room-bytes}
 use Rattle.format.specs.File.Piece.{said-body}
 use Rattle.format.specs.File.Steps.{parameters-said}
 use Rattle.format.specs.OverLaws.{Wrote, wrote-none, wrote-set, wrote-all}
@@ -72,7 +72,7 @@ loop-again c =
     let b = entry k .args .b in
     let w = whole (of-bytes .result) in
     let q : b - l .at - 1 ≡ b - (l .at + 1) = omega arith in
-    let is-row : number (take set-bytes (said-body r)) ≡ w = ap (λ (t : List ℕ). number (take set-bytes t)) (sym (body .ensures .bytes-are)) ∙ sym (of-bytes .ensures .is-number) in
+    let is-row : number (take room-bytes (said-body r)) ≡ w = ap (λ (t : List ℕ). number (take room-bytes t)) (sym (body .ensures .bytes-are)) ∙ sym (of-bytes .ensures .is-number) in
     let written = ap row-numbers is-put ∙ rows-with-row (l .out) (l .at) w in
     (rw written (wrote-set w _ (l .inv .0) (parameters-next (b - l .at) r (omega arith) ∙ rw (q, is-row, ← c .said-rest .ensures .bytes-are) refl)), omega arith, ap length is-put ∙ with-row-length (l .out) (l .at) w ∙ l .inv .2)
 

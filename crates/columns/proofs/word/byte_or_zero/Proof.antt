@@ -1,10 +1,10 @@
--- `columns::byte_or_zero` meets its contract. Assumes nothing.
+-- `word::byte_or_zero` meets its contract. Assumes nothing.
 use mathlib.Core.Path.{sym}
 use denote.Ref.{now}
 use borrow.Author.Needs.{needs}
 use lib.ListN.{List·getD-eq-default}
-use Rattle.columns.proofs.byte_or_zero.Statement.{statement}
-use Rattle.columns.proofs.byte_or_zero.Tie as tie
+use Rattle.columns.proofs.word.byte_or_zero.Statement.{statement}
+use Rattle.columns.proofs.word.byte_or_zero.Tie as tie
 
 shared-slice-read-widened : tie.Need-shared-slice-read-widened
 shared-slice-read-widened c = search needs

@@ -1,11 +1,11 @@
--- `columns::all_bytes` meets its contract: eight bytes make the number of their two halves. Assumes nothing.
+-- `word::all_bytes` meets its contract: eight bytes make the number of their two halves. Assumes nothing.
 use Prim.Native.Nat.{ℕ, _+_, _*_}
 use mathlib.Core.Path.{sym, ap₂, _∙_}
 use denote.Ref.{now}
 use borrow.Author.Needs.{needs}
 use Rattle.columns.specs.Words.Bytes.{number-eight}
-use Rattle.columns.proofs.all_bytes.Statement.{statement}
-use Rattle.columns.proofs.all_bytes.Tie as tie
+use Rattle.columns.proofs.word.all_bytes.Statement.{statement}
+use Rattle.columns.proofs.word.all_bytes.Tie as tie
 
 -- where the call begins
 abbrev begun : tie.After-four-bytes2 → tie.Start

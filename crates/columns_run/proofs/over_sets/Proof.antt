@@ -1,14 +1,14 @@
--- `columns_run::over_words` ends: what is left of the range falls. Assumes nothing.
+-- `columns_run::over_sets` ends: what is left of the range falls. Assumes nothing.
 use Prim.Native.Nat.{_-_}
 use borrow.Author.Needs.{needs}
-use Rattle.columns_run.proofs.over_words.Statement.{statement}
-use Rattle.columns_run.proofs.over_words.Tie as tie
+use Rattle.columns_run.proofs.over_sets.Statement.{statement}
+use Rattle.columns_run.proofs.over_sets.Tie as tie
 
 abbrev Inv-loop : tie.InvT-loop
 Inv-loop set i₀ i = Unit {0}
 
 abbrev μ-loop : tie.MeasureT-loop
-μ-loop set i₀ i = 7 - i
+μ-loop set i₀ i = 8 - i
 
 loop-holds : tie.Need-loop-holds Inv-loop μ-loop
 loop-holds c = search needs
@@ -31,8 +31,8 @@ loop-again c = search needs
 returns : tie.Need-returns Inv-loop μ-loop
 returns c = search needs
 
-pub over-words-spec : {M : Type 1} → statement M
-over-words-spec =
+pub over-sets-spec : {M : Type 1} → statement M
+over-sets-spec =
     tie.close
     (tie.spec
     Inv-loop
