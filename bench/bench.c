@@ -25,9 +25,12 @@ static void put_parameters(Model *m, size_t many)
             m->parameters[r] |= just(draw(m->n));
 }
 
-static Model dense(uint32_t p, size_t b)
+/* As many columns as a word has bits, which is what most models have room in, and as many as there may be. */
+enum { WORD = 64, MOST = WUNDRESKA_COLUMNS_MAX };
+
+static Model dense(uint32_t p, size_t n, size_t b)
 {
-    Model m = {.p = p, .n = WUNDRESKA_COLUMNS_MAX, .a = WUNDRESKA_ROWS_MAX, .b = b};
+    Model m = {.p = p, .n = n, .a = n, .b = b};
     for (size_t i = 0; i < m.a * m.n; i++)
         m.constants[i] = draw(p);
     put_parameters(&m, PARAMETERS_A_ROW);
@@ -35,38 +38,41 @@ static Model dense(uint32_t p, size_t b)
 }
 
 /* Balances: each constant row has a few plus and minus ones. */
-static Model balances(size_t a, size_t b, size_t parameters)
+static Model balances(size_t n, size_t a, size_t b, size_t parameters)
 {
-    Model m = {.p = 1021, .n = WUNDRESKA_COLUMNS_MAX, .a = a, .b = b};
+    Model m = {.p = 1021, .n = n, .a = a, .b = b};
     for (size_t i = 0; i < m.a * CONSTANTS_A_ROW; i++)
         m.constants[i / CONSTANTS_A_ROW * m.n + draw(m.n)] = one_in(2) ? 1 : m.p - 1;
     put_parameters(&m, parameters);
     return m;
 }
 
-static Model plant_like(void) { return balances(WUNDRESKA_ROWS_MAX, WUNDRESKA_ROWS_MAX, PARAMETERS_A_ROW); }
+static Model plant_like(void) { return balances(WORD, WORD, WORD, PARAMETERS_A_ROW); }
+static Model plant_like_most(void) { return balances(MOST, MOST, MOST, PARAMETERS_A_ROW); }
 
 /* As many rows as columns; a parameter row has half of the columns, drawn. */
 static Model many_parameters(void)
 {
-    return balances(FEW_CONSTANT_ROWS, WUNDRESKA_COLUMNS_MAX - FEW_CONSTANT_ROWS, WUNDRESKA_COLUMNS_MAX / 2);
+    return balances(WORD, FEW_CONSTANT_ROWS, WORD - FEW_CONSTANT_ROWS, WORD / 2);
 }
 
 /* Parameter row r has the columns r - 1 and r. Each column but the last takes the later of its rows; the last has one row only, and
  * gets it when all others have moved. */
 static Model chain(void)
 {
-    Model m = {.p = 1021, .n = WUNDRESKA_COLUMNS_MAX, .a = 0, .b = WUNDRESKA_COLUMNS_MAX};
+    Model m = {.p = 1021, .n = WORD, .a = 0, .b = WORD};
     for (size_t r = 0; r < m.b; r++)
         m.parameters[r] = just(r) | (r ? just(r - 1) : 0);
     return m;
 }
 
-static Model dense_1021(void) { return dense(1021, WUNDRESKA_ROWS_MAX); }
-static Model dense_largest(void) { return dense(WUNDRESKA_PRIME_MAX, WUNDRESKA_ROWS_MAX); }
-static Model constants_2(void) { return dense(2, 0); }
-static Model constants_1021(void) { return dense(1021, 0); }
-static Model constants_largest(void) { return dense(WUNDRESKA_PRIME_MAX, 0); }
+static Model dense_1021(void) { return dense(1021, WORD, WORD); }
+static Model dense_largest(void) { return dense(WUNDRESKA_PRIME_MAX, WORD, WORD); }
+static Model dense_most(void) { return dense(1021, MOST, MOST); }
+static Model constants_2(void) { return dense(2, WORD, 0); }
+static Model constants_1021(void) { return dense(1021, WORD, 0); }
+static Model constants_largest(void) { return dense(WUNDRESKA_PRIME_MAX, WORD, 0); }
+static Model constants_most(void) { return dense(1021, MOST, 0); }
 static Model tiny(void) { return (Model){.p = 1021, .n = 2, .a = 1, .b = 1, .constants = {1, 0}, .parameters = {2}}; }
 
 /* ---- what is timed ---- */
@@ -206,5 +212,8 @@ int main(void)
     measure("dense", constants_1021);
     measure("dense", constants_largest);
     measure("tiny", tiny);
+    measure("dense", dense_most);
+    measure("plant-like", plant_like_most);
+    measure("dense", constants_most);
     return 0;
 }

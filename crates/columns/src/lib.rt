@@ -2,7 +2,7 @@
 // are. Column x below 64 is in a set if bit x of its low word is 1, and column 64 + x if bit x of its high word is. Every function is
 // total: a column that a set has no room for is in none, and putting it into one changes nothing.
 ghost use mathlib.Core.Path.{_≡_};
-ghost use Prim.Native.Nat.{min};
+ghost use Prim.Native.Nat.{_<_, _≤_, min};
 ghost use lib.Dec.{eqb};
 ghost use lib.ListN.{length, getD};
 ghost use Rattle.counting.specs.Sets.{_∪_, _∩_, ∁, #, any};
@@ -285,11 +285,19 @@ pub fn rows_below(words: &[u64], end: usize) -> usize
     if end < all { end } else { all }
 }
 
-// The last parameter row below `end` that has a parameter in the set, or `end` where none has.
-pub fn last_touching(words: &[u64], end: usize, set: ColumnSet) -> usize
-    ensures { λ r. ⌜ r ≡ last-member end end (rows-touching (row-numbers (now (words .entry))) (members (whole set))) ⌝ }
+// Whether a row has a parameter in a set that is one word: in its low word.
+fn low_touches(words: &[u64], r: usize, low: u64) -> bool
+    requires { ⌜ r < length (row-numbers (now words)) ⌝ }
+    ensures { λ t. ⌜ t ≡ rows-touching (row-numbers (now (words .entry))) (members low) r ⌝ }
 {
-    let mut r = rows_below(words, end);
+    words[ROW_WORDS * r] & low != word::EMPTY
+}
+
+// Of the rows below `all`, the last that has a parameter in the set, or `end` where none has.
+fn last_below(words: &[u64], all: usize, set: ColumnSet, end: usize) -> usize
+    ensures { λ r. ⌜ r ≡ last-member end all (rows-touching (row-numbers (now (words .entry))) (members (whole set))) ⌝ }
+{
+    let mut r = all;
     while r > 0 {
         r -= 1;
         if touches(row(words, r), set) {
@@ -297,6 +305,41 @@ pub fn last_touching(words: &[u64], end: usize, set: ColumnSet) -> usize
         }
     }
     end
+}
+
+// The same for a set that has no column from 64 on: four rows a turn.
+fn last_below_low(words: &[u64], all: usize, set: ColumnSet, end: usize) -> usize
+    requires { ⌜ (all ≤ length (row-numbers (now words))) × (set .high ≡ 0) ⌝ }
+    ensures { λ r. ⌜ r ≡ last-member end all (rows-touching (row-numbers (now (words .entry))) (members (whole set))) ⌝ }
+{
+    let mut r = all;
+    while r >= 4 {
+        if low_touches(words, r - 1, set.low) {
+            return r - 1;
+        }
+        if low_touches(words, r - 2, set.low) {
+            return r - 2;
+        }
+        if low_touches(words, r - 3, set.low) {
+            return r - 3;
+        }
+        if low_touches(words, r - 4, set.low) {
+            return r - 4;
+        }
+        r -= 4;
+    }
+    last_below(words, r, set, end)
+}
+
+// The last parameter row below `end` that has a parameter in the set, or `end` where none has.
+pub fn last_touching(words: &[u64], end: usize, set: ColumnSet) -> usize
+    ensures { λ r. ⌜ r ≡ last-member end end (rows-touching (row-numbers (now (words .entry))) (members (whole set))) ⌝ }
+{
+    let all = rows_below(words, end);
+    if set.high == word::EMPTY {
+        return last_below_low(words, all, set, end);
+    }
+    last_below(words, all, set, end)
 }
 
 // Parameter row r of an area gets the columns of the set; nothing changes where the area has no such row.

@@ -115,13 +115,13 @@ module _ (p n a b : ℕ) (ws : List ℕ) (G : Given p n b ws) where
   Seated t o t′ o′ x q h = (h′ : Held p n a b ws G t′ o′) × (((q′ : ℕ) × Moved (h .s) (h′ .s) x q q′) ⊎ ((Placed (h .s) x → ⊥) × Entered (h .s) (h′ .s) x q))
 
   module _ (t o t′ o′ : List ℕ) (x q : ℕ) (w : Arrays p n a b t o) (h : Held p n a b ws G t o)
-      (lx : x < n) (lq : q < a + b) (fq : n ≤ h .s .owner q) (tq : h .s .touch q x ≡ true) (d : Sat p n a x q t o t′ o′) where
+      (lx : x < n) (lq : q < a + b) (fq : n ≤ h .s .owner q) (tq : h .s .touch q x ≡ true) (d : Sat p n a (a + b) x q t o t′ o′) where
     -- who owns the rows between, when x has left its own
     abbrev MiddleOwners : (ℕ → ℕ) → Type 0
     MiddleOwners f = (r : ℕ) → r < a + b → owner-at (d .middle) r ≡ f r
 
     middle-owner : (r : ℕ) → r < a + b → owner-at (d .middle) r ≡ vacated-owner x n (h .s .owner r)
-    middle-owner r lr = d .vacated r (omega (arith, w .lengths .all-rows)) ∙ ap (vacated-owner x n) (h .owners r lr)
+    middle-owner r lr = d .vacated r lr ∙ ap (vacated-owner x n) (h .owners r lr)
 
     middle-moved : (q′ : ℕ) → q′ < a + b → h .s .owner q′ ≡ x → MiddleOwners (set (h .s .owner) q′ n)
     middle-moved q′ lq′ so r lr = elim (ℕ-discrete r q′) [
@@ -135,7 +135,7 @@ module _ (p n a b : ℕ) (ws : List ℕ) (G : Given p n b ws) where
     middle-new new r lr = middle-owner r lr ∙ vacated-other x n (h .s .owner r) (new r lr)
 
     after : (f : ℕ → ℕ) → MiddleOwners f → (r : ℕ) → r < a + b → owner-at o′ r ≡ set f q x r
-    after f e r lr = ap (λ l. owner-at l r) (d .owners) ∙ stored (d .middle) f q x (d .full) (w .lengths .all-rows) lq e r lr
+    after f e r lr = ap (λ l. owner-at l r) (d .taken .owners) ∙ stored (d .middle) f q x (d .full) (w .lengths .all-rows) lq e r lr
 
     moving : (q′ : ℕ) → q′ < a + b → h .s .owner q′ ≡ x → Seated t o t′ o′ x q h
     unfolding state freed
@@ -144,7 +144,7 @@ module _ (p n a b : ℕ) (ws : List ℕ) (G : Given p n b ws) where
           record {
             s = state M (seated M (h .good .P) q x) (set (set (h .s .owner) q′ n) q x) w0;
             good = record { P = seated M (h .good .P) q x; reads = λ r z. refl; kernel = w0 .kernel; tableau = w0 .tableau };
-            cells = seated-cells (w .prime) t t′ (h .good .P) q x (w .below) (h .cells) lx (d .pivoted) (d .kept);
+            cells = seated-cells (w .prime) t t′ (h .good .P) q x (w .below) (h .cells) lx (d .taken .pivoted) (d .taken .kept);
             owners = after (set (h .s .owner) q′ n) (middle-moved q′ lq′ so);
           },
           inl (q′, moved M (h .s) (h .good) x q q′ lx lq fq tq lq′ so),
@@ -158,7 +158,7 @@ module _ (p n a b : ℕ) (ws : List ℕ) (G : Given p n b ws) where
           record {
             s = state M (seated M (h .good .P) q x) (set (h .s .owner) q x) w0;
             good = record { P = seated M (h .good .P) q x; reads = λ r z. refl; kernel = w0 .kernel; tableau = w0 .tableau };
-            cells = seated-cells (w .prime) t t′ (h .good .P) q x (w .below) (h .cells) lx (d .pivoted) (d .kept);
+            cells = seated-cells (w .prime) t t′ (h .good .P) q x (w .below) (h .cells) lx (d .taken .pivoted) (d .taken .kept);
             owners = after (h .s .owner) (middle-new none);
           },
           inr (

@@ -1,6 +1,6 @@
 -- Placing one column: search, seat, search again; what each turn does to the state that is held. Assumes nothing.
 use Prim.Native.Nat.{ℕ, suc, _+_, _-_, _≤_, _<_}
-use mathlib.Core.Path.{_≡_, _∙_, fun-ext}
+use mathlib.Core.Path.{_≡_, sym, _∙_, fun-ext}
 use mathlib.Core.Logic.{inl, inr}
 use mathlib.Core.Bool.{false≢true}
 use mathlib.Core.List.{List}
@@ -19,8 +19,8 @@ use Rattle.exchange.specs.declared.search.Found.{Found}
 use Rattle.exchange.specs.Code.Scanning.{Arrays, touched, owner-at}
 use Rattle.exchange.specs.Code.Searching.{Shows, Ended, Searched}
 use Rattle.exchange.proofs.SearchingLaws.{in-last}
-use Rattle.exchange.specs.Code.Held.{Given, Held, Sat}
-use Rattle.exchange.proofs.HeldLaws.{held-shows, Seated, seat-held}
+use Rattle.exchange.specs.Code.Held.{Given, Held, Vacated, Taken, Sat}
+use Rattle.exchange.proofs.HeldLaws.{vacated-other, held-shows, Seated, seat-held}
 
 -- the set of column j alone, as the code makes it
 pub only-inserted : (j : ℕ) → j < width → inserted none j ≡ only j
@@ -43,7 +43,7 @@ nearer {n} {N} s S i column row depth reached t f = elim (decLt row N) [
 
 module _ (p n a b : ℕ) (ws : List ℕ) (G : Given p n b ws) (S : Set) (t o t′ o′ : List ℕ) (w : Arrays p n a b t o) (h : Held p n a b ws G t o) where
   -- a column found in a later layer moves
-  pub moves : (x q i : ℕ) → Ended (h .s) S x q (suc i) → Sat p n a x q t o t′ o′ → (h′ : Held p n a b ws G t′ o′) × SamePlaced (h .s) (h′ .s) × Hit (h′ .s) S i
+  pub moves : (x q i : ℕ) → Ended (h .s) S x q (suc i) → Sat p n a (a + b) x q t o t′ o′ → (h′ : Held p n a b ws G t′ o′) × SamePlaced (h .s) (h′ .s) × Hit (h′ .s) S i
   moves x q i e d =
       let term : Terminal (h .s) x = (q, e .is-row, (e .is-free, e .touches)) in
       let v : Seated p n a b ws G t o t′ o′ x q h = seat-held p n a b ws G t o t′ o′ x q w h (e .below) (e .is-row) (e .is-free) (e .touches) d in
@@ -55,13 +55,15 @@ module _ (p n a b : ℕ) (ws : List ℕ) (G : Given p n b ws) (S : Set) (t o t�
         ])
       ]
 
-  pub moves-nearer : (x q depth : ℕ) → 0 < depth → Ended (h .s) S x q depth → Sat p n a x q t o t′ o′ → (h′ : Held p n a b ws G t′ o′) × SamePlaced (h .s) (h′ .s) × Hit (h′ .s) S (depth - 1)
+  pub moves-nearer : (x q depth : ℕ) → 0 < depth → Ended (h .s) S x q depth → Sat p n a (a + b) x q t o t′ o′ → (h′ : Held p n a b ws G t′ o′) × SamePlaced (h .s) (h′ .s) × Hit (h′ .s) S (depth - 1)
   moves-nearer x q depth l e d = let z : depth ≡ suc (depth - 1) = omega arith in moves x q (depth - 1) (rw z at e) d
 
   -- a column found in the first layer is placed besides
-  pub enters : (s₀ : State n (a + b)) (x q : ℕ) → SamePlaced s₀ (h .s) → (Placed s₀ x → ⊥) → Ended (h .s) S x q 0 → Sat p n a x q t o t′ o′ → (h′ : Held p n a b ws G t′ o′) × OneMore s₀ (h′ .s) x
+  pub enters : (s₀ : State n (a + b)) (x q : ℕ) → SamePlaced s₀ (h .s) → (Placed s₀ x → ⊥) → Ended (h .s) S x q 0 → Taken p n a x q t o t′ o′ → (h′ : Held p n a b ws G t′ o′) × OneMore s₀ (h′ .s) x
   enters s₀ x q same new e d =
-      let v : Seated p n a b ws G t o t′ o′ x q h = seat-held p n a b ws G t o t′ o′ x q w h (e .below) (e .is-row) (e .is-free) (e .touches) d in
+      let unseated : Vacated n (a + b) x o o = λ r lr. sym (vacated-other x n (owner-at o r) (λ z. new (same x (e .below) .1 (r, lr, sym (h .owners r lr) ∙ z)))) in
+      let sat : Sat p n a (a + b) x q t o t′ o′ = record { middle = o; full = w .lengths .owners; vacated = unseated; taken = d } in
+      let v : Seated p n a b ws G t o t′ o′ x q h = seat-held p n a b ws G t o t′ o′ x q w h (e .below) (e .is-row) (e .is-free) (e .touches) sat in
       elim (v .1) [
         | inl m ↦ absurd (new (same x (e .below) .1 (m .0, m .1 .old-row, m .1 .old-owned)))
         | inr u ↦ (v .0, entered-more s₀ (h .s) (v .0 .s) x q same (u .1))
@@ -113,7 +115,7 @@ module _ {p n a b : ℕ} {ws : List ℕ} {j : ℕ} {t₀ o₀ t o : List ℕ} {f
   found-below G h e = found-at G h e .below
 
   -- one turn: the column found is seated, and the next search from j ends nearer
-  module _ {t′ o′ : List ℕ} {f′ : Found} (w′ : Arrays p n a b t′ o′) (pos : 0 < f .depth) (d : Sat p n a (f .column) (f .row) t o t′ o′) (R : Seeks n a b ws j t′ o′ f′) where
+  module _ {t′ o′ : List ℕ} {f′ : Found} (w′ : Arrays p n a b t′ o′) (pos : 0 < f .depth) (d : Sat p n a (a + b) (f .column) (f .row) t o t′ o′) (R : Seeks n a b ws j t′ o′ f′) where
     turned : (G : Given p n b ws) (h : Held p n a b ws G t₀ o₀) (e : j ∈ G .E) → (h′ : Held p n a b ws G t′ o′) × SamePlaced (H .now-held G h e .0 .s) (h′ .s) × Hit (h′ .s) (only j) (f .depth - 1)
     turned G h e = moves-nearer p n a b ws G (only j) t o t′ o′ w (H .now-held G h e .0) (f .column) (f .row) (f .depth) pos (found-at G h e) d
 
@@ -127,6 +129,6 @@ module _ {p n a b : ℕ} {ws : List ℕ} {j : ℕ} {t₀ o₀ t o : List ℕ} {f
         (m .0, omega arith)
 
   -- at the end j itself takes the row
-  pub last-turn : (t′ o′ : List ℕ) → f .depth ≤ 0 → Sat p n a j (f .row) t o t′ o′ → (G : Given p n b ws) (h : Held p n a b ws G t₀ o₀) → j ∈ G .E → (Placed (h .s) j → ⊥)
+  pub last-turn : (t′ o′ : List ℕ) → f .depth ≤ 0 → Taken p n a j (f .row) t o t′ o′ → (G : Given p n b ws) (h : Held p n a b ws G t₀ o₀) → j ∈ G .E → (Placed (h .s) j → ⊥)
       → (h′ : Held p n a b ws G t′ o′) × OneMore (h .s) (h′ .s) j
   last-turn t′ o′ l d G h e new = enters p n a b ws G (only j) t o t′ o′ w (H .now-held G h e .0) (h .s) j (f .row) (H .now-held G h e .1) new (first-is (H .now-held G h e .0 .s) j (f .column) (f .row) (f .depth) l (found-at G h e)) d

@@ -10,7 +10,7 @@ ghost use Rattle.rank.specs.Graph.States.{Placed};
 ghost use Rattle.exchange.specs.Sizes.{lines};
 ghost use Rattle.exchange.specs.Code.Cells.{Below};
 ghost use Rattle.exchange.specs.Code.Scanning.{Lengths, Arrays};
-ghost use Rattle.exchange.specs.Code.Held.{Given, Held, vacated-owner, Vacated, Sat};
+ghost use Rattle.exchange.specs.Code.Held.{Given, Held, vacated-owner, Vacated, Taken, Sat};
 ghost use Rattle.exchange.specs.Code.Placing.{Placing};
 use crate::search;
 use crate::sizes::CELLS;
@@ -25,16 +25,37 @@ fn vacated(y: u8, x: u8, n: u8) -> u8
 }
 
 // The row that the column x owns, if any, becomes free. All rows are written, so that the loop runs on vectors.
-fn vacate(owner: &mut [u8; LINES], n: usize, x: usize)
-    requires { ⌜ (length (now owner) ≡ lines) × (n ≤ most-columns) × (x < n) ⌝ }
-    ensures { λ _. ⌜ (length (now (owner .exit)) ≡ lines) × Vacated n x (now (owner .entry)) (now (owner .exit)) ⌝ }
+fn vacate(owner: &mut [u8; LINES], n: usize, rows: usize, x: usize)
+    requires { ⌜ (length (now owner) ≡ lines) × (n ≤ most-columns) × (rows ≤ lines) × (x < n) ⌝ }
+    ensures { λ _. ⌜ (length (now (owner .exit)) ≡ lines) × Vacated n rows x (now (owner .entry)) (now (owner .exit)) ⌝ }
 {
-    for q in 0..LINES {
+    for q in 0..rows {
         owner[q] = vacated(owner[q], x as u8, n as u8);
     }
 }
 
-// The column x takes the free row q, and the row that it has becomes free. At a constant row the tableau is pivoted.
+// The column x, which has no row, takes the free row q. At a constant row the tableau is pivoted.
+fn take_row(
+    t: &mut [u16; CELLS],
+    owner: &mut [u8; LINES],
+    inverses: &[u16],
+    p: u16,
+    n: usize,
+    a: usize,
+    rows: usize,
+    x: usize,
+    q: usize,
+)
+    requires { ⌜ Lengths n a rows (now t) (now owner) × Below p (now t) × InverseTable p (now inverses) × (x < n) × (q < rows) ⌝ }
+    ensures { λ _. ⌜ Lengths n a rows (now (t .exit)) (now (owner .exit)) × Below p (now (t .exit)) × Taken p n a x q (now (t .entry)) (now (owner .entry)) (now (t .exit)) (now (owner .exit)) ⌝ }
+{
+    owner[q] = x as u8;
+    if q < a {
+        tableau::pivot(t, inverses, p, n, a, q, x);
+    }
+}
+
+// The column x takes the free row q, and the row that it has becomes free.
 fn seat(
     t: &mut [u16; CELLS],
     owner: &mut [u8; LINES],
@@ -47,13 +68,10 @@ fn seat(
     q: usize,
 )
     requires { ⌜ Lengths n a rows (now t) (now owner) × Below p (now t) × InverseTable p (now inverses) × (x < n) × (q < rows) ⌝ }
-    ensures { λ _. ⌜ Lengths n a rows (now (t .exit)) (now (owner .exit)) × Below p (now (t .exit)) × Sat p n a x q (now (t .entry)) (now (owner .entry)) (now (t .exit)) (now (owner .exit)) ⌝ }
+    ensures { λ _. ⌜ Lengths n a rows (now (t .exit)) (now (owner .exit)) × Below p (now (t .exit)) × Sat p n a rows x q (now (t .entry)) (now (owner .entry)) (now (t .exit)) (now (owner .exit)) ⌝ }
 {
-    vacate(owner, n, x);
-    owner[q] = x as u8;
-    if q < a {
-        tableau::pivot(t, inverses, p, n, a, q, x);
-    }
+    vacate(owner, n, rows, x);
+    take_row(t, owner, inverses, p, n, a, rows, x, q);
 }
 
 // Whether the column j could be placed besides those that are.
@@ -81,6 +99,6 @@ pub fn place(
         seat(t, owner, inverses, p, n, a, rows, f.column, f.row);
         f = search::search(t, owner, parameters, n, a, rows, start);
     }
-    seat(t, owner, inverses, p, n, a, rows, j, f.row);
+    take_row(t, owner, inverses, p, n, a, rows, j, f.row);
     true
 }

@@ -2,13 +2,15 @@
 ghost use mathlib.Core.Path.{_≡_};
 ghost use Rattle.exchange.specs.Sizes.{stride, cells, lines, block};
 use columns::WIDTH;
+use limits::MOST_COLUMNS;
 use limits::MOST_ROWS;
 
-// From a row of the tableau to the next: a cell for each column that a set has room for.
-pub const STRIDE: usize = WIDTH;
+// From a row of the tableau to the next: a cell for each column that a model has at most.
+pub const STRIDE: usize = MOST_COLUMNS;
 
-// The cells of a tableau.
-pub const CELLS: usize = MOST_ROWS * STRIDE;
+// The cells of a tableau: its rows, and behind the last as many more as a set has room for columns that no model has. So every column
+// of a set has a cell in every row, with no test.
+pub const CELLS: usize = MOST_ROWS * STRIDE + (WIDTH - STRIDE);
 
 // The rows of both kinds.
 pub const LINES: usize = 2 * MOST_ROWS;

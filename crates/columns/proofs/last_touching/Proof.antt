@@ -1,87 +1,46 @@
--- `columns::last_touching` meets its contract. The invariant: of the rows below `end`, none from r on touches the set. The measure is r. Assumes nothing.
-use Prim.Native.Nat.{ℕ, _-_, _<_, _≤_}
-use mathlib.Core.Path.{_≡_, sym, ap, _∙_}
-use mathlib.Core.Bool.{false}
+-- `columns::last_touching` meets its contract: rows that the area does not have touch nothing. Assumes nothing.
+use Prim.Native.Nat.{ℕ, _≤_}
+use mathlib.Core.Path.{_≡_, sym, _∙_}
 use native.Mathlib.Omega.{arith}
-use native.Mathlib.Decide.{ℕ-discrete}
+use denote.Ref.{now}
 use borrow.Author.Needs.{needs}
-use Rattle.counting.specs.Sets.{Set, _∩_, any, touching}
-use Rattle.columns.specs.Columns.{width, members}
+use Rattle.counting.specs.Sets.{Set}
+use Rattle.columns.specs.Columns.{members, last-member}
 use Rattle.columns.specs.ColumnSets.{whole, row-numbers, rows-touching}
 use Rattle.columns.specs.Words.Rows.{no-row-touches}
-use Rattle.columns.specs.Words.SetLaws.{last-member-is, last-member-none}
+use Rattle.columns.specs.Words.SetLaws.{last-member-cut}
 use Rattle.columns.proofs.last_touching.Statement.{statement}
 use Rattle.columns.proofs.last_touching.Tie as tie
 
-abbrev Inv-loop : tie.InvT-loop
-Inv-loop words end set r₀ r = (r ≤ end) × ((x : ℕ) → r ≤ x → x < end → rows-touching (row-numbers words) (members (whole set)) x ≡ false)
+abbrev begun : tie.After-rows-below → tie.Start
+begun c = c .before .before
 
-abbrev μ-loop : tie.MeasureT-loop
-μ-loop words end set r₀ r = r
+abbrev touchers : tie.Start → Set
+touchers s = rows-touching (row-numbers (now (s .args .words))) (members (whole (s .args .set)))
 
--- where a row's turn begins, and where the call does
-abbrev turn : tie.After-touches Inv-loop μ-loop → tie.At-loop Inv-loop μ-loop
-turn c = c .before .before .before
+-- the rows that are there are all that count
+there : (c : tie.After-rows-below) → let s = begun c in last-member (s .args .end) (s .args .end) (touchers s) ≡ last-member (s .args .end) (c .rows-below .result) (touchers s)
+there c =
+    let s = begun c in
+    last-member-cut (s .args .end) (c .rows-below .result) (s .args .end) (touchers s) (omega (arith, c .rows-below .ensures))
+    (λ x l h. no-row-touches (row-numbers (now (s .args .words))) (members (whole (s .args .set))) x (omega (arith, c .rows-below .ensures)))
 
-abbrev begun : tie.At-loop Inv-loop μ-loop → tie.Start Inv-loop μ-loop
-begun l = l .before .before .before
-
--- the rows that touch the set, and what the step says of one
-abbrev touchers : tie.At-loop Inv-loop μ-loop → Set
-touchers l = let a = begun l .args in rows-touching (row-numbers (a .words .now)) (members (whole (a .set)))
-
-says : (c : tie.After-touches Inv-loop μ-loop) → c .touches .result ≡ touchers (turn c) (turn c .loop .r - 1)
-unfolding touching
-says c = c .touches .ensures ∙ ap (λ (w : ℕ). any width (members (whole (begun (turn c) .args .set)) ∩ members w)) (c .before .row .ensures)
-
-rows-below-requires : tie.Need-rows-below-requires Inv-loop μ-loop
+rows-below-requires : tie.Need-rows-below-requires
 rows-below-requires c κs = search needs
 
-loop-holds : tie.Need-loop-holds Inv-loop μ-loop
-loop-holds c =
-    let a = c .before .before .args in
-    (omega (arith, c .rows-below .ensures), λ x l m. no-row-touches (row-numbers (a .words .now)) (members (whole (a .set))) x (omega (arith, c .rows-below .ensures)))
+last-below-low-requires : tie.Need-last-below-low-requires
+last-below-low-requires c κs = (omega (arith, c .before .before .rows-below .ensures), c .if1 .taken)
 
-sub-r : tie.Need-sub-r Inv-loop μ-loop
-sub-r c = search needs
+returns : tie.Need-returns
+returns c = c .last-below-low .ensures ∙ sym (there (c .before .before .before))
 
-row-requires : tie.Need-row-requires Inv-loop μ-loop
-row-requires c κs = search needs
+last-below-requires : tie.Need-last-below-requires
+last-below-requires c κs = search needs
 
-touches-requires : tie.Need-touches-requires Inv-loop μ-loop
-touches-requires c κs = search needs
-
-returns : tie.Need-returns Inv-loop μ-loop
-returns c =
-    let l = turn (c .before) in
-    let end = begun l .args .end in
-    sym (last-member-is end end (l .loop .r - 1) (touchers l) (omega arith) (sym (says (c .before)) ∙ c .if1 .taken) (λ x lx hx. l .loop .inv .1 x (omega arith) hx))
-
-loop-less : tie.Need-loop-less Inv-loop μ-loop
-loop-less c = search needs
-
-loop-again : tie.Need-loop-again Inv-loop μ-loop
-loop-again c =
-    let l = turn (c .before) in
-    (search needs, λ x lx hx. elim (ℕ-discrete x (l .loop .r - 1)) [ yes z ↦ rw z (sym (says (c .before)) ∙ c .if1 .left) | no nz ↦ l .loop .inv .1 x (omega arith) hx ])
-
-returns-2 : tie.Need-returns-2 Inv-loop μ-loop
-returns-2 c =
-    let l = c .before in
-    sym (last-member-none (begun l .args .end) (begun l .args .end) (touchers l) (λ x lx. l .loop .inv .1 x (omega arith) lx))
+returns-2 : tie.Need-returns-2
+returns-2 c = c .last-below .ensures ∙ sym (there (c .before .before .before))
 
 pub last-touching-spec : {M : Type 1} → statement M
 last-touching-spec =
     tie.close
-    (tie.spec
-    Inv-loop
-    μ-loop
-    rows-below-requires
-    loop-holds
-    sub-r
-    row-requires
-    touches-requires
-    returns
-    loop-less
-    loop-again
-    returns-2)
+    (tie.spec rows-below-requires last-below-low-requires returns last-below-requires returns-2)

@@ -3,19 +3,20 @@ use Prim.Native.Nat.{ℕ, zero, suc, _+_, _-_, _*_, _/_, _%_, _^_, _≤_, _<_}
 use mathlib.Core.Path.{_≡_, refl, sym, ap, ap₂, _∙_, fun-ext}
 use mathlib.Core.Bool.{Bool, true, false, not, _&&_, _||_, cond, true≢false}
 use mathlib.Core.Logic.{_≢_}
-use native.Mathlib.Nat.{mul-le-mul-left, mul-suc}
+use native.Mathlib.Nat.{mul-le-mul-left, mul-suc, lt-of-lt-of-le}
 use native.Mathlib.Decide.{decLt}
 use native.Mathlib.Omega.{arith}
 use lib.Dec.{eqb, leb, ltb}
-use lib.Pow.{pow-pos}
+use lib.Pow.{pow-mono}
+use lib.Bits.{bitAnd, and-lt}
 use borrow.Author.Tests.{le-leb, lt-leb, eq-eqb, ne-eqb, eqb-true, lt-ltb, le-ltb, ltb-true}
-use Rattle.counting.specs.Bools.{not-true, iff-eq, in-not}
-use Rattle.counting.specs.Sets.{Set, _∈_, #, any, Some}
-use Rattle.counting.specs.Counts.{#-ext, any-iff, #-pick}
+use Rattle.counting.specs.Bools.{not-true, iff-eq}
+use Rattle.counting.specs.Sets.{Set, _∈_, _∩_, #, any, Some}
+use Rattle.counting.specs.Counts.{#-ext, #-pick, size-any}
 use Rattle.counting.specs.Blocks.{#-plus, low-or-high}
 use Rattle.columns.specs.Columns.{word-width, width, members, none, upto-in, upto, inserted-in, inserted, removed, moved-up-in, moved-up, moved-down, least, within-in, within}
 use Rattle.columns.specs.ColumnSets.{joined}
-use Rattle.columns.specs.Words.Operations.{members-mod, members-down, members-beyond, members-ext, members-zero, within-in-iff, within-iff}
+use Rattle.columns.specs.Words.Operations.{members-mod, members-and, members-down, members-beyond, none-test, within-in-iff, within-iff}
 use Rattle.columns.specs.Words.SetLaws.{nothing-in, least-there}
 
 -- ---- the columns of each half
@@ -50,15 +51,6 @@ pub by-halves : (l h : ℕ) (T : Set) → l < 2 ^ word-width → ((x : ℕ) → 
 by-halves l h T b low high =
     halves-ext (members (joined l h)) T (λ x lx. members-low l h x b lx ∙ low x lx) (λ x. members-high l h x b ∙ high x)
 
--- EQUAL MEMBERS, EQUAL WORDS
-pub joined-ext : (l h l' h' : ℕ) → l < 2 ^ word-width → h < 2 ^ word-width → l' < 2 ^ word-width → h' < 2 ^ word-width
-    → ((x : ℕ) → x < width → members (joined l h) x ≡ members (joined l' h') x) → (l ≡ l') × (h ≡ h')
-joined-ext l h l' h' a b a' b' e =
-    let same : joined l h ≡ joined l' h' = members-ext width (joined l h) (joined l' h') (joined-below l h a b) (joined-below l' h' a' b') e in (
-      sym (joined-low l h a) ∙ ap (λ (w : ℕ). w % 2 ^ word-width) same ∙ joined-low l' h' a',
-      sym (joined-high l h a) ∙ ap (λ (w : ℕ). w / 2 ^ word-width) same ∙ joined-high l' h' a',
-    )
-
 -- ---- a test of two sets' columns, one by one
 
 pub column-wise : (f : Bool → Bool → Bool) (l h l₁ h₁ l₂ h₂ : ℕ) → l < 2 ^ word-width → l₁ < 2 ^ word-width → l₂ < 2 ^ word-width
@@ -77,6 +69,31 @@ size-halves l h b =
     ∙ ap₂ (λ (m n : ℕ). m + n)
     (#-ext word-width _ (members l) (λ x lx. members-low l h x b lx))
     (#-ext word-width (λ x. members (joined l h) (word-width + x)) (members h) (λ x lx. members-high l h x b)))
+
+-- ---- a column in common
+
+-- a number of one word has a column in common with a set where it has one with the set's low word
+pub common-low : (l h w : ℕ) → l < 2 ^ word-width → w < 2 ^ word-width → not (eqb (bitAnd l w) 0) ≡ any width (members w ∩ members (joined l h))
+common-low l h w bl bw =
+    ap not (none-test width (bitAnd l w) (lt-of-lt-of-le (and-lt word-width l w bl bw) (pow-mono {i = word-width} {j = width} (omega arith)))
+    ∙ ap (λ (S : Set). eqb (# width S) 0) (members-and l w ∙ fun-ext both))
+    ∙ size-any width (members w ∩ members (joined l h))
+  where
+    turned : (p q r : Bool) → q ≡ r → (q && p) ≡ (p && r)
+    turned true true r e = e
+    turned true false r e = e
+    turned false true r e = refl
+    turned false false r e = refl
+
+    neither : (p q r : Bool) → p ≡ false → (q && p) ≡ (p && r)
+    neither p true r e = e ∙ sym (ap (λ b. b && r) e)
+    neither p false r e = sym (ap (λ b. b && r) e)
+
+    both : (x : ℕ) → (members l x && members w x) ≡ (members w x && members (joined l h) x)
+    both x = elim (decLt x word-width) [
+      | yes lx ↦ turned (members w x) (members l x) (members (joined l h) x) (sym (members-low l h x bl lx))
+      | no nx ↦ neither (members w x) (members l x) (members (joined l h) x) (members-beyond word-width w x bw (omega arith))
+    ]
 
 -- ---- the least column
 

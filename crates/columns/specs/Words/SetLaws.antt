@@ -75,6 +75,15 @@ unfolding last-member
 last-member-none d zero S h = refl
 last-member-none d (suc n) S h = ap (λ b. cond b n (last-member d n S)) (h n (omega arith)) ∙ last-member-none d n S (λ x l. h x (omega arith))
 
+-- numbers that are not in the set may be left out at the end
+pub last-member-cut : (d k n : ℕ) (S : Set) → k ≤ n → ((x : ℕ) → k ≤ x → x < n → S x ≡ false) → last-member d n S ≡ last-member d k S
+unfolding last-member
+last-member-cut d k zero S l h = let e : k ≡ 0 = omega arith in rw e refl
+last-member-cut d k (suc n) S l h = elim (ℕ-discrete k (suc n)) [
+  | yes e ↦ rw e refl
+  | no ne ↦ ap (λ b. cond b n (last-member d n S)) (h n (omega arith) (omega arith)) ∙ last-member-cut d k n S (omega arith) (λ x lx hx. h x lx (omega arith))
+]
+
 -- it is in the set, and no later one is; or there is none
 pub record LastMember (n k : ℕ) (S : Set) : Type 0 where
   pub inside : k < n → k ∈ S

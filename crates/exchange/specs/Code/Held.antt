@@ -21,18 +21,22 @@ use Rattle.exchange.specs.Code.Scanning.{owner-at}
 unfoldable pub vacated-owner : (x n y : ℕ) → ℕ
 vacated-owner x n y = cond (eqb y x) n y
 
--- x has left its row, if it had one
-abbrev pub Vacated : (n x : ℕ) → List ℕ → List ℕ → Type 0
-Vacated n x o o′ = (r : ℕ) → r < lines → owner-at o′ r ≡ vacated-owner x n (owner-at o r)
+-- x has left its row, if it had one of N rows
+abbrev pub Vacated : (n N x : ℕ) → List ℕ → List ℕ → Type 0
+Vacated n N x o o′ = (r : ℕ) → r < N → owner-at o′ r ≡ vacated-owner x n (owner-at o r)
 
--- column x is seated at row q
-pub record Sat (p n a x q : ℕ) (t o t′ o′ : List ℕ) : Type 0 where
-  pub middle : List ℕ
-  pub full : length middle ≡ lines
-  pub vacated : Vacated n x o middle
-  pub owners : o′ ≡ ListN.set middle q x
+-- column x has taken row q
+pub record Taken (p n a x q : ℕ) (t o t′ o′ : List ℕ) : Type 0 where
+  pub owners : o′ ≡ ListN.set o q x
   pub pivoted : q < a → Pivoted p n a q x t t′
   pub kept : a ≤ q → t′ ≡ t
+
+-- column x is seated at row q: it has left its row, if it had one of N rows, and has taken q
+pub record Sat (p n a N x q : ℕ) (t o t′ o′ : List ℕ) : Type 0 where
+  pub middle : List ℕ
+  pub full : length middle ≡ lines
+  pub vacated : Vacated n N x o middle
+  pub taken : Taken p n a x q t middle t′ o′
 
 -- a model modulo p whose parameter rows have the numbers ws: its constants, its parameters, and the columns that are offered
 pub record Given (p n b : ℕ) (ws : List ℕ) : Type 0 where

@@ -128,14 +128,14 @@ loop-again c =
     let v = turn c .loop .inv in
     (turned-arrays c, finds (turned-nearer c .0) (turned-seeks c), turn-holds (v .0) (v .1) (v .2) (turned-arrays c) (goes-on c .if2 .taken) (sat c .seat .ensures .2) (turned-seeks c))
 
-seat-requires-2 : tie.Need-seat-requires-2 Inv-loop μ-loop
-seat-requires-2 c κs = let k = ended (c .before .before) in let v = k .loop .inv in (v .0 .lengths, v .0 .below, entry k .pre .1, entry k .pre .2, v .1 .at-row)
+take-row-requires : tie.Need-take-row-requires Inv-loop μ-loop
+take-row-requires c κs = let k = ended (c .before .before) in let v = k .loop .inv in (v .0 .lengths, v .0 .below, entry k .pre .1, entry k .pre .2, v .1 .at-row)
 
 returns-2 : tie.Need-returns-2 Inv-loop μ-loop
 returns-2 c =
     let v = ended (c .before .before .before) .loop .inv in (
-      seated (v .0) (c .seat2 .ensures .0) (c .seat2 .ensures .1),
-      λ G h e new. let w = last-turn (v .0) (v .1) (v .2) _ _ (omega arith) (c .seat2 .ensures .2) G h e new in (w .0, (λ d. w .1), λ d. absurd (true≢false d)),
+      seated (v .0) (c .take-row .ensures .0) (c .take-row .ensures .1),
+      λ G h e new. let w = last-turn (v .0) (v .1) (v .2) _ _ (omega arith) (c .take-row .ensures .2) G h e new in (w .0, (λ d. w .1), λ d. absurd (true≢false d)),
     )
 
 pub place-spec : {M : Type 1} → statement M
@@ -154,5 +154,5 @@ place-spec =
     search-requires-2
     loop-less
     loop-again
-    seat-requires-2
+    take-row-requires
     returns-2)

@@ -32,10 +32,10 @@ more {x} {n} {q} {o₀} {o} v lq e full h = record {
 }
 
 abbrev Inv-loop : tie.InvT-loop
-Inv-loop owner₀ n x q₀ owner q = (q ≤ lines) × VacatedBelow x n q owner₀ owner
+Inv-loop owner₀ n rows x q₀ owner q = (q ≤ rows) × VacatedBelow x n q owner₀ owner
 
 abbrev μ-loop : tie.MeasureT-loop
-μ-loop owner₀ n x q₀ owner q = lines - q
+μ-loop owner₀ n rows x q₀ owner q = rows - q
 
 loop-holds : tie.Need-loop-holds Inv-loop μ-loop
 loop-holds c = (search needs, record { full = search needs; done = λ r l. absurd (omega arith); rest = λ r l. refl })
