@@ -25,7 +25,7 @@ static void put_parameters(Model *m, size_t many)
             m->parameters[r] |= just(draw(m->n));
 }
 
-/* As many columns as a word has bits, which is what most models have room in, and as many as there may be. */
+/* As many columns as a word has bits, and as many as there may be. */
 enum { WORD = 64, MOST = WUNDRESKA_COLUMNS_MAX };
 
 static Model dense(uint32_t p, size_t n, size_t b)

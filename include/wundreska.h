@@ -17,7 +17,8 @@
  *   4, b times  8 or 12 one parameter row, a set of columns: length 8 where n is at most 64, and 12 above
  *   5           0       end; nothing follows
  *
- * Its length is 14 + a * (3 + 2n) + b * (3 + WUNDRESKA_ROW_SIZE(n)) bytes. tools/model makes a file from readable text and prints one back.
+ * Its length is 14 + a * (3 + 2n) + b * (3 + WUNDRESKA_ROW_SIZE(n)) bytes. tools/model makes a file from readable text and prints
+ * one back.
  *
  * A set of columns or rows is WUNDRESKA_SET_SIZE bytes in an answer, and WUNDRESKA_ROW_SIZE(n) bytes in the file: column c is
  * bit c % 8 (lowest is 0) of byte c / 8.

@@ -23,6 +23,7 @@ static int compare_all(const char *models)
     compare_spoilt_models();
     compare_ranks();
     compare_rows();
+    compare_wide();
     return end_tally() > 0;
 }
 

@@ -34,6 +34,9 @@ extern const Question layered_question, mixed_question;
 /* About the call on any bytes, with an answer area of any length; the model is that of the file. */
 const char *file_complaint(const Question *question, const uint8_t *file, size_t length, size_t answer_length, Model *model);
 
+/* Where n, a and b stand in a file. */
+enum { SIZES_AT = 8 };
+
 /* Counts a case: with this answer area; with one that is mostly just right, and else short or longer. */
 void try_area(const Question *question, const uint8_t *file, size_t length, size_t answer_length);
 void try_file(const Question *question, const uint8_t *file, size_t length);
@@ -57,5 +60,6 @@ void compare_edges(void); /* compare_refusals.c */
 void compare_mixed_sizes(void);
 void compare_spoilt_models(void);
 void compare_rows(void); /* compare_rows.c */
+void compare_wide(void); /* compare_wide.c */
 
 #endif

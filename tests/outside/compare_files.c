@@ -127,9 +127,6 @@ void compare_primes(void)
     }
 }
 
-/* Where n, a and b stand in a file. */
-enum { SIZES_AT = 8 };
-
 void compare_sizes(void)
 {
     static uint8_t file[WUNDRESKA_FILE_MAX];

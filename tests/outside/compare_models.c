@@ -33,6 +33,8 @@ static const struct {
     {"chilled_water_loop_square", LAYERED, WUNDRESKA_DETERMINED, 9, 511, 0},
     {"two_meters", MIXED, WUNDRESKA_SURPLUS, 1, NOT_STATED, NOT_STATED},
     {"milk_preheater", LAYERED, WUNDRESKA_OPEN, 7, NOT_STATED, 254},
+    {"heat_recovery", LAYERED, WUNDRESKA_DETERMINED, 96, NOT_STATED, 0},
+    {"heat_recovery_open", LAYERED, WUNDRESKA_OPEN, 95, NOT_STATED, NOT_STATED},
 };
 
 /* The refusal of a model file, or 0 with its model. */

@@ -3,19 +3,19 @@
 
 #include <string.h>
 
-/* How far numbers and areas go beyond what is needed. */
-enum { MORE = 3 };
+/* How far numbers and areas go beyond what is needed, and how many columns a row has room for. */
+enum { MORE = 3, WIDTH = 64 * ROW_WORDS };
 
-/* Column c is bit c mod 8 of byte c div 8; bytes that are missing count as 0, and those beyond a set are not read. */
+/* Column c is bit c mod 8 of byte c div 8; bytes that are missing count as 0, and those that a row has no room for are not read. */
 static int shown(const Touching *t, size_t column)
 {
     size_t byte = column / 8;
-    return byte < t->length && byte < WUNDRESKA_SET_SIZE && t->set[byte] >> column % 8 & 1;
+    return byte < t->length && column < WIDTH && t->set[byte] >> column % 8 & 1;
 }
 
 static int row_touches(const Model *m, const Touching *t, size_t row)
 {
-    for (size_t c = 0; c < t->n && c < WUNDRESKA_COLUMNS_MAX; c++)
+    for (size_t c = 0; c < t->n && c < WIDTH; c++)
         if (shown(t, c) && has(m->parameters[row], c))
             return 1;
     return 0;
@@ -54,19 +54,21 @@ static Touching draw_touching(const Model *m, uint8_t *set)
         t.b = one_in(4) ? SIZE_MAX : draw(WUNDRESKA_ROWS_MAX + MORE);
     }
     if (one_in(4))
-        t.n = draw(WUNDRESKA_COLUMNS_MAX + MORE);
+        t.n = draw(WIDTH + MORE);
     if (one_in(4))
-        t.length = draw(WUNDRESKA_SET_SIZE + MORE);
+        t.length = draw(WIDTH / 8 + MORE);
     draw_set(set, t.length);
     return t;
 }
 
 void compare_rows(void)
 {
-    uint8_t set[WUNDRESKA_SET_SIZE + MORE];
+    uint8_t set[WIDTH / 8 + MORE];
     begin_category("rows that touch a set, counted");
     for (int i = 0; i < 40000; i++) {
         Model m = draw_model(all_primes, COUNT(all_primes), WUNDRESKA_COLUMNS_MAX, WUNDRESKA_ROWS_MAX);
+        if (m.b > 0 && one_in(2))
+            m.parameters[draw(m.b)] |= just(draw(WIDTH));
         Touching t = draw_touching(&m, set);
         count_case(touching_complaint(&m, &t), &m);
     }

@@ -1,8 +1,8 @@
 /* The library's calls for models handed over without a file, and the count of rows that touch a set, as the crate `harness` exports
  * them for tests and measuring.
  *
- * A ModelCall takes p, n, a, b, the constants (row by row), the parameter rows as words, and an area to write to; lengths count
- * entries. It returns 0 or the refusal: 3, 4, 8 for the constants' and parameters' areas, 5, 6, 10 where mixed, and last 8
+ * A ModelCall takes p, n, a, b, the constants (row by row), the parameter rows, two words each with the low one first, and an
+ * area to write to; lengths count entries, of parameter rows words. It returns 0 or the refusal: 3, 4, 8 for the constants' and parameters' areas, 5, 6, 10 where mixed, and last 8
  * for the area written. */
 #ifndef HARNESS_H
 #define HARNESS_H

@@ -161,7 +161,7 @@ pub fn difference(set: ColumnSet, other: ColumnSet) -> ColumnSet
     }
 }
 
-// Whether a row has a parameter in the set: one step for all columns.
+// Whether a row has a parameter in the set: by words, not column by column.
 pub fn touches(row: ColumnSet, set: ColumnSet) -> bool
     ensures { λ r. ⌜ r ≡ any width (members (whole set) ∩ members (whole row)) ⌝ }
 {
@@ -285,7 +285,7 @@ pub fn rows_below(words: &[u64], end: usize) -> usize
     if end < all { end } else { all }
 }
 
-// Whether a row has a parameter in a set that is one word: in its low word.
+// Whether a row has a parameter in a set with no column from 64 on, which its low word is.
 fn low_touches(words: &[u64], r: usize, low: u64) -> bool
     requires { ⌜ r < length (row-numbers (now words)) ⌝ }
     ensures { λ t. ⌜ t ≡ rows-touching (row-numbers (now (words .entry))) (members low) r ⌝ }
@@ -307,7 +307,8 @@ fn last_below(words: &[u64], all: usize, set: ColumnSet, end: usize) -> usize
     end
 }
 
-// The same for a set that has no column from 64 on: four rows a turn.
+// The same for a set that has no column from 64 on: in the rows' low words alone, and four rows a turn, since the search spends most of
+// its time here.
 fn last_below_low(words: &[u64], all: usize, set: ColumnSet, end: usize) -> usize
     requires { ⌜ (all ≤ length (row-numbers (now words))) × (set .high ≡ 0) ⌝ }
     ensures { λ r. ⌜ r ≡ last-member end all (rows-touching (row-numbers (now (words .entry))) (members (whole set))) ⌝ }

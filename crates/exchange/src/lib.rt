@@ -52,7 +52,7 @@ fn nothing() -> Solution
     }
 }
 
-// The answer over a filled tableau and words, with a table of inverses, which may be empty.
+// The answer over a filled tableau and parameter rows, with a table of inverses, which may be empty.
 fn answer(
     t: &mut [u16; CELLS],
     parameters: &[u64],

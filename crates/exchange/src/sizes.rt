@@ -8,8 +8,8 @@ use limits::MOST_ROWS;
 // From a row of the tableau to the next: a cell for each column that a model has at most.
 pub const STRIDE: usize = MOST_COLUMNS;
 
-// The cells of a tableau: its rows, and behind the last as many more as a set has room for columns that no model has. So every column
-// of a set has a cell in every row, with no test.
+// The cells of a tableau: its rows, and behind the last as many more as a set has room for columns that no model has. So a row's place
+// and a column of a set make a place of the tableau, with no test.
 pub const CELLS: usize = MOST_ROWS * STRIDE + (WIDTH - STRIDE);
 
 // The rows of both kinds.

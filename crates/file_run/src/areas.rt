@@ -2,7 +2,7 @@
 use crate::said;
 use crate::sample;
 
-// The document's file has two constants and one parameter row of two words.
+// The document's file has two constants and one parameter row, which an area holds in two words.
 pub fn short() {
     let file = sample();
     let mut constants = [7u16; 3];

@@ -17,7 +17,7 @@ fn fill_constants(constants: &mut [u16]) {
     }
 }
 
-// No column of a high word beyond the last.
+// Every word is below 2 to the 32: a high word has no column from 96 on.
 fn fill_parameters(parameters: &mut [u64]) {
     let mut i = 0;
     let mut set: u64 = 1;

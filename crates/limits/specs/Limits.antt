@@ -1,4 +1,4 @@
--- The limits of document 01, each said here once: contracts and proofs cite these names, the code its constants of the same names. Definitions only.
+-- The limits of documents 01 and 02, each said here once: contracts and proofs cite these names, the code its constants of the same names. Definitions only.
 use Prim.Native.Nat.{ℕ, _+_, _*_}
 
 -- n is 1 to so many columns

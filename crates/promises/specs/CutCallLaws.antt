@@ -15,6 +15,7 @@ use Rattle.format.specs.RefusalLaws.{then-refused, where-refused}
 use Rattle.format.specs.File.Piece.{closed}
 use Rattle.format.specs.File.Format.{FileModel, fields, judge, decode, no-model, read-refusal, model-read, ReadCall}
 use Rattle.format.specs.File.FormatLaws.{decoded-valid, encode-decode}
+use Rattle.format.specs.File.RowSizes.{parameter-rows-most}
 use Rattle.format.specs.File.WriteLaws.{file-length}
 use Rattle.layered.specs.FileModel.{file-model}
 use Rattle.mixed.specs.MixedAnswers.{MixedAnswered, file-mixed, mixed-question}
@@ -25,7 +26,7 @@ use Rattle.text.specs.Text.{refused-line, Prints}
 use Rattle.text.specs.declared.Printed.{Printed}
 use Rattle.report.specs.FileReport.{Reports, FileReport}
 use Rattle.mixed_report.specs.MixedReport.{mixed-answer-text, MixedFileReport}
-use Rattle.promises.specs.CutLaws.{rows-most, parameter-rows-most, judge-cut}
+use Rattle.promises.specs.CutLaws.{rows-most, judge-cut}
 
 -- an accepted file is no longer than the longest
 pub accepted-most : (s : List ℕ) → AreBytes s → judge s ≡ 0 → length s ≤ longest-file

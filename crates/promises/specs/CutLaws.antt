@@ -10,12 +10,12 @@ use native.Mathlib.Nat.{suc-mul, zero-mul, mul-le-mul}
 use lib.ListN.{length, getD, take, drop}
 use lib.Seq.{take-nil, getD-take, take-take}
 use Rattle.counting.specs.Bools.{iff-eq}
-use Rattle.limits.specs.Limits.{most-columns, most-rows, set-bytes, longest-file}
+use Rattle.limits.specs.Limits.{most-columns, most-rows, longest-file}
 use Rattle.format.specs.Refusals.{Tests, unless, _then_, first-refusal, trailing, head-test, body-test, due-test, end-test}
 use Rattle.format.specs.RefusalLaws.{then-zero, unless-zero}
 use Rattle.format.specs.TestLaws.{head-reads, body-reads, end-reads, size-reads}
 use Rattle.format.specs.File.Piece.{Body, Piece, head-tests, field, many, many-tests, many-dec, many-rest, seq, closed}
-use Rattle.format.specs.File.RowSizes.{parameter-size-most}
+use Rattle.format.specs.File.RowSizes.{parameter-rows-most}
 use Rattle.format.specs.File.Format.{sizes-body, prime-body, constant-body, parameter-body, end-body, constant-row, parameter-size, parameter-row, end-field, row-fields}
 use Rattle.format.specs.File.Format.{prime-tag, sizes-tag, constant-tag, parameter-tag, end-tag, prime-field, sizes-field, size-fields, fields, judge}
 use Rattle.format.proofs.Judging.{seq-refused, seq-passed}
@@ -173,9 +173,6 @@ sizes-within s e = size-reads _ _ _ .0 (unless-zero _ _ (then-zero (head-tests s
 -- the most rows of both kinds
 pub rows-most : (a n : ℕ) → a ≤ most-rows → n ≤ most-columns → a * (3 + 2 * n) ≤ most-rows * (3 + 2 * most-columns)
 rows-most a n l m = mul-le-mul l (let w : 3 + 2 * n ≤ 3 + 2 * most-columns = omega arith in w)
-
-pub parameter-rows-most : (b n : ℕ) → b ≤ most-rows → b * (3 + parameter-size n) ≤ most-rows * (3 + set-bytes)
-parameter-rows-most b n l = mul-le-mul l (let w : 3 + parameter-size n ≤ 3 + set-bytes = omega (arith, parameter-size-most n) in w)
 
 sizes-same : (p k : ℕ) (s : List ℕ) → longest-file < k + 5
     → first-refusal (closed (size-fields p) (take k s)) ≡ first-refusal (closed (size-fields p) s)

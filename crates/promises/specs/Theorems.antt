@@ -19,7 +19,7 @@ use Rattle.determinants.specs.Determinant.{Largest}
 use Rattle.determinants.specs.ModelTables.{LayeredOrder, MixedOrder}
 use Rattle.determinants.specs.Theorems.{rank-is-largest-order, mixed-rank-is-largest-order}
 use Rattle.format.specs.Lists.{over}
-use Rattle.limits.specs.Limits.{longest-file, no-column}
+use Rattle.limits.specs.Limits.{most-columns, longest-file, no-column}
 use Rattle.format.specs.Refusals.{refusal, mixed-refusal}
 use Rattle.format.specs.File.Format.{judge, ReadCall, WriteCall}
 use Rattle.loader.specs.FileRead.{FileRead}
@@ -41,6 +41,7 @@ use Rattle.promises.specs.CutLaws.{judge-cut}
 use Rattle.promises.specs.CutCallLaws.{reading-cut, host-cut, host-mixed-cut, report-cut, mixed-report-cut}
 use Rattle.promises.specs.AnswerLaws.{refusal-same, mixed-refusal-same, write-same, layered-same, mixed-same}
 use Rattle.promises.specs.RowLaws.{determined-rows, surplus-rows}
+use Rattle.promises.specs.ShownLaws.{ShownWhole, answer-shown-whole, mixed-shown-whole}
 use Rattle.promises.specs.DocumentFile.{document-file, document-accepted, document-model}
 
 -- ---- read and written, written and read
@@ -145,6 +146,16 @@ mixed-determined-shows-every-row X r h v = mixed-determined-uses-every-row X (sy
 -- and those of one that says "surplus" leave a row over.
 pub mixed-surplus-shows-a-row-left : (X : Mixed) (r : MixedAnswer) → MixedAnswered X r → r .verdict ≡ 2 → LeavesRow X (members (whole (r .rows))) (members (whole (r .columns)))
 mixed-surplus-shows-a-row-left X r h v = mixed-surplus-leaves-a-row X (sym (h .is-verdict) ∙ v) _ _ (h .they-reach)
+
+-- ---- the bytes of sets
+
+-- A set has room for more columns than the bytes that show it have bits. They lose none: read back, they give the number of each set of a layered answer,
+pub answer-sets-are-shown-whole : (M : Model) (r : Answer) → M .n ≤ most-columns → Answered M r → ShownWhole (whole (r .placed)) × ShownWhole (whole (r .constants)) × ShownWhole (whole (r .short))
+answer-sets-are-shown-whole = answer-shown-whole
+
+-- and of a mixed one.
+pub mixed-sets-are-shown-whole : (X : Mixed) (r : MixedAnswer) → X .m + X .n ≤ most-columns → MixedAnswered X r → ShownWhole (whole (r .rows)) × ShownWhole (whole (r .columns)) × ShownWhole (whole (r .short))
+mixed-sets-are-shown-whole = mixed-shown-whole
 
 -- ---- the rank of textbooks
 

@@ -7,7 +7,7 @@ use native.Mathlib.Nat.{suc-mul, zero-mul}
 use lib.ListN.{length, getD, take, drop, length-append, length-drop}
 use lib.Seq.{length-take-le}
 use Rattle.columns.specs.Bytes.{bytes-of}
-use Rattle.columns.specs.Words.Bytes.{bytes-front}
+use Rattle.columns.specs.Words.Bytes.{bytes-of-length, bytes-front}
 use Rattle.limits.specs.Limits.{set-bytes}
 use Rattle.format.specs.Lists.{rows-of}
 use Rattle.format.specs.ListLaws.{first-left, nothing}
@@ -16,7 +16,7 @@ use Rattle.format.specs.File.Piece.{field-bytes}
 use Rattle.format.specs.File.Format.{prime-tag, sizes-tag, parameter-tag, end-tag, parameter-size, entry-bytes, prime-field, sizes-field, constant-row, parameter-row, end-field, row-fields, size-fields, fields, encode, handed-over}
 use Rattle.format.specs.File.Steps.{constant-bytes, parameter-bytes, Put}
 use Rattle.format.specs.File.RowSizes.{parameter-size-most}
-use Rattle.format.specs.File.BodyLaws.{bytes-of-length, entries-back}
+use Rattle.format.specs.File.BodyLaws.{entries-back}
 use Rattle.format.proofs.Puts.{put-next, put-room, put-same, left-length}
 
 -- what is left of the constants holds the rows that are left

@@ -3,7 +3,6 @@ use mathlib.Core.Path.{sym, _∙_}
 use native.Mathlib.Omega.{arith}
 use Prim.Native.Nat.{_-_}
 use borrow.Author.Needs.{needs}
-use native.Mathlib.Omega.{arith}
 use Rattle.columns.specs.Columns.{word-width}
 use Rattle.columns.specs.Words.Halves.{members-low, at-high}
 use Rattle.columns.specs.ColumnSets.{whole}

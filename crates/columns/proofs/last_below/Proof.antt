@@ -1,19 +1,17 @@
 -- `columns::last_below` meets its contract. The invariant: of the rows below `all`, none from r on touches the set. The measure is r. Assumes nothing.
-use Prim.Native.Nat.{ℕ, _-_, _<_, _≤_}
+use Prim.Native.Nat.{ℕ, _-_, _≤_}
 use mathlib.Core.Path.{_≡_, sym, ap, _∙_}
-use mathlib.Core.Bool.{false}
 use native.Mathlib.Omega.{arith}
-use native.Mathlib.Decide.{ℕ-discrete}
 use borrow.Author.Needs.{needs}
 use Rattle.counting.specs.Sets.{Set, _∩_, any, touching}
 use Rattle.columns.specs.Columns.{width, members}
 use Rattle.columns.specs.ColumnSets.{whole, row-numbers, rows-touching}
-use Rattle.columns.specs.Words.SetLaws.{last-member-is, last-member-none}
+use Rattle.columns.specs.Words.SetLaws.{NoneFrom, one-more, last-member-is, last-member-none}
 use Rattle.columns.proofs.last_below.Statement.{statement}
 use Rattle.columns.proofs.last_below.Tie as tie
 
 abbrev Inv-loop : tie.InvT-loop
-Inv-loop words all set end r₀ r = (r ≤ all) × ((x : ℕ) → r ≤ x → x < all → rows-touching (row-numbers words) (members (whole set)) x ≡ false)
+Inv-loop words all set end r₀ r = (r ≤ all) × NoneFrom (rows-touching (row-numbers words) (members (whole set))) r all
 
 abbrev μ-loop : tie.MeasureT-loop
 μ-loop words all set end r₀ r = r
@@ -57,7 +55,7 @@ loop-less c = search needs
 loop-again : tie.Need-loop-again Inv-loop μ-loop
 loop-again c =
     let l = turn (c .before) in
-    (search needs, λ x lx hx. elim (ℕ-discrete x (l .loop .r - 1)) [ yes z ↦ rw z (sym (says (c .before)) ∙ c .if1 .left) | no nz ↦ l .loop .inv .1 x (omega arith) hx ])
+    (search needs, one-more {m = l .loop .r - 1} (omega arith) (sym (says (c .before)) ∙ c .if1 .left) (l .loop .inv .1))
 
 returns-2 : tie.Need-returns-2 Inv-loop μ-loop
 returns-2 c =

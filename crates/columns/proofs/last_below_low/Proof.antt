@@ -1,24 +1,16 @@
 -- `columns::last_below_low` meets its contract. The invariant: of the rows below `all`, none from r on touches the set. The measure is r. Assumes nothing.
 use Prim.Native.Nat.{ℕ, _+_, _-_, _<_, _≤_}
 use mathlib.Core.Path.{_≡_, sym, ap, _∙_}
-use mathlib.Core.Bool.{Bool, true, false}
+use mathlib.Core.Bool.{Bool, true}
 use native.Mathlib.Omega.{arith}
-use native.Mathlib.Decide.{ℕ-discrete}
 use denote.Ref.{now}
 use borrow.Author.Needs.{needs}
 use Rattle.counting.specs.Sets.{Set}
 use Rattle.columns.specs.Columns.{members, last-member}
-use Rattle.columns.specs.ColumnSets.{joined, whole, row-numbers, rows-touching}
-use Rattle.columns.specs.Words.SetLaws.{last-member-is, last-member-cut}
+use Rattle.columns.specs.ColumnSets.{whole, row-numbers, rows-touching}
+use Rattle.columns.specs.Words.SetLaws.{NoneFrom, one-more, last-member-is, last-member-cut}
 use Rattle.columns.proofs.last_below_low.Statement.{statement}
 use Rattle.columns.proofs.last_below_low.Tie as tie
-
--- no number from m to before n is in S
-abbrev NoneFrom : Set → ℕ → ℕ → Type 0
-NoneFrom S m n = (x : ℕ) → m ≤ x → x < n → S x ≡ false
-
-one-more : {S : Set} {m k n : ℕ} → k ≡ m + 1 → S m ≡ false → NoneFrom S k n → NoneFrom S m n
-one-more {S} {m} {k} {n} d e none x l h = elim (ℕ-discrete x m) [ yes z ↦ rw z e | no nz ↦ none x (omega arith) h ]
 
 abbrev Inv-loop : tie.InvT-loop
 Inv-loop words all set end r₀ r = (r ≤ all) × NoneFrom (rows-touching (row-numbers words) (members (whole set))) r all

@@ -1,5 +1,4 @@
 -- `columns::last_touching` meets its contract: rows that the area does not have touch nothing. Assumes nothing.
-use Prim.Native.Nat.{ℕ, _≤_}
 use mathlib.Core.Path.{_≡_, sym, _∙_}
 use native.Mathlib.Omega.{arith}
 use denote.Ref.{now}

@@ -6,7 +6,7 @@ use native.Mathlib.Nat.{div-one, mul-assoc, mul-zero}
 use native.Mathlib.Decide.{decLt}
 use native.Mathlib.Omega.{arith}
 use lib.Dec.{lit<}
-use lib.ListN.{length, getD, take, drop, length-take, length-drop, List·getD-eq-default}
+use lib.ListN.{length, getD, take, drop, length-take, length-drop, drop-of-length-le, List·getD-eq-default}
 use lib.Seq.{getD-take, take-all}
 use lib.Pow.{pow-pos, pow-add, shr-shr, field, mod-mod-pow}
 use Rattle.columns.specs.Bytes.{number, bytes-of, bit-shown}
@@ -68,12 +68,14 @@ bits-shown k bs c b l =
 eight-more : (k : ℕ) → 8 * suc k ≡ 8 + 8 * k
 eight-more k = omega arith
 
+byte-more : (k : ℕ) → 2 ^ (8 * suc k) ≡ 256 * 2 ^ (8 * k)
+byte-more k = ap (λ (m : ℕ). 2 ^ m) (eight-more k) ∙ pow-add 2 8 (8 * k)
+
 pub number-below : (k : ℕ) (bs : List ℕ) → AreBytes bs → number (take k bs) < 2 ^ (8 * k)
 number-below zero bs b = lit< tt
 number-below (suc k) [] b = pow-pos (8 * suc k)
 number-below (suc k) (x ∷ bs) b =
-    let split : 2 ^ (8 * suc k) ≡ 256 * 2 ^ (8 * k) = ap (λ (m : ℕ). 2 ^ m) (eight-more k) ∙ pow-add 2 8 (8 * k) in
-    omega (arith, b 0, number-below k bs (λ i. b (suc i)))
+    omega (arith, byte-more k, b 0, number-below k bs (λ i. b (suc i)))
 
 none-left : (m : ℕ) → number (take m []) ≡ 0
 none-left zero = refl
@@ -110,19 +112,12 @@ number-parts zero b bs = let e : 0 + b ≡ b = omega arith in rw e (omega arith)
 number-parts (suc a) b [] = rw (none-left b, none-left (suc a + b)) (omega (arith, mul-zero (2 ^ (8 * suc a))))
 number-parts (suc a) b (x ∷ bs) =
     let e : suc a + b ≡ suc (a + b) = omega arith in
-    let split : 2 ^ (8 * suc a) ≡ 256 * 2 ^ (8 * a) = ap (λ (k : ℕ). 2 ^ k) (eight-more a) ∙ pow-add 2 8 (8 * a) in
-    rw e (rw split (omega (arith, mul-assoc 256 (2 ^ (8 * a)) (number (take b (drop a bs))), number-parts a b bs)))
-
-drop-all : (n : ℕ) (bs : List ℕ) → length bs ≤ n → drop n bs ≡ []
-drop-all zero [] l = refl
-drop-all zero (x ∷ bs) l = absurd (omega arith)
-drop-all (suc n) [] l = refl
-drop-all (suc n) (x ∷ bs) l = drop-all n bs (omega arith)
+    rw e (rw (byte-more a) (omega (arith, mul-assoc 256 (2 ^ (8 * a)) (number (take b (drop a bs))), number-parts a b bs)))
 
 -- a set from its bytes: as many as a word has for the low word, and what is behind them for the high word
 pub bytes-short : (bs : List ℕ) (l : ℕ) → length bs < word-bytes → l ≡ number (take word-bytes bs) → joined l 0 ≡ number (take room-bytes bs)
 bytes-short bs l s e =
-    let gone : drop word-bytes bs ≡ [] = drop-all word-bytes bs (omega arith) in
+    let gone : drop word-bytes bs ≡ [] = drop-of-length-le bs {i = word-bytes} (omega arith) in
     omega (arith, number-parts word-bytes word-bytes bs, ap (λ (t : List ℕ). number (take word-bytes t)) gone)
 
 pub bytes-long : (bs : List ℕ) (l h : ℕ) → word-bytes ≤ length bs → l ≡ number (take word-bytes bs)
@@ -132,6 +127,17 @@ bytes-long bs l h s e d =
     omega (arith, number-parts word-bytes word-bytes bs, ap (λ (t : List ℕ). number (take word-bytes t)) whole-rest)
 
 -- ---- the bytes of a number
+
+pub bytes-of-length : (k w : ℕ) → length (bytes-of k w) ≡ k
+bytes-of-length zero w = refl
+bytes-of-length (suc k) w = ap suc (bytes-of-length k (w / 256))
+
+-- they give it back where it is small enough
+pub number-bytes : (k w : ℕ) → w < 2 ^ (8 * k) → number (bytes-of k w) ≡ w
+number-bytes zero w h = omega arith
+number-bytes (suc k) w h =
+    let i = number-bytes k (w / 256) (omega (arith, byte-more k)) in
+    rw i (omega arith)
 
 pub byte-at : (k j w : ℕ) → j < k → getD (bytes-of k w) j 0 ≡ w / 2 ^ (8 * j) % 256
 byte-at zero j w l = absurd (omega arith)

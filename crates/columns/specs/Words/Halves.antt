@@ -1,7 +1,7 @@
 -- A set of two words by its halves: what holds of the columns of each word holds of the set. Assumes nothing.
 use Prim.Native.Nat.{ℕ, zero, suc, _+_, _-_, _*_, _/_, _%_, _^_, _≤_, _<_}
 use mathlib.Core.Path.{_≡_, refl, sym, ap, ap₂, _∙_, fun-ext}
-use mathlib.Core.Bool.{Bool, true, false, not, _&&_, _||_, cond, true≢false}
+use mathlib.Core.Bool.{Bool, true, false, not, _&&_, _||_, cond}
 use mathlib.Core.Logic.{_≢_}
 use native.Mathlib.Nat.{mul-le-mul-left, mul-suc, lt-of-lt-of-le}
 use native.Mathlib.Decide.{decLt}
@@ -9,14 +9,14 @@ use native.Mathlib.Omega.{arith}
 use lib.Dec.{eqb, leb, ltb}
 use lib.Pow.{pow-mono}
 use lib.Bits.{bitAnd, and-lt}
-use borrow.Author.Tests.{le-leb, lt-leb, eq-eqb, ne-eqb, eqb-true, lt-ltb, le-ltb, ltb-true}
+use borrow.Author.Tests.{le-leb, lt-leb, eq-eqb, ne-eqb, eqb-true, eqb-false, lt-ltb, le-ltb, ltb-true}
 use Rattle.counting.specs.Bools.{not-true, iff-eq}
 use Rattle.counting.specs.Sets.{Set, _∈_, _∩_, #, any, Some}
 use Rattle.counting.specs.Counts.{#-ext, #-pick, size-any}
 use Rattle.counting.specs.Blocks.{#-plus, low-or-high}
 use Rattle.columns.specs.Columns.{word-width, width, members, none, upto-in, upto, inserted-in, inserted, removed, moved-up-in, moved-up, moved-down, least, within-in, within}
 use Rattle.columns.specs.ColumnSets.{joined}
-use Rattle.columns.specs.Words.Operations.{members-mod, members-and, members-down, members-beyond, none-test, within-in-iff, within-iff}
+use Rattle.columns.specs.Words.Operations.{and-none, and-true, members-mod, members-and, members-down, members-beyond, none-test, within-in-iff, within-iff}
 use Rattle.columns.specs.Words.SetLaws.{nothing-in, least-there}
 
 -- ---- the columns of each half
@@ -37,16 +37,16 @@ joined-high l h b = omega arith
 pub members-low : (l h x : ℕ) → l < 2 ^ word-width → x < word-width → members (joined l h) x ≡ members l x
 members-low l h x b lx = sym (members-mod word-width (joined l h) x lx) ∙ ap (λ (w : ℕ). members w x) (joined-low l h b)
 
-pub members-high : (l h x : ℕ) → l < 2 ^ word-width → members (joined l h) (word-width + x) ≡ members h x
+members-high : (l h x : ℕ) → l < 2 ^ word-width → members (joined l h) (word-width + x) ≡ members h x
 unfolding moved-down
 members-high l h x b = sym (ap (λ (S : Set). S x) (members-down (joined l h) word-width)) ∙ ap (λ (w : ℕ). members w x) (joined-high l h b)
 
 -- two sets are the same if they agree on each half
-pub halves-ext : (S T : Set) → ((x : ℕ) → x < word-width → S x ≡ T x) → ((x : ℕ) → S (word-width + x) ≡ T (word-width + x)) → S ≡ T
+halves-ext : (S T : Set) → ((x : ℕ) → x < word-width → S x ≡ T x) → ((x : ℕ) → S (word-width + x) ≡ T (word-width + x)) → S ≡ T
 halves-ext S T low high = fun-ext (λ j. low-or-high word-width j (low j) (λ x e. ap S e ∙ high x ∙ sym (ap T e)))
 
 -- a set by the columns of its words
-pub by-halves : (l h : ℕ) (T : Set) → l < 2 ^ word-width → ((x : ℕ) → x < word-width → members l x ≡ T x)
+by-halves : (l h : ℕ) (T : Set) → l < 2 ^ word-width → ((x : ℕ) → x < word-width → members l x ≡ T x)
     → ((x : ℕ) → members h x ≡ T (word-width + x)) → members (joined l h) ≡ T
 by-halves l h T b low high =
     halves-ext (members (joined l h)) T (λ x lx. members-low l h x b lx ∙ low x lx) (λ x. members-high l h x b ∙ high x)
@@ -95,14 +95,14 @@ common-low l h w bl bw =
       | no nx ↦ neither (members w x) (members l x) (members (joined l h) x) (members-beyond word-width w x bw (omega arith))
     ]
 
--- ---- the least column
+-- ---- empty sets
 
 -- a size is 0, or not, as its test says
 pub is-none : (n : ℕ) (t : Bool) → t ≡ eqb n 0 → t ≡ true → n ≡ 0
 is-none n t e h = eqb-true n 0 (sym e ∙ h)
 
 pub is-some : (n : ℕ) (t : Bool) → t ≡ eqb n 0 → t ≡ false → n ≢ 0
-is-some n t e h z = true≢false (sym (eq-eqb n 0 z) ∙ sym e ∙ h)
+is-some n t e h = eqb-false n 0 (sym e ∙ h)
 
 -- the set is empty where its high word is, if the low word is
 pub empty-high : (l h : ℕ) → l < 2 ^ word-width → # word-width (members l) ≡ 0 → eqb (# word-width (members h)) 0 ≡ eqb (# width (members (joined l h))) 0
@@ -111,7 +111,9 @@ empty-high l h b z = let same : # word-width (members h) ≡ # width (members (j
 pub empty-low : (l h : ℕ) → l < 2 ^ word-width → # word-width (members l) ≢ 0 → false ≡ eqb (# width (members (joined l h))) 0
 empty-low l h b nz = sym (ne-eqb (# width (members (joined l h))) 0 (λ e. omega (arith, size-halves l h b)))
 
-pub least-low : (a b : ℕ) (S : Set) → least a S < a → least a S ≡ least (a + b) S
+-- ---- the least column
+
+least-low : (a b : ℕ) (S : Set) → least a S < a → least a S ≡ least (a + b) S
 unfolding least
 least-low zero b S l = absurd (omega arith)
 least-low (suc a) b S l = let e : suc a + b ≡ suc (a + b) = omega arith in rw e (go (S 0) refl (λ h. least-low a b (λ x. S (suc x)) h))
@@ -123,7 +125,7 @@ least-low (suc a) b S l = let e : suc a + b ≡ suc (a + b) = omega arith in rw 
         let here : least (suc a) S ≡ suc (least a (λ x. S (suc x))) = ap (λ s. cond s 0 (suc (least a (λ x. S (suc x))))) e in
         here ∙ ap suc (later (omega arith)) ∙ sym (ap (λ s. cond s 0 (suc (least (a + b) (λ x. S (suc x))))) e)
 
-pub least-high : (a b : ℕ) (S : Set) → ((x : ℕ) → x < a → S x ≡ false) → a + least b (λ x. S (a + x)) ≡ least (a + b) S
+least-high : (a b : ℕ) (S : Set) → ((x : ℕ) → x < a → S x ≡ false) → a + least b (λ x. S (a + x)) ≡ least (a + b) S
 unfolding least
 least-high zero b S h = let e : 0 + b ≡ b = omega arith in rw e (omega (arith, ap (least b) (fun-ext (λ x. ap S (nothing-more x)))))
   where
@@ -137,7 +139,7 @@ least-high (suc a) b S h =
     one-more : (x : ℕ) → suc a + x ≡ suc (a + x)
     one-more x = omega arith
 
-pub least-ext : (n : ℕ) (S T : Set) → ((x : ℕ) → x < n → S x ≡ T x) → least n S ≡ least n T
+least-ext : (n : ℕ) (S T : Set) → ((x : ℕ) → x < n → S x ≡ T x) → least n S ≡ least n T
 unfolding least
 least-ext zero S T h = refl
 least-ext (suc n) S T h =
@@ -237,14 +239,6 @@ at-high l h x y b e = sym (ap (members (joined l h)) e ∙ members-high l h x b)
 pub at-low : (l h x y : ℕ) → l < 2 ^ word-width → y ≡ x → x < word-width → members l x ≡ members (joined l h) y
 at-low l h x y b e lx = sym (ap (members (joined l h)) e ∙ members-low l h x b lx)
 
-and-true : (p : Bool) → (p && true) ≡ p
-and-true true = refl
-and-true false = refl
-
-and-false : (p : Bool) → (p && false) ≡ false
-and-false true = refl
-and-false false = refl
-
 or-false : (p : Bool) → (p || false) ≡ p
 or-false true = refl
 or-false false = refl
@@ -262,7 +256,7 @@ raised-low l h l' h' m b b' lm e d = by-halves l' h' (moved-up (members (joined 
         ap (λ a. (a && members h (x - m) && ltb x word-width) || members l (word-width - m + x)) (lt-leb m x lx)
         ∙ at-low l h (word-width - m + x) (word-width + x - m) b (omega arith) (omega arith)
         ∙ sym (ap₂ (λ a c. a && members (joined l h) (word-width + x - m) && c) (le-leb m (word-width + x) (omega arith)) (lt-ltb (word-width + x) width (omega arith))
-        ∙ and-true (members (joined l h) (word-width + x - m)))
+        ∙ sym (and-true (members (joined l h) (word-width + x - m))))
 
     kept : (x : ℕ) → m ≤ x
         → ((leb m x && members h (x - m) && ltb x word-width) || members l (word-width - m + x)) ≡ (leb m (word-width + x) && members (joined l h) (word-width + x - m) && ltb (word-width + x) width)
@@ -295,8 +289,8 @@ raised-high l h l' h' m b b' lm e d = by-halves l' h' (moved-up (members (joined
     outside : (x : ℕ) → word-width ≤ x
         → (leb m (word-width + x) && members l (x - (m - word-width)) && ltb x word-width) ≡ (leb m (word-width + x) && members (joined l h) (word-width + x - m) && ltb (word-width + x) width)
     outside x hx =
-        ap (λ q. leb m (word-width + x) && members l (x - (m - word-width)) && q) (le-ltb x word-width hx) ∙ and-false (leb m (word-width + x) && members l (x - (m - word-width)))
-        ∙ sym (ap (λ q. leb m (word-width + x) && members (joined l h) (word-width + x - m) && q) (le-ltb (word-width + x) width (omega arith)) ∙ and-false (leb m (word-width + x) && members (joined l h) (word-width + x - m)))
+        ap (λ q. leb m (word-width + x) && members l (x - (m - word-width)) && q) (le-ltb x word-width hx) ∙ sym (and-none (leb m (word-width + x) && members l (x - (m - word-width))))
+        ∙ sym (ap (λ q. leb m (word-width + x) && members (joined l h) (word-width + x - m) && q) (le-ltb (word-width + x) width (omega arith)) ∙ sym (and-none (leb m (word-width + x) && members (joined l h) (word-width + x - m))))
 
 pub lowered-low : (l h l' h' m : ℕ) → l < 2 ^ word-width → l' < 2 ^ word-width → m < word-width
     → members l' ≡ (λ x. moved-down (members l) m x || moved-up-in word-width (members h) (word-width - m) x) → members h' ≡ moved-down (members h) m
@@ -316,7 +310,7 @@ lowered-low l h l' h' m b b' lm e d = by-halves l' h' (moved-down (members (join
     crossed x lx hi =
         ap (λ p. p || (leb (word-width - m) x && members h (x - (word-width - m)) && ltb x word-width)) (members-beyond word-width l (m + x) b hi)
         ∙ ap₂ (λ a c. a && members h (x - (word-width - m)) && c) (le-leb (word-width - m) x (omega arith)) (lt-ltb x word-width lx)
-        ∙ and-true (members h (x - (word-width - m))) ∙ at-high l h (x - (word-width - m)) (m + x) b (omega arith)
+        ∙ sym (and-true (members h (x - (word-width - m)))) ∙ at-high l h (x - (word-width - m)) (m + x) b (omega arith)
 
 pub lowered-high : (l h l' h' m : ℕ) → l < 2 ^ word-width → h < 2 ^ word-width → l' < 2 ^ word-width → word-width ≤ m → members l' ≡ moved-down (members h) (m - word-width)
     → members h' ≡ none → members (joined l' h') ≡ moved-down (members (joined l h)) m

@@ -1,7 +1,7 @@
 -- Each of the machine's operations on words, as the operation on sets of columns that it is. Assumes nothing.
 use mathlib.Core.Path.{_≡_, refl, sym, ap, ap₂, _∙_, fun-ext}
 use mathlib.Core.Bool.{Bool, true, false, not, _&&_, _||_, cond, true≢false}
-use mathlib.Core.Logic.{_≢_, _↔_, ⊎-elim}
+use mathlib.Core.Logic.{_↔_, ⊎-elim}
 use Prim.Native.Nat.{ℕ, zero, suc, _+_, _-_, _*_, _/_, _%_, _^_, _≤_, _<_, min, max}
 use native.Mathlib.Nat.{mod-lt, mod-le, mod-eq-of-lt, div-eq-of-lt, div-lt-iff-lt-mul, pow-suc, mul-div-cancel, mul-mod-left, mul-assoc}
 use native.Mathlib.Numerals.{one-add}
@@ -113,11 +113,11 @@ members-less k v w hv hw = members-and v (2 ^ k - 1 - w) ∙ fun-ext (λ x. elim
   | no nl ↦ let none-here : members v x ≡ false = members-beyond k v x hv (omega arith) in rw none-here refl
 ])
 
-and-none : (b : Bool) → false ≡ (b && false)
+pub and-none : (b : Bool) → false ≡ (b && false)
 and-none true = refl
 and-none false = refl
 
-and-true : (b : Bool) → b ≡ (b && true)
+pub and-true : (b : Bool) → b ≡ (b && true)
 and-true true = refl
 and-true false = refl
 

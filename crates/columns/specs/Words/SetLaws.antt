@@ -1,5 +1,5 @@
 -- The laws of the set operations that the contracts of `columns` cite: what loops over a set, and sets that grow, go by. Assumes nothing.
-use Prim.Native.Nat.{ℕ, zero, suc, _≤_, _<_}
+use Prim.Native.Nat.{ℕ, zero, suc, _+_, _≤_, _<_}
 use mathlib.Core.Path.{_≡_, refl, sym, ap, _∙_}
 use mathlib.Core.Bool.{true, false, not, _&&_, cond}
 use mathlib.Core.Logic.{_≢_, _⊎_, inl, inr}
@@ -75,8 +75,15 @@ unfolding last-member
 last-member-none d zero S h = refl
 last-member-none d (suc n) S h = ap (λ b. cond b n (last-member d n S)) (h n (omega arith)) ∙ last-member-none d n S (λ x l. h x (omega arith))
 
+-- no number from m to before n is in S
+abbrev pub NoneFrom : Set → ℕ → ℕ → Type 0
+NoneFrom S m n = (x : ℕ) → m ≤ x → x < n → S x ≡ false
+
+pub one-more : {S : Set} {m k n : ℕ} → k ≡ m + 1 → S m ≡ false → NoneFrom S k n → NoneFrom S m n
+one-more {S} {m} {k} {n} d e none x l h = elim (ℕ-discrete x m) [ yes z ↦ rw z e | no nz ↦ none x (omega arith) h ]
+
 -- numbers that are not in the set may be left out at the end
-pub last-member-cut : (d k n : ℕ) (S : Set) → k ≤ n → ((x : ℕ) → k ≤ x → x < n → S x ≡ false) → last-member d n S ≡ last-member d k S
+pub last-member-cut : (d k n : ℕ) (S : Set) → k ≤ n → NoneFrom S k n → last-member d n S ≡ last-member d k S
 unfolding last-member
 last-member-cut d k zero S l h = let e : k ≡ 0 = omega arith in rw e refl
 last-member-cut d k (suc n) S l h = elim (ℕ-discrete k (suc n)) [

@@ -7,12 +7,12 @@ use native.Mathlib.Omega.{arith}
 use native.Mathlib.Nat.{lt-of-lt-of-le}
 use lib.ListN.{length, getD}
 use lib.Seq.{take-all}
-use lib.Pow.{pow-add, pow-mono}
+use lib.Pow.{pow-mono}
 use borrow.Author.Tests.{ltb-true}
 use Rattle.residue.specs.Arithmetic.{Prime}
 use Rattle.columns.specs.Bytes.{number, bytes-of}
 use Rattle.columns.specs.Columns.{width, within}
-use Rattle.columns.specs.Words.Bytes.{AreBytes, number-below}
+use Rattle.columns.specs.Words.Bytes.{AreBytes, bytes-of-length, number-bytes, number-below}
 use Rattle.columns.specs.Words.Operations.{within-pow}
 use Rattle.format.specs.Lists.{All}
 use Rattle.limits.specs.Limits.{largest-prime, most-columns, most-rows}
@@ -35,18 +35,6 @@ bytes-number (suc k) (x ∷ b) h e =
     let hi : (x + 256 * number b) / 256 ≡ number b = omega arith in
     let i = bytes-number k b (λ j. h (suc j)) (omega arith) in
     rw (lo, hi, i)
-
-number-bytes : (k w : ℕ) → w < 2 ^ (8 * k) → number (bytes-of k w) ≡ w
-number-bytes zero w h = omega arith
-number-bytes (suc k) w h =
-    let more : 8 * suc k ≡ 8 + 8 * k = omega arith in
-    let split : 2 ^ (8 * suc k) ≡ 256 * 2 ^ (8 * k) = ap (λ (m : ℕ). 2 ^ m) more ∙ pow-add 2 8 (8 * k) in
-    let i = number-bytes k (w / 256) (omega arith) in
-    rw i (omega arith)
-
-pub bytes-of-length : (k w : ℕ) → length (bytes-of k w) ≡ k
-bytes-of-length zero w = refl
-bytes-of-length (suc k) w = ap suc (bytes-of-length k (w / 256))
 
 -- ---- p, and n, a, b
 

@@ -1,4 +1,4 @@
--- The file of a model, by document 01, "The file": its fields in their order, and how a file is judged, read, written and looked up.
+-- The file of a model, by document 01, "The file", and document 02, E13: its fields in their order, and how a file is judged, read, written and looked up.
 -- Definitions only.
 use Prim.Native.Nat.{ℕ, _+_, _-_, _*_, _/_, _%_, _^_, _≤_, _<_}
 use mathlib.Core.Path.{_≡_}
@@ -185,7 +185,7 @@ header s =
 unfoldable pub encode : FileModel → List ℕ
 encode m = fields .enc (values m)
 
--- ---- read into lent areas: the constants row after row, the parameter rows as words
+-- ---- read into lent areas: the constants row after row, the parameter rows as numbers
 
 unfoldable pub read-refusal : (s cs ws : List ℕ) → ℕ
 read-refusal s cs ws =

@@ -6,13 +6,13 @@ use native.Mathlib.Omega.{arith}
 use native.Mathlib.Nat.{suc-mul, zero-mul}
 use lib.ListN.{length, length-append}
 use Rattle.columns.specs.Bytes.{bytes-of}
-use Rattle.columns.specs.Words.Bytes.{AreBytes}
+use Rattle.columns.specs.Words.Bytes.{AreBytes, bytes-of-length}
 use Rattle.format.specs.Lists.{All}
 use Rattle.format.specs.Refusals.{head-bytes}
 use Rattle.format.specs.File.Piece.{Body, field}
 use Rattle.format.specs.File.Format.{FileModel, ValidModel, narrow-columns, prime-tag, sizes-tag, constant-tag, parameter-tag, end-tag, parameter-size, prime-field, sizes-field, entry-bytes, prime-body, sizes-body, constant-body, parameter-body, end-body, constant-row, parameter-row, end-field, row-fields, size-fields, fields, encode}
 use Rattle.format.specs.File.RowSizes.{narrow-size, wide-size, parameter-size-most}
-use Rattle.format.specs.File.BodyLaws.{bytes-of-length, entries-back}
+use Rattle.format.specs.File.BodyLaws.{entries-back}
 
 -- ---- a file is made of bytes
 
@@ -87,9 +87,10 @@ file-length m v =
     let sb : length (m .parameters) * (head-bytes + parameter-size (m .n)) ≡ m .b * (head-bytes + parameter-size (m .n)) = ap (λ (k : ℕ). k * (head-bytes + parameter-size (m .n))) (v .parameter-rows) in
     simp length-append (omega arith)
 
--- document 01: 14 + a × (3 + 2n) + 11 × b up to 64 columns; document 02, E13: 14 + a × (3 + 2n) + 15 × b above
+-- document 01: 14 + a × (3 + 2n) + 11 × b, up to 64 columns
 pub narrow-length : (m : FileModel) → ValidModel m → m .n ≤ narrow-columns → length (encode m) ≡ 14 + m .a * (3 + 2 * m .n) + 11 * m .b
 narrow-length m v h = file-length m v ∙ rw (narrow-size (m .n) h) (omega arith)
 
+-- and above 14 + a × (3 + 2n) + 15 × b
 pub wide-length : (m : FileModel) → ValidModel m → narrow-columns < m .n → length (encode m) ≡ 14 + m .a * (3 + 2 * m .n) + 15 * m .b
 wide-length m v h = file-length m v ∙ rw (wide-size (m .n) h) (omega arith)

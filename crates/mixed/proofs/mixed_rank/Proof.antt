@@ -1,5 +1,5 @@
 -- `mixed::mixed_rank` meets its contract: the answer to the layered form, read as one to the mixed model. Assumes nothing.
-use Prim.Native.Nat.{ℕ, _+_, _-_, _*_, _<_, _≤_}
+use Prim.Native.Nat.{_+_, _≤_}
 use mathlib.Core.Path.{_≡_, refl, sym, ap, _∙_}
 use Rattle.counting.specs.Sets.{Set}
 use lib.ListN.{replicate}

@@ -7,7 +7,7 @@ use native.Mathlib.Nat.{mul-le-mul}
 use Rattle.columns.specs.ColumnSets.{row-numbers}
 use Rattle.limits.specs.Limits.{most-columns, most-rows, set-bytes}
 use Rattle.format.specs.Refusals.{head-bytes}
-use Rattle.format.specs.File.RowSizes.{parameter-size-most}
+use Rattle.format.specs.File.RowSizes.{parameter-size-most, parameter-rows-most}
 use Rattle.writer.proofs.Rows.{handed-over-length}
 use Rattle.writer.proofs.file_length.Statement.{statement}
 use Rattle.writer.proofs.file_length.Tie as tie
@@ -21,7 +21,7 @@ size-small : (c : tie.After-parameter-size) → c .parameter-size .result ≤ se
 size-small c = rw (c .parameter-size .ensures) (parameter-size-most (c .before .before .before .args .n))
 
 row-bytes : (c : tie.After-parameter-size) → c .before .before .before .args .b * (head-bytes + c .parameter-size .result) ≤ most-rows * (head-bytes + set-bytes)
-row-bytes c = mul-le-mul (c .before .before .before .pre .2) (let m : head-bytes + c .parameter-size .result ≤ head-bytes + set-bytes = omega (arith, size-small c) in m)
+row-bytes c = let s = c .before .before .before in rw (c .parameter-size .ensures) (parameter-rows-most (s .args .b) (s .args .n) (s .pre .2))
 
 add-prime : tie.Need-add-prime
 add-prime c = search needs

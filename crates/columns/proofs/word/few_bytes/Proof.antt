@@ -11,7 +11,6 @@ use borrow.Author.Needs.{needs}
 use Rattle.columns.specs.Bytes.{number}
 use Rattle.columns.specs.Words.Bytes.{AreBytes, number-below, number-front}
 use Rattle.columns.specs.Columns.{word-width, word-bytes}
-use Rattle.columns.specs.ColumnSets.{whole}
 use Rattle.columns.proofs.word.few_bytes.Statement.{statement}
 use Rattle.columns.proofs.word.few_bytes.Tie as tie
 
@@ -72,7 +71,6 @@ loop-again c =
     (omega arith, turn _ (v .k) (v .word) (c .byte-or-zero .result) (c .before .loop-test .taken) (v .inv .0) (v .inv .1) (c .byte-or-zero .ensures))
 
 returns : tie.Need-returns Inv-loop μ-loop
-unfolding whole
 returns c =
     let v = c .before .loop in
     let done : v .k ≡ 0 = omega (arith, c .loop-test .left) in

@@ -1,6 +1,5 @@
 -- `word::first` meets its contract: the trailing zeros stand below the least member. Assumes nothing.
 use native.Mathlib.Omega.{arith}
-use lib.Count.{trailingZeros}
 use Rattle.columns.specs.Columns.{word-width, members}
 use Rattle.columns.specs.Words.Operations.{least-zeros, least-le}
 use Rattle.columns.proofs.word.first.Statement.{statement}

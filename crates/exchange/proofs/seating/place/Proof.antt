@@ -1,6 +1,6 @@
 -- `exchange::seating::place` meets its contract. The invariant: what the last search found, and that the state that is held places what the first did.
 -- The measure is the depth at which it was found. Assumes nothing.
-use Prim.Native.Nat.{ℕ, _+_, _-_, _<_}
+use Prim.Native.Nat.{ℕ, _+_, _<_}
 use mathlib.Core.Path.{_≡_, ap, _∙_}
 use mathlib.Core.Bool.{true≢false, false≢true}
 use mathlib.Core.List.{List}

@@ -12,12 +12,11 @@ use borrow.Author.Tests.{le-leb, lt-leb}
 use Rattle.columns.specs.Bytes.{bytes-of}
 use Rattle.columns.specs.Columns.{room-bytes}
 use Rattle.columns.specs.ColumnSets.{whole}
-use Rattle.columns.specs.Words.Bytes.{bytes-agree}
+use Rattle.columns.specs.Words.Bytes.{bytes-of-length, bytes-agree}
 use Rattle.limits.specs.Limits.{set-bytes}
 use Rattle.format.specs.Refusals.{area-test}
 use Rattle.format.specs.RefusalLaws.{first-fails, zero-unless}
 use Rattle.format.specs.OverLaws.{over-room-fits, over-no-room, Wrote, wrote-none, wrote-set, wrote-all}
-use Rattle.format.specs.File.BodyLaws.{bytes-of-length}
 use Rattle.format.proofs.Parts.{front-length}
 use Rattle.format.proofs.sets.put_set_front.Statement.{statement}
 use Rattle.format.proofs.sets.put_set_front.Tie as tie

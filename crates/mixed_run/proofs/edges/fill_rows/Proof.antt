@@ -1,10 +1,9 @@
 -- `edges::fill_rows` ends: what is left of the range falls; the length stays. Assumes nothing.
 use Prim.Native.Nat.{_-_}
-use mathlib.Core.Path.{_≡_, refl, ap, _∙_}
+use mathlib.Core.Path.{_≡_, refl}
 use lib.ListN.{length}
 use borrow.Author.Needs.{needs}
 use Rattle.limits.specs.Limits.{most-rows}
-use Rattle.columns.specs.Words.Rows.{with-row-length}
 use Rattle.mixed_run.proofs.edges.fill_rows.Statement.{statement}
 use Rattle.mixed_run.proofs.edges.fill_rows.Tie as tie
 
