@@ -30,7 +30,7 @@
  *   not overlap. Where its length is 0 a pointer may be NULL: nothing is read or written through it.
  * - Threads: a call keeps nothing, shares nothing and allocates nothing. It may run on any thread, several at once, the same
  *   file included, as long as nothing else writes the file or touches the answer area meanwhile.
- * - Stack: a call needs less than WUNDRESKA_STACK_MAX bytes of it (measured: 20 KB, for a mixed question 29 KB).
+ * - Stack: a call needs less than WUNDRESKA_STACK_MAX bytes of it (measured: 42 KB, for a mixed question 62 KB).
  * - Platform: the archive is for x86-64 Linux, can stand in a shared object, and takes memcpy, memmove and memset of the host.
  *
  * Linking: rt staticlib solvability
