@@ -7,8 +7,9 @@ use native.Mathlib.Omega.{arith}
 use lib.ListN.{length, getD, take}
 use lib.Seq.{take-take}
 use Rattle.counting.specs.Sets.{#, Some}
-use Rattle.columns.specs.Columns.{width, members}
-use Rattle.columns.specs.ColumnSets.{whole}
+use Rattle.columns.specs.Columns.{word-width, width, members}
+use Rattle.columns.specs.ColumnSets.{whole, row-numbers}
+use Rattle.columns.specs.Words.Rows.{rows-below}
 use Rattle.columns.specs.Words.Bytes.{AreBytes}
 use Rattle.rank.specs.Layered.Model.{Model}
 use Rattle.mixed_models.specs.Mixed.{Mixed}
@@ -54,7 +55,11 @@ read-then-write s cs ws bytes r cs′ ws′ h z out l w out′ k =
     read-then-written s cs ws bytes (r .p) (r .n) (r .a) (r .b) cs′ ws′ (subst (λ (j : ℕ). ReadCall s cs ws j (r .p) (r .n) (r .a) (r .b) cs′ ws′) z h) out l
     (w .refusal) (w .length) out′ k
 
--- A model that was written is read again as it was, into any areas that hold it; the numbers of its parameter rows fit a set's room.
+-- The numbers of parameter rows that an area of words has fit a set's room.
+pub rows-of-words-fit : (words : List ℕ) → ((i : ℕ) → getD words i 0 < 2 ^ word-width) → (r : ℕ) → getD (row-numbers words) r 0 < 2 ^ width
+rows-of-words-fit = rows-below
+
+-- A model that was written is read again as it was, into any areas that hold it; the numbers of its parameter rows fit a set's room (`rows-of-words-fit`).
 pub write-then-read : (p n a b : ℕ) (cs ws : List ℕ) → ((i : ℕ) → getD ws i 0 < 2 ^ width)
     → (out : List ℕ) (w : Written) (out′ : List ℕ) → FileWritten p n a b cs ws out w out′ → w .refusal ≡ 0
     → (cs₂ ws₂ : List ℕ) → a * n ≤ length cs₂ → b ≤ length ws₂
