@@ -1,4 +1,5 @@
-/* Times the library's layered call, the same in plain Rust, and FLINT's ranks, on the same models in one process.
+/* Times the library's layered call, the same in plain Rust, and FLINT's ranks, on the same models in one process; then the longest
+ * file against that of the same model unnumbered.
  * Prints a line for each kind of model: its name, then microseconds a call of each method, parted by '|'. */
 #define _POSIX_C_SOURCE 200809L
 #include "harness.h"
@@ -78,10 +79,16 @@ static Model tiny(void) { return (Model){.p = 1021, .n = 2, .a = 1, .b = 1, .con
 /* ---- what is timed ---- */
 
 typedef struct {
+    uint8_t bytes[WUNDRESKA_FILE_MAX];
+    size_t length;
+} File;
+
+typedef struct {
     Model model;
     uint64_t rows[WUNDRESKA_ROWS_MAX * ROW_WORDS]; /* the parameter rows as the calls take them */
     nmod_mat_t substituted; /* constants above random numbers, modulo the large prime */
     nmod_mat_t constants;   /* modulo p */
+    File numbered, unnumbered; /* the longest file, and that of its model without numbers */
     uint8_t answer[WUNDRESKA_ANSWER_SIZE];
     slong rank;
 } Work;
@@ -92,7 +99,8 @@ static void call(ModelCall *layered, Work *w)
 {
     const Model *m = &w->model;
     memset(w->answer, 0, sizeof w->answer);
-    if (layered(m->p, m->n, m->a, m->b, m->constants, m->a * m->n, w->rows, m->b * ROW_WORDS, w->answer, sizeof w->answer))
+    if (layered(m->p, m->n, m->a, m->b, m->constants, m->a * m->n, w->rows, m->b * ROW_WORDS, false, NULL, 0, w->answer,
+                sizeof w->answer))
         abort();
 }
 
@@ -201,6 +209,44 @@ static void measure(const char *kind, Model (*make)(void))
     clear_works(works);
 }
 
+/* ---- the longest file against that of the same model unnumbered ---- */
+
+static Model longest(void)
+{
+    Model m = dense(1021, MOST, MOST);
+    for (size_t r = 0; r < m.b; r++)
+        m.parameters[r] = all_below(m.n);
+    draw_numbers(&m);
+    return m;
+}
+
+static void ask(Work *w, const File *file, size_t missing, uint32_t due)
+{
+    if (wundreska_check(file->bytes, file->length - missing, w->answer, sizeof w->answer) != due)
+        abort();
+}
+
+static void check_numbered(Work *w) { ask(w, &w->numbered, 0, WUNDRESKA_ACCEPTED); }
+static void check_unnumbered(Work *w) { ask(w, &w->unnumbered, 0, WUNDRESKA_ACCEPTED); }
+/* Without its last byte a file is judged, and not answered. */
+static void judge_numbered(Work *w) { ask(w, &w->numbered, 1, WUNDRESKA_TRUNCATED); }
+static void judge_unnumbered(Work *w) { ask(w, &w->unnumbered, 1, WUNDRESKA_TRUNCATED); }
+
+static void measure_numbers(void)
+{
+    static Work works[MODELS];
+    static Method *const methods[] = {check_numbered, check_unnumbered, judge_numbered, judge_unnumbered};
+    double t[4];
+    for (int k = 0; k < MODELS; k++) {
+        Model m = longest();
+        works[k].numbered.length = write_file(&m, works[k].numbered.bytes);
+        m.numbered = 0;
+        works[k].unnumbered.length = write_file(&m, works[k].unnumbered.bytes);
+    }
+    time_all(methods, 4, works, t);
+    printf("checked|%f|%f\njudged|%f|%f\n", t[0], t[1], t[2], t[3]);
+}
+
 int main(void)
 {
     measure("dense", dense_1021);
@@ -215,5 +261,6 @@ int main(void)
     measure("dense", dense_most);
     measure("plant-like", plant_like_most);
     measure("dense", constants_most);
+    measure_numbers();
     return 0;
 }

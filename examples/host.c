@@ -23,6 +23,7 @@ static const char *reason(uint32_t refusal)
     case WUNDRESKA_PARAMETER_BEYOND: return "a parameter stands at column n or later";
     case WUNDRESKA_TRAILING: return "bytes follow the end field";
     case WUNDRESKA_AREA_SHORT: return "the answer area is too short";
+    case WUNDRESKA_NUMBER_TWICE: return "two parameters have one number";
     case WUNDRESKA_NOT_MIXED: return "a differs from b, or the mixed question has too many columns";
     default: return "a number that this host does not know";
     }

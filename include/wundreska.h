@@ -15,10 +15,16 @@
  *   2           3       n, a, b, one byte each
  *   3, a times  2n      one constant row, two bytes an entry
  *   4, b times  8 or 12 one parameter row, a set of columns: length 8 where n is at most 64, and 12 above
+ *   6           2k      in a numbered model, behind each parameter row: the numbers, 0 to 65535, of the row's k parameters, two
+ *                       bytes each, by ascending column
  *   5           0       end; nothing follows
  *
- * Its length is 14 + a * (3 + 2n) + b * (3 + WUNDRESKA_ROW_SIZE(n)) bytes. tools/model makes a file from readable text and prints
- * one back.
+ * Its length is 14 + a * (3 + 2n) + b * (3 + WUNDRESKA_ROW_SIZE(n)) bytes, and where the model is numbered 3 * b more and two for
+ * each parameter. tools/model makes a file from readable text and prints one back.
+ *
+ * Numbers. They name the parameters, so that one that stands at two places is found and refused; they change no answer. Either
+ * every parameter row has the field of tag 6, one of length 0 where it has no parameter, or none has it: whether it follows the
+ * first parameter row decides. A model without parameter rows is not numbered.
  *
  * A set of columns or rows is WUNDRESKA_SET_SIZE bytes in an answer, and WUNDRESKA_ROW_SIZE(n) bytes in the file: column c is
  * bit c % 8 (lowest is 0) of byte c / 8.
@@ -49,9 +55,9 @@ extern "C" {
 #endif
 
 /* The version of this header and of the archive that it comes with. */
-#define WUNDRESKA_VERSION "3.0.0"
+#define WUNDRESKA_VERSION "3.1.0"
 #define WUNDRESKA_VERSION_MAJOR 3
-#define WUNDRESKA_VERSION_MINOR 0
+#define WUNDRESKA_VERSION_MINOR 1
 #define WUNDRESKA_VERSION_PATCH 0
 
 /* The limits: p is a prime from 2 to WUNDRESKA_PRIME_MAX, n is 1 to WUNDRESKA_COLUMNS_MAX, a and b are 0 to WUNDRESKA_ROWS_MAX
@@ -63,9 +69,9 @@ extern "C" {
 #define WUNDRESKA_STACK_MAX 81920
 /* How many bytes a parameter row has in the file, in a model of n columns. */
 #define WUNDRESKA_ROW_SIZE(n) ((n) <= 64 ? 8 : WUNDRESKA_SET_SIZE)
-/* The longest file that is accepted. A host may cut its reading one byte above: the refusal is that of the whole file. The launcher
- * ./check takes the number from here. */
-#define WUNDRESKA_FILE_MAX 20174
+/* The longest file that is accepted, a numbered one with a parameter at every place. A host may cut its reading one byte above: the
+ * refusal is that of the whole file. The launcher ./check takes the number from here. */
+#define WUNDRESKA_FILE_MAX 38894
 
 /* The verdicts of both calls, by the rank, the n columns and the rows: a + b of them, in a mixed model m. */
 #define WUNDRESKA_OPEN 0       /* the rank is below n: equations are lacking */
@@ -83,6 +89,7 @@ extern "C" {
 #define WUNDRESKA_CONSTANT_BEYOND 5  /* a constant is p or more */
 #define WUNDRESKA_PARAMETER_BEYOND 6 /* a parameter stands at column n or later */
 #define WUNDRESKA_TRAILING 7         /* bytes follow the end field */
+#define WUNDRESKA_NUMBER_TWICE 13    /* a parameter's number is that of a parameter before it, in the same field or an earlier one */
 /* The calling program causes this one. It comes after those of the file. */
 #define WUNDRESKA_AREA_SHORT 8       /* answer_len is below the size of the call's answer */
 /* The modeller with a mixed question causes this one, in wundreska_mixed alone. It comes last. */

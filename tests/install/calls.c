@@ -21,7 +21,7 @@ static const Entry entries[] = {
     {"wundreska_check", wundreska_check, WUNDRESKA_ANSWER_SIZE, WUNDRESKA_COLUMNS_MAX, WUNDRESKA_ROWS_MAX},
     {"wundreska_mixed", wundreska_mixed, WUNDRESKA_MIXED_SIZE, WUNDRESKA_COLUMNS_MAX / 2, WUNDRESKA_COLUMNS_MAX / 2},
 };
-enum { ENTRIES = sizeof entries / sizeof *entries, MODELS = 12, THREADS = 8, TURNS = 200, PAINT = 0xA5, STACK = 1 << 20 };
+enum { ENTRIES = sizeof entries / sizeof *entries, MODELS = 12, NUMBERED = MODELS, THREADS = 8, TURNS = 200, PAINT = 0xA5, STACK = 1 << 20 };
 
 static int passed, failed;
 
@@ -57,10 +57,10 @@ static unsigned drawn(unsigned below)
     return (unsigned)rand() % below;
 }
 
-/* Fills `file` with a model in which about `share` of 100 places are not empty. */
-static void make_model(unsigned p, unsigned n, unsigned rows, unsigned share)
+/* Fills `file` with a model in which about `share` of 100 places are not empty; its parameters may be numbered, from 0 on. */
+static void make_model(unsigned p, unsigned n, unsigned rows, unsigned share, int numbered)
 {
-    unsigned row, c;
+    unsigned row, c, number = 0, end;
     file_len = 0;
     put_head(1, 2);
     put(p & 255);
@@ -80,19 +80,27 @@ static void make_model(unsigned p, unsigned n, unsigned rows, unsigned share)
     for (row = 0; row < rows; row++) {
         uint8_t set[WUNDRESKA_SET_SIZE] = {0};
         put_head(4, WUNDRESKA_ROW_SIZE(n));
-        for (c = 0; c < n; c++)
-            if (drawn(100) < share)
+        for (c = 0, end = number; c < n; c++)
+            if (drawn(100) < share) {
                 set[c / 8] |= (uint8_t)(1 << c % 8);
+                end++;
+            }
         for (c = 0; c < WUNDRESKA_ROW_SIZE(n); c++)
             put(set[c]);
+        if (numbered)
+            for (put_head(6, 2 * (end - number)); number < end; number++) {
+                put(number & 255);
+                put(number >> 8);
+            }
     }
     put_head(5, 0);
 }
 
+/* Those from NUMBERED on are the ones before, numbered. */
 static void make_nth_model(int nth, const Entry *entry)
 {
     static const unsigned primes[] = {2, 1021, WUNDRESKA_PRIME_MAX}, shares[] = {2, 5, 40, 100};
-    make_model(primes[nth % 3], entry->columns, entry->rows, shares[nth / 3]);
+    make_model(primes[nth % 3], entry->columns, entry->rows, shares[nth % NUMBERED / 3], nth >= NUMBERED);
 }
 
 /* --- the call on a thread of its own */
@@ -168,7 +176,7 @@ static void try_stack(const Entry *entry)
 {
     size_t most = 0;
     int nth;
-    for (nth = 0; nth < MODELS; nth++) {
+    for (nth = 0; nth < NUMBERED + MODELS; nth++) {
         size_t taken;
         make_nth_model(nth, entry);
         taken = stack_of_call(entry);
@@ -184,7 +192,7 @@ static void try_threads(const Entry *entry)
     static Job jobs[THREADS];
     pthread_t threads[THREADS];
     int k, same = 1;
-    make_nth_model(7, entry);
+    make_nth_model(NUMBERED + 7, entry);
     for (k = 0; k < THREADS; k++) {
         jobs[k].entry = entry;
         if (pthread_create(&threads[k], NULL, call_often, &jobs[k]) != 0)

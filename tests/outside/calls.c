@@ -15,7 +15,7 @@ typedef struct {
     uint8_t before[ROOM]; /* the margin and the lent bytes, as they were before the call */
 } Area;
 
-static Area file_area, constants_area, rows_area, out_area;
+static Area file_area, constants_area, rows_area, numbers_area, out_area;
 
 static void open_area(Area *area)
 {
@@ -44,9 +44,9 @@ static uint8_t *lend_copy(Area *area, size_t length, const void *content, size_t
     return start;
 }
 
-static uint8_t *lend_to_write(size_t length)
+static uint8_t *lend_to_write(Area *area, size_t length)
 {
-    uint8_t *start = lend(&out_area, length);
+    uint8_t *start = lend(area, length);
     uint8_t pattern = draw(256);
     for (size_t i = 0; i < length; i++)
         start[i] = pattern + 37 * i;
@@ -79,7 +79,7 @@ static Called outcome(uint32_t refusal, size_t written)
 Called call_file(FileCall *call, const uint8_t *file, size_t length, size_t answer_length, size_t written)
 {
     const uint8_t *lent = lend_copy(&file_area, length, file, length);
-    uint8_t *answer = lend_to_write(answer_length);
+    uint8_t *answer = lend_to_write(&out_area, answer_length);
     remember(&file_area);
     remember(&out_area);
     Called called = outcome(call(lent, length, answer, answer_length), written);
@@ -89,37 +89,95 @@ Called call_file(FileCall *call, const uint8_t *file, size_t length, size_t answ
 
 Lengths exact_lengths(const Model *m, size_t out)
 {
-    return (Lengths){m->a * m->n, m->b, out};
+    return (Lengths){m->a * m->n, m->b, m->numbered ? m->b * m->n : 0, out};
 }
 
-/* As many of the model's constants and rows as it has, or where its sizes are beyond the limits, all that it holds. */
+enum { ROW = ROW_WORDS * sizeof(uint64_t) };
+
+/* The model's rows as words; how many bytes they have. */
+static size_t rows_in_bytes(const Model *m, uint64_t *words)
+{
+    size_t rows = m->b < WUNDRESKA_ROWS_MAX ? m->b : WUNDRESKA_ROWS_MAX;
+    for (size_t r = 0; r < rows; r++)
+        put_words(m->parameters[r], words + r * ROW_WORDS);
+    return rows * ROW;
+}
+
+/* How many bytes so many rows of entries have, or where sizes are beyond the limits, all that a model holds. */
+static size_t entries_in_bytes(const Model *m, size_t rows)
+{
+    int sizes_fit = m->n <= WUNDRESKA_COLUMNS_MAX && rows <= WUNDRESKA_ROWS_MAX;
+    return sizes_fit ? rows * m->n * sizeof(uint16_t) : sizeof m->constants;
+}
+
 static void *lend_constants(const Model *m, size_t length)
 {
-    size_t all = COUNT(m->constants), sizes_fit = m->n <= WUNDRESKA_COLUMNS_MAX && m->a <= WUNDRESKA_ROWS_MAX;
-    return lend_copy(&constants_area, length * sizeof(uint16_t), m->constants,
-                     (sizes_fit ? m->n * m->a : all) * sizeof(uint16_t));
+    return lend_copy(&constants_area, length * sizeof(uint16_t), m->constants, entries_in_bytes(m, m->a));
 }
 
 static void *lend_rows(const Model *m, size_t length)
 {
     static uint64_t words[WUNDRESKA_ROWS_MAX * ROW_WORDS];
-    size_t rows = m->b < WUNDRESKA_ROWS_MAX ? m->b : WUNDRESKA_ROWS_MAX;
-    for (size_t r = 0; r < rows; r++)
-        put_words(m->parameters[r], words + r * ROW_WORDS);
-    return lend_copy(&rows_area, length * ROW_WORDS * sizeof(uint64_t), words, rows * ROW_WORDS * sizeof(uint64_t));
+    size_t rows = rows_in_bytes(m, words);
+    return lend_copy(&rows_area, length * ROW, words, rows);
+}
+
+static void *lend_numbers(const Model *m, size_t length)
+{
+    return lend_copy(&numbers_area, length * sizeof(uint16_t), m->numbers, entries_in_bytes(m, m->b));
+}
+
+static void remember_model(void)
+{
+    remember(&constants_area);
+    remember(&rows_area);
+    remember(&numbers_area);
+}
+
+static int model_unchanged(void)
+{
+    return unchanged(&constants_area, 0) && unchanged(&rows_area, 0) && unchanged(&numbers_area, 0);
 }
 
 Called call_model(ModelCall *call, const Model *m, Lengths l, size_t written)
 {
-    void *constants = lend_constants(m, l.constants), *rows = lend_rows(m, l.rows);
-    uint8_t *out = lend_to_write(l.out);
-    remember(&constants_area);
-    remember(&rows_area);
+    void *constants = lend_constants(m, l.constants), *rows = lend_rows(m, l.rows), *numbers = lend_numbers(m, l.numbers);
+    uint8_t *out = lend_to_write(&out_area, l.out);
+    remember_model();
     remember(&out_area);
-    Called called = outcome(
-        call(m->p, m->n, m->a, m->b, constants, l.constants, rows, l.rows * ROW_WORDS, out, l.out), written);
-    called.intact = called.intact && unchanged(&constants_area, 0) && unchanged(&rows_area, 0);
+    Called called = outcome(call(m->p, m->n, m->a, m->b, constants, l.constants, rows, l.rows * ROW_WORDS, m->numbered, numbers,
+                                 l.numbers, out, l.out), written);
+    called.intact = called.intact && model_unchanged();
     return called;
+}
+
+/* What a call is to leave at the front of an area, remembered as if it had been there; whether the area has room for it. */
+static int remember_due(Area *area, const void *content, size_t length)
+{
+    if (length > area->length)
+        return 0;
+    memcpy(area->before + MARGIN, content, length);
+    return 1;
+}
+
+static int remember_due_model(const Model *m)
+{
+    static uint64_t words[WUNDRESKA_ROWS_MAX * ROW_WORDS];
+    return remember_due(&constants_area, m->constants, entries_in_bytes(m, m->a)) &&
+           remember_due(&rows_area, words, rows_in_bytes(m, words)) &&
+           (!m->numbered || remember_due(&numbers_area, m->numbers, entries_in_bytes(m, m->b)));
+}
+
+Reading call_read(const uint8_t *file, size_t length, const Model *m, Lengths l)
+{
+    const uint8_t *lent = lend_copy(&file_area, length, file, length);
+    void *constants = lend_to_write(&constants_area, l.constants * sizeof(uint16_t)), *rows = lend_to_write(&rows_area, l.rows * ROW);
+    void *numbers = lend_to_write(&numbers_area, l.numbers * sizeof(uint16_t));
+    remember(&file_area);
+    remember_model();
+    uint32_t refusal = harness_read(lent, length, constants, l.constants, rows, l.rows * ROW_WORDS, numbers, l.numbers);
+    int due = refusal || remember_due_model(m);
+    return (Reading){refusal, due && unchanged(&file_area, 0) && model_unchanged()};
 }
 
 Touched call_touching(const Model *m, Touching t)

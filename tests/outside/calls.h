@@ -12,12 +12,12 @@ typedef struct {
     uint8_t out[WUNDRESKA_FILE_MAX + 100]; /* the front of the area written to */
 } Called;
 
-/* How many constants, parameter rows and bytes the areas hold. */
+/* How many constants, parameter rows, numbers and bytes the areas hold. */
 typedef struct {
-    size_t constants, rows, out;
+    size_t constants, rows, numbers, out;
 } Lengths;
 
-/* Areas that just hold what the model needs, and so many bytes to write to. */
+/* Areas that just hold what the model needs, no number where it is not numbered, and so many bytes to write to. */
 Lengths exact_lengths(const Model *model, size_t out);
 
 /* A call on a file, with an answer area of this length, which writes `written` bytes where it is accepted. */
@@ -27,6 +27,14 @@ Called call_file(FileCall *call, const uint8_t *file, size_t length, size_t answ
 /* A call on a model, which writes `written` bytes where it is accepted. What the areas have beyond the model is not a
  * legal constant or parameter row. */
 Called call_model(ModelCall *call, const Model *model, Lengths lengths, size_t written);
+
+/* The reading of a file into areas, the model being the one that it holds. */
+typedef struct {
+    uint32_t refusal;
+    int as_due; /* every lent byte is as before, but where the call accepts: there the model's are at the front of the areas */
+} Reading;
+
+Reading call_read(const uint8_t *file, size_t length, const Model *model, Lengths lengths);
 
 /* A count of rows that touch a set: n and b of the call's own, how many rows the area holds, and the set's bytes. */
 typedef struct {

@@ -24,6 +24,7 @@ static int compare_all(const char *models)
     compare_ranks();
     compare_rows();
     compare_wide();
+    compare_numbers();
     return end_tally() > 0;
 }
 

@@ -21,11 +21,12 @@ const char *mixed_complaint(const Model *model, size_t rank, Truth form);
 
 /* ---- questions.c ---- */
 
-/* A question that a host asks about a file. */
+/* A question that a host asks about a file, and a program about a model that it hands over. */
 typedef struct {
     FileCall *call;
+    ModelCall *handed;
     size_t size;                          /* bytes of its answer */
-    uint32_t (*judge)(const Model *model); /* its own refusal of a sound file's model, or 0 */
+    uint32_t (*judge)(const Model *model); /* its own refusal of a sound model, or 0 */
     const char *(*complaint)(const Model *model, const Called *called);
 } Question;
 
@@ -34,6 +35,13 @@ extern const Question layered_question, mixed_question;
 /* About the call on any bytes, with an answer area of any length; the model is that of the file. */
 const char *file_complaint(const Question *question, const uint8_t *file, size_t length, size_t answer_length, Model *model);
 
+/* About the call on a model handed over in areas of any lengths, sound or not. */
+const char *handed_complaint(const Question *question, const Model *model, Lengths lengths);
+
+/* About the writing of a model, and the reading of any bytes into areas; the model is that of the file. */
+const char *write_complaint(const Model *model, Lengths lengths);
+const char *read_complaint(const uint8_t *file, size_t length, Lengths lengths, Model *model);
+
 /* Where n, a and b stand in a file. */
 enum { SIZES_AT = 8 };
 
@@ -41,8 +49,19 @@ enum { SIZES_AT = 8 };
 void try_area(const Question *question, const uint8_t *file, size_t length, size_t answer_length);
 void try_file(const Question *question, const uint8_t *file, size_t length);
 
+/* Every prefix of a file, every bit of it turned, and so many random damages, each asked the layered question. */
+void try_prefixes(const uint8_t *file, size_t length);
+void try_flips(uint8_t *file, size_t length);
+void try_damages(const uint8_t *file, size_t length, size_t count);
+
 /* On small models, with areas from nothing to twice the answer. */
 void try_areas_of_every_length(const Question *question);
+
+/* ---- compare_refusals.c ---- */
+
+/* Puts up to all faults into a sound model, but for its numbers. The lengths are those of the sound one, some short by one, some
+ * longer; a call writes so many bytes. */
+Lengths spoil(Model *model, size_t written);
 
 /* ---- the categories ---- */
 
@@ -61,5 +80,6 @@ void compare_mixed_sizes(void);
 void compare_spoilt_models(void);
 void compare_rows(void); /* compare_rows.c */
 void compare_wide(void); /* compare_wide.c */
+void compare_numbers(void); /* compare_numbers.c */
 
 #endif

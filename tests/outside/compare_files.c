@@ -4,15 +4,6 @@
 
 #include <string.h>
 
-static const char *written_complaint(const Model *m, const uint8_t *file, size_t length, size_t room)
-{
-    Called c = call_model(harness_write, m, exact_lengths(m, room), length);
-    const char *complaint = refusal_complaint(&c, room < length ? 8 : 0);
-    if (complaint || room < length)
-        return complaint;
-    return memcmp(c.out, file, length) ? "the file's bytes" : NULL;
-}
-
 void compare_files(void)
 {
     static uint8_t file[WUNDRESKA_FILE_MAX];
@@ -20,7 +11,7 @@ void compare_files(void)
     for (int i = 0; i < 3000; i++) {
         Model m = draw_model(all_primes, COUNT(all_primes), WUNDRESKA_COLUMNS_MAX, WUNDRESKA_ROWS_MAX);
         size_t length = write_file(&m, file), room = one_in(3) ? length - 1 : length + draw(50);
-        count_case(written_complaint(&m, file, length, room), &m);
+        count_case(write_complaint(&m, exact_lengths(&m, room)), &m);
     }
     begin_category("files checked, with answer areas just right, short and longer");
     for (int i = 0; i < 2000; i++) {
@@ -33,13 +24,13 @@ void compare_files(void)
 
 /* ---- damaged files ---- */
 
-static void try_prefixes(const uint8_t *file, size_t length)
+void try_prefixes(const uint8_t *file, size_t length)
 {
     for (size_t cut = 0; cut < length; cut++)
         try_file(&layered_question, file, cut);
 }
 
-static void try_flips(uint8_t *file, size_t length)
+void try_flips(uint8_t *file, size_t length)
 {
     for (size_t bit = 0; bit < 8 * length; bit++) {
         file[bit / 8] ^= 1 << bit % 8;
@@ -48,7 +39,7 @@ static void try_flips(uint8_t *file, size_t length)
     }
 }
 
-static void try_damages(const uint8_t *file, size_t length, size_t count)
+void try_damages(const uint8_t *file, size_t length, size_t count)
 {
     static uint8_t damaged[WUNDRESKA_FILE_MAX + DAMAGE_ROOM];
     for (size_t i = 0; i < count; i++) {
@@ -123,7 +114,7 @@ void compare_primes(void)
         p = i <= 70000 ? i : 65537 + draw(UINT32_MAX - 65537);
         Model m = {.p = p, .n = 1};
         Called c = call_model(harness_layered, &m, exact_lengths(&m, WUNDRESKA_ANSWER_SIZE), WUNDRESKA_ANSWER_SIZE);
-        count_case(refusal_complaint(&c, judge_areas(&m, 0, 0)), &m);
+        count_case(refusal_complaint(&c, judge_areas(&m, 0, 0, 0)), &m);
     }
 }
 

@@ -31,6 +31,7 @@ static const struct {
     {"chilled_water_loop", LAYERED, WUNDRESKA_OPEN, 8, NOT_STATED, 192},
     {"chilled_water_loop_filled", LAYERED, WUNDRESKA_SURPLUS, 9, 511, 0},
     {"chilled_water_loop_square", LAYERED, WUNDRESKA_DETERMINED, 9, 511, 0},
+    {"chilled_water_loop_numbered", LAYERED, WUNDRESKA_DETERMINED, 9, 511, 0},
     {"two_meters", MIXED, WUNDRESKA_SURPLUS, 1, NOT_STATED, NOT_STATED},
     {"milk_preheater", LAYERED, WUNDRESKA_OPEN, 7, NOT_STATED, 254},
     {"heat_recovery", LAYERED, WUNDRESKA_DETERMINED, 96, NOT_STATED, 0},

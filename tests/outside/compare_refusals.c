@@ -2,8 +2,6 @@
 #include "compare.h"
 #include "numbers.h"
 
-#include <string.h>
-
 /* ---- the edges that document 01 names, with its numbers ---- */
 
 static void expect_file(const uint8_t *file, size_t length, const Model *m, uint32_t refusal)
@@ -104,8 +102,7 @@ static void spoil_parameter(Model *m)
         m->parameters[draw(m->b + 1)] |= just(m->n + draw(WIDTH - m->n));
 }
 
-/* Up to all faults; the lengths are those of the sound model, some short by one, some longer. */
-static Lengths spoil(Model *m, size_t written)
+Lengths spoil(Model *m, size_t written)
 {
     Lengths l = exact_lengths(m, written);
     if (one_in(3))
@@ -124,45 +121,6 @@ static Lengths spoil(Model *m, size_t written)
     return l;
 }
 
-static uint32_t expected_refusal(const Model *m, Lengths l, int mixed, size_t written)
-{
-    uint32_t refusal = judge_areas(m, l.constants, l.rows);
-    if (!refusal && mixed)
-        refusal = judge_mixed(m);
-    if (!refusal && l.out < written)
-        refusal = 8;
-    return refusal;
-}
-
-static const char *layered_refusal_complaint(const Model *m, Lengths l)
-{
-    Called c = call_model(harness_layered, m, l, WUNDRESKA_ANSWER_SIZE);
-    uint32_t refusal = expected_refusal(m, l, 0, WUNDRESKA_ANSWER_SIZE);
-    const char *complaint = refusal_complaint(&c, refusal);
-    return complaint || refusal ? complaint : called_complaint(m, &c, layered_truth(m));
-}
-
-static const char *mixed_refusal_complaint(const Model *m, Lengths l)
-{
-    Called c = call_model(harness_mixed, m, l, WUNDRESKA_MIXED_SIZE);
-    uint32_t refusal = expected_refusal(m, l, 1, WUNDRESKA_MIXED_SIZE);
-    const char *complaint = refusal_complaint(&c, refusal);
-    return complaint || refusal ? complaint : called_mixed_complaint(m, &c);
-}
-
-/* The file of a spoilt model that is accepted may be another than that of the sound one. */
-static const char *write_refusal_complaint(const Model *m, Lengths l)
-{
-    static uint8_t file[WUNDRESKA_FILE_MAX];
-    uint32_t refusal = judge_areas(m, l.constants, l.rows);
-    size_t length = refusal ? 0 : write_file(m, file);
-    if (!refusal && l.out < length)
-        refusal = 8;
-    Called c = call_model(harness_write, m, l, length);
-    const char *complaint = refusal_complaint(&c, refusal);
-    return complaint || refusal || !memcmp(c.out, file, length) ? complaint : "the file's bytes";
-}
-
 void compare_spoilt_models(void)
 {
     static uint8_t file[WUNDRESKA_FILE_MAX];
@@ -170,19 +128,19 @@ void compare_spoilt_models(void)
     for (int i = 0; i < 40000; i++) {
         Model m = draw_model(all_primes, COUNT(all_primes), 10, 8);
         Lengths l = spoil(&m, WUNDRESKA_ANSWER_SIZE);
-        count_case(layered_refusal_complaint(&m, l), &m);
+        count_case(handed_complaint(&layered_question, &m, l), &m);
     }
     begin_category("mixed models handed over with several faults");
     for (int i = 0; i < 40000; i++) {
         Model m = one_in(3) ? draw_model(all_primes, COUNT(all_primes), WUNDRESKA_COLUMNS_MAX, 10)
                             : draw_mixed(all_primes, COUNT(all_primes), 10);
         Lengths l = spoil(&m, WUNDRESKA_MIXED_SIZE);
-        count_case(mixed_refusal_complaint(&m, l), &m);
+        count_case(handed_complaint(&mixed_question, &m, l), &m);
     }
     begin_category("models to write, with several faults");
     for (int i = 0; i < 40000; i++) {
         Model m = draw_model(all_primes, COUNT(all_primes), 10, 8);
         Lengths l = spoil(&m, write_file(&m, file));
-        count_case(write_refusal_complaint(&m, l), &m);
+        count_case(write_complaint(&m, l), &m);
     }
 }

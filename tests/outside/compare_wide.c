@@ -152,10 +152,10 @@ static void compare_odd_areas(void)
     uint8_t answer[WUNDRESKA_ANSWER_SIZE];
     begin_category("areas of parameter rows with a word more and a word less than the rows have");
     for (size_t b = 0; b <= FEW_ROWS; b++) {
-        uint32_t longer = harness_layered(2, 1, 0, b, NULL, 0, words, ROW_WORDS * b + 1, answer, sizeof answer);
+        uint32_t longer = harness_layered(2, 1, 0, b, NULL, 0, words, ROW_WORDS * b + 1, false, NULL, 0, answer, sizeof answer);
         count_case(longer == 0 ? NULL : "a word more than the rows have is refused", &none);
         if (b > 0) {
-            uint32_t shorter = harness_layered(2, 1, 0, b, NULL, 0, words, ROW_WORDS * b - 1, answer, sizeof answer);
+            uint32_t shorter = harness_layered(2, 1, 0, b, NULL, 0, words, ROW_WORDS * b - 1, false, NULL, 0, answer, sizeof answer);
             count_case(shorter == WUNDRESKA_AREA_SHORT ? NULL : "a word less than the rows have is accepted", &none);
         }
     }

@@ -84,11 +84,23 @@ static void try_input(size_t length)
 
 /* ---- the inputs ---- */
 
-/* A model of up to so many columns and rows, in a file; most often one that the program answers. */
+/* A model of up to so many columns and rows; most often one that the program answers. */
+static Model draw_input(size_t columns, size_t rows)
+{
+    return mixed && !one_in(5) ? draw_mixed(all_primes, COUNT(all_primes), columns)
+                               : draw_model(all_primes, COUNT(all_primes), columns, rows);
+}
+
 static size_t draw_file(size_t columns, size_t rows)
 {
-    Model m = mixed && !one_in(5) ? draw_mixed(all_primes, COUNT(all_primes), columns)
-                                  : draw_model(all_primes, COUNT(all_primes), columns, rows);
+    Model m = draw_input(columns, rows);
+    return write_file(&m, input);
+}
+
+static size_t draw_numbered_file(size_t columns, size_t rows)
+{
+    Model m = draw_input(columns, rows);
+    draw_numbers(&m);
     return write_file(&m, input);
 }
 
@@ -117,13 +129,17 @@ static void try_stored_models(const char *folder)
     globfree(&found);
 }
 
-/* The longest file there is; p is given, since small ones have short constants all the same. */
+/* The longest file there is, with a numbered parameter at every place; p is given, since small ones have short constants all the
+ * same. */
 static size_t write_longest(uint32_t p)
 {
     Model m;
     do
         m = draw_model(&p, 1, WUNDRESKA_COLUMNS_MAX, WUNDRESKA_ROWS_MAX);
     while (m.n < WUNDRESKA_COLUMNS_MAX || m.a < WUNDRESKA_ROWS_MAX || m.b < WUNDRESKA_ROWS_MAX);
+    for (size_t r = 0; r < m.b; r++)
+        m.parameters[r] = all_below(m.n);
+    draw_numbers(&m);
     return write_file(&m, input);
 }
 
@@ -182,6 +198,17 @@ static void try_damaged_files(int count, size_t columns, size_t rows)
     }
 }
 
+static void try_numbered_files(void)
+{
+    begin_category("numbered files, sound and damaged");
+    for (int i = 0; i < 400; i++)
+        try_input(draw_numbered_file(12, 12));
+    for (int i = 0; i < 100; i++)
+        try_input(draw_numbered_file(WUNDRESKA_COLUMNS_MAX, WUNDRESKA_ROWS_MAX));
+    for (int i = 0; i < 500; i++)
+        try_input(damage_file(input, draw_numbered_file(8, 6)));
+}
+
 /* A read of a pipe gives what has come so far, so that one read is not enough. */
 static void try_pieces(void)
 {
@@ -208,6 +235,7 @@ static int compare_all(const char *models)
     try_damaged_files(2500, 8, 6);
     try_damaged_files(300, WUNDRESKA_COLUMNS_MAX, WUNDRESKA_ROWS_MAX);
     try_pieces();
+    try_numbered_files();
     return end_tally() > 0;
 }
 

@@ -165,6 +165,18 @@ Model draw_mixed(const uint32_t *primes, size_t primes_count, size_t limit)
     return m;
 }
 
+/* ---- parameters' numbers ---- */
+
+/* By an odd step, modulo 65,536, no number comes again; most often it is to the next number, up or down. */
+void draw_numbers(Model *m)
+{
+    uint16_t number = draw(UINT16_MAX + 1), step = one_in(3) ? 2 * draw(UINT16_MAX / 2 + 1) + 1 : one_in(2) ? 1 : UINT16_MAX;
+    m->numbered = 1;
+    for (size_t r = 0; r < m->b; r++)
+        for (size_t c = 0; c < m->n; c++)
+            m->numbers[r * m->n + c] = has(m->parameters[r], c) ? number += step : number;
+}
+
 /* ---- models of a rank that is known ---- */
 
 static void shuffle(size_t *numbers, size_t count)

@@ -19,6 +19,8 @@ typedef struct {
     size_t n, a, b;
     uint16_t constants[WUNDRESKA_ROWS_MAX * WUNDRESKA_COLUMNS_MAX]; /* row by row, n to a row */
     Set parameters[WUNDRESKA_ROWS_MAX];                             /* the columns at which each row has a parameter */
+    int numbered;                                                   /* whether the parameters have numbers */
+    uint16_t numbers[WUNDRESKA_ROWS_MAX * WUNDRESKA_COLUMNS_MAX];   /* row by row, n to a row; void where no parameter stands */
 } Model;
 
 /* The set of one number, and whether a set has it. */
@@ -52,6 +54,10 @@ Model draw_model(const uint32_t *primes, size_t primes_count, size_t columns, si
 /* The same with a = b and a + n up to the limit. */
 Model draw_mixed(const uint32_t *primes, size_t primes_count, size_t limit);
 
+/* Gives each parameter a number of its own. A place without a parameter repeats the one before, so that whoever reads it meets a
+ * number twice. */
+void draw_numbers(Model *model);
+
 /* How a model is read: with a + b rows, or with a = b. */
 typedef enum { LAYERED, MIXED } Kind;
 
@@ -70,11 +76,11 @@ Model layered_form(const Model *mixed);
 /* The file's bytes; its length. */
 size_t write_file(const Model *model, uint8_t *out);
 
-/* The refusal of a file, or 0 with the model that it holds. */
+/* The refusal of a file, or 0 with the model that it holds; of a numbered one, places without a parameter have number 0. */
 uint32_t judge_file(const uint8_t *file, size_t length, Model *model);
 
-/* The refusal of a model handed over in areas for so many constants and rows, or 0. */
-uint32_t judge_areas(const Model *model, size_t constants, size_t rows);
+/* The refusal of a model handed over in areas for so many constants, rows and numbers, or 0. */
+uint32_t judge_areas(const Model *model, size_t constants, size_t rows, size_t numbers);
 
 /* The refusal of the mixed question about a model that is not refused, or 0. */
 uint32_t judge_mixed(const Model *model);

@@ -33,7 +33,8 @@ pub fn long_enough() {
     read_into(&file, &mut others, 3, &mut more, 4);
 }
 
-// The file is read into the first k constants and the first j words of parameter rows; both areas are printed whole.
+// The file, which is unnumbered, is read into the first k constants, the first j words of parameter rows and no number; both areas are
+// printed whole.
 fn read_into(file: &[u8], constants: &mut [u16], k: usize, parameters: &mut [u64], j: usize) {
     if constants.len() < k {
         return;
@@ -41,7 +42,13 @@ fn read_into(file: &[u8], constants: &mut [u16], k: usize, parameters: &mut [u64
     if parameters.len() < j {
         return;
     }
-    let r = loader::read_file(file, &mut constants[..k], &mut parameters[..j]);
+    let mut numbers = [7u16; 1];
+    let r = loader::read_file(
+        file,
+        &mut constants[..k],
+        &mut parameters[..j],
+        &mut numbers[..0],
+    );
     said::sizes(r);
     said::constants(constants);
     said::parameters(parameters);
@@ -68,7 +75,18 @@ fn write_into(out: &mut [u8], k: usize, p: u32) {
     }
     let constants = [1u16, 0];
     let parameters = [2u64, 0];
-    let w = writer::write_file(p, 2, 1, 1, &constants, &parameters, &mut out[..k]);
+    let numbers = [0u16; 1];
+    let w = writer::write_file(
+        p,
+        2,
+        1,
+        1,
+        &constants,
+        &parameters,
+        false,
+        &numbers[..0],
+        &mut out[..k],
+    );
     said::number(w.refusal as u64);
     said::number(w.length as u64);
     said::bytes(out);

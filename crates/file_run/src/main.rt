@@ -1,8 +1,9 @@
-// Runs the calls on files and models at the edges that document 01 names and prints what they give. The stored output is computed
-// apart from this program.
+// Runs the calls on files and models at the edges that documents 01 and 02 (E4) name and prints what they give. The stored output
+// is computed apart from this program.
 mod areas;
 mod longest;
 mod models;
+mod numbered;
 mod rows;
 mod said;
 
@@ -50,7 +51,7 @@ pub fn sample() -> [u8; 32] {
 }
 
 // The refusals of every part that starts the file.
-fn prefixes(file: &[u8]) {
+pub fn prefixes(file: &[u8]) {
     label(b"prefixes");
     let mut k = 0;
     while k < file.len() {
@@ -61,7 +62,7 @@ fn prefixes(file: &[u8]) {
 }
 
 // The refusals of the file with one more at each byte in turn, modulo 256.
-fn changed(file: &mut [u8]) {
+pub fn changed(file: &mut [u8]) {
     label(b"changed");
     let mut i = 0;
     while i < file.len() {
@@ -81,7 +82,7 @@ fn more(x: u8) -> u8 {
     x + 1
 }
 
-fn set_two(file: &mut [u8], at: usize, lo: u8, hi: u8) {
+pub fn set_two(file: &mut [u8], at: usize, lo: u8, hi: u8) {
     if file.len() < 2 {
         return;
     }
@@ -132,7 +133,18 @@ fn one_byte_more() {
     let constants = [1u16, 0];
     let parameters = [2u64, 0];
     let mut out = [0u8; 33];
-    let w = writer::write_file(1021, 2, 1, 1, &constants, &parameters, &mut out);
+    let numbers = [0u16; 1];
+    let w = writer::write_file(
+        1021,
+        2,
+        1,
+        1,
+        &constants,
+        &parameters,
+        false,
+        &numbers[..0],
+        &mut out,
+    );
     label(b"written");
     number(w.refusal as u64);
     number(w.length as u64);
@@ -181,5 +193,7 @@ fn main() {
     areas::written();
     rows_of_document();
     models::handed_over();
-    longest::there_and_back();
+    numbered::small();
+    longest::unnumbered();
+    longest::numbered();
 }

@@ -1,18 +1,24 @@
-// Models handed over, judged.
+// Models handed over without numbers, judged.
 use crate::said;
+
+fn judged_unnumbered(p: u32, n: usize, a: usize, b: usize, constants: &[u16], parameters: &[u64]) {
+    let numbers = [0u16; 1];
+    let r = format::judge_model(p, n, a, b, constants, parameters, false, &numbers[..0]);
+    said::number(r as u64);
+}
 
 // A model with two constants 1 0 and a parameter row {1}.
 fn judged(p: u32, n: usize, a: usize, b: usize) {
     let constants = [1u16, 0];
     let parameters = [2u64, 0];
-    said::number(format::judge_model(p, n, a, b, &constants, &parameters) as u64);
+    judged_unnumbered(p, n, a, b, &constants, &parameters);
 }
 
 // A model of one constant and one parameter row, at n 2.
 fn with_contents(p: u32, constant: u16, set: u64) {
     let constants = [0u16, constant];
     let parameters = [set, 0];
-    said::number(format::judge_model(p, 2, 1, 1, &constants, &parameters) as u64);
+    judged_unnumbered(p, 2, 1, 1, &constants, &parameters);
 }
 
 fn accepted() {

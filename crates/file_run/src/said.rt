@@ -22,6 +22,7 @@ pub fn sizes(r: loader::Sizes) {
     number(r.n as u64);
     number(r.a as u64);
     number(r.b as u64);
+    number(r.numbered as u64);
 }
 
 pub fn bytes(xs: &[u8]) {
@@ -69,6 +70,14 @@ pub fn checksum(xs: &[u8]) -> u64 {
         i = i + 1;
     }
     sum
+}
+
+// The bytes from k on, or none where there are fewer.
+pub fn back(xs: &[u8], k: usize) -> &[u8] {
+    if k <= xs.len() {
+        return &xs[k..];
+    }
+    &xs[..0]
 }
 
 // The first k bytes, or all where there are fewer.

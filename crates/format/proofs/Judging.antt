@@ -9,9 +9,9 @@ use lib.ListN.{length, take, drop, length-drop}
 use lib.Seq.{length-take-le}
 use borrow.Author.Tests.{le-leb, lt-leb}
 use Rattle.format.specs.declared.judge.Judged.{Judged}
-use Rattle.format.specs.Refusals.{truncated, unexpected, number-of, Tests, _then_, head-bytes, first-refusal, head-test, due-test, body-test}
+use Rattle.format.specs.Refusals.{truncated, unexpected, number-of, Tests, _then_, head-bytes, first-refusal, where-accepted, head-test, due-test, body-test}
 use Rattle.format.specs.RefusalLaws.{first-fails, first-passes, first-none, then-refused, then-passed, zero-then, where-refused, accepted-value}
-use Rattle.format.specs.File.Piece.{Body, Piece, field, head-tests, many-tests, many-rest, seq, closed, Judgement, said-body, said-rest}
+use Rattle.format.specs.File.Piece.{Body, Piece, field, head-tests, many-tests, many-rest, chain-tests, chain-rest, seq, closed, Judgement, said-body, said-rest}
 use Rattle.format.specs.File.PieceLaws.{head-good}
 use Rattle.format.proofs.Parts.{Ends, ends-within, left-part}
 
@@ -44,6 +44,14 @@ module _ {ts : Tests} {rest : List ℕ} {r : Judged} where
 
       pub next-part : {s : List ℕ} → Ends rest s → take (length s - (length s - r .left)) (drop (length s - r .left) s) ≡ rest
       next-part f = left-part f accepted-left
+
+-- tests after those that passed
+pub after-passed : (ts : Tests) {us : Tests} {rest : List ℕ} {r : Judged} → first-refusal ts ≡ 0 → Judgement us rest r → Judgement (ts then us) rest r
+after-passed ts {us} {rest} {r} e j =
+    record {
+      refusal-is = then-passed ts us (r .refusal) e (j .refusal-is);
+      left-is = j .left-is ∙ ap (λ (k : ℕ). where-accepted k (length rest) 0) (then-passed ts us (first-refusal us) e refl);
+    }
 
 -- more tests after those that passed, and after those of which one failed
 module _ {ts : Tests} {rest : List ℕ} {r : Judged} (us : Tests) (j : Judgement ts rest r) where
@@ -136,6 +144,42 @@ module _ {A : Type 0} {P : Piece A} {k todo : ℕ} {s rest : List ℕ} (t : Todo
       none (suc i) l = absurd (omega arith)
 
       over : (i : ℕ) → i ≤ 0 → many-rest P i rest ≡ rest
+      over zero l = refl
+      over (suc i) l = absurd (omega arith)
+
+-- the same of pieces that go by those before
+pub record ChainTodo {S A : Type 0} (P : S → Piece A) (step : S → A → S) (k : ℕ) (x₀ : S) (s : List ℕ) (todo : ℕ) (x : S) (rest : List ℕ) : Type 0 where
+  pub same-refusal : first-refusal (chain-tests P step k x₀ s) ≡ first-refusal (chain-tests P step todo x rest)
+  pub same-rest : chain-rest P step k x₀ s ≡ chain-rest P step todo x rest
+
+pub chain-all : {S A : Type 0} {P : S → Piece A} {step : S → A → S} {k : ℕ} {x : S} {s : List ℕ} → ChainTodo P step k x s k x s
+chain-all = record { same-refusal = refl; same-rest = refl }
+
+module _ {S A : Type 0} {P : S → Piece A} {step : S → A → S} {k : ℕ} {x₀ : S} {s : List ℕ} {todo : ℕ} {x : S} {rest : List ℕ} (t : ChainTodo P step k x₀ s todo x rest) where
+  pub chain-next : 0 < todo → (next : List ℕ) → first-refusal (P x .tests rest) ≡ 0 → next ≡ P x .rest rest → ChainTodo P step k x₀ s (todo - 1) (step x (P x .dec rest)) next
+  chain-next l next e q = go todo l t
+    where
+      go : (j : ℕ) → 0 < j → ChainTodo P step k x₀ s j x rest → ChainTodo P step k x₀ s (j - 1) (step x (P x .dec rest)) next
+      go zero l t = absurd (omega arith)
+      go (suc j) l t =
+          let m : suc j - 1 ≡ j = omega arith in
+          rw (m, q) (record { same-refusal = t .same-refusal ∙ sym (then-passed (P x .tests rest) _ _ e refl); same-rest = t .same-rest })
+
+  pub chain-refused : 0 < todo → {r : Judged} → Judgement (P x .tests rest) (P x .rest rest) r → r .refusal ≢ 0 → Judgement (chain-tests P step k x₀ s) (chain-rest P step k x₀ s) r
+  chain-refused l {r} j h = refuses (first todo l ∙ sym (t .same-refusal)) h (refused-left j h)
+    where
+      first : (i : ℕ) → 0 < i → r .refusal ≡ first-refusal (chain-tests P step i x rest)
+      first zero l = absurd (omega arith)
+      first (suc i) l = then-refused (P x .tests rest) _ (r .refusal) (j .refusal-is) h
+
+  pub chain-done : todo ≤ 0 → {r : Judged} → r .refusal ≡ 0 → r .left ≡ length rest → Judgement (chain-tests P step k x₀ s) (chain-rest P step k x₀ s) r
+  chain-done l z e = accepts z (t .same-refusal ∙ none todo l) (e ∙ ap length (sym (t .same-rest ∙ over todo l)))
+    where
+      none : (i : ℕ) → i ≤ 0 → first-refusal (chain-tests P step i x rest) ≡ 0
+      none zero l = sym first-none
+      none (suc i) l = absurd (omega arith)
+
+      over : (i : ℕ) → i ≤ 0 → chain-rest P step i x rest ≡ rest
       over zero l = refl
       over (suc i) l = absurd (omega arith)
 

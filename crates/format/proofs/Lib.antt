@@ -1,4 +1,5 @@
 pub mod Entries
+pub mod Meeting
 pub mod Passing
 pub mod Rows
 pub mod Parts

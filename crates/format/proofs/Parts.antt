@@ -8,7 +8,10 @@ use lib.ListN.{length, take, drop, length-drop}
 use lib.Seq.{drop-drop, drop-nil}
 use Rattle.format.specs.ListLaws.{tail-part}
 use Rattle.format.specs.Refusals.{head-bytes, said-length}
-use Rattle.format.specs.File.Piece.{Body, Piece, field, many-rest, said-rest, said-rests, PartAt, LastPart}
+use mathlib.Core.Bool.{Bool, true, false, cond}
+use Rattle.format.specs.Numbers.{parameter-count}
+use Rattle.format.specs.File.Format.{parameter-tag, number-tag, parameter-body, number-body, parameter-row, number-field, numbered-row, and-its-numbers, numbered-rows, numbered-test, parameter-rows}
+use Rattle.format.specs.File.Piece.{Body, Piece, field, many-rest, chain-rest, said-rest, said-rests, PartAt, LastPart}
 
 -- u is what s holds from some place on
 pub record Ends (u s : List ℕ) : Type 0 where
@@ -48,6 +51,10 @@ pub many-ends : {A : Type 0} (P : Piece A) → ((s : List ℕ) → Ends (P .rest
 many-ends P h zero s = ends-drop 0 s
 many-ends P h (suc k) s = ends-in (many-ends P h k (P .rest s)) (h s)
 
+pub chain-ends : {S A : Type 0} (P : S → Piece A) (step : S → A → S) → ((x : S) (s : List ℕ) → Ends (P x .rest s) s) → (k : ℕ) (x : S) (s : List ℕ) → Ends (chain-rest P step k x s) s
+chain-ends P step h zero x s = ends-drop 0 s
+chain-ends P step h (suc k) x s = ends-in (chain-ends P step h k (step x (P x .dec s)) (P x .rest s)) (h x s)
+
 pub said-ends : (s : List ℕ) → Ends (said-rest s) s
 unfolding said-rest
 said-ends s = ends-in (ends-drop (said-length s) (drop head-bytes s)) (ends-drop head-bytes s)
@@ -81,3 +88,21 @@ part-next {u} {holds} {lent} {m} {r} p f k h e q area start =
 -- a front of a part is a part that starts there
 pub part-front : {start : ℕ} {u holds : List ℕ} {lent m r : RefT (List ℕ)} → PartAt start u lent m → r .now ≡ holds → r .ptr .0 ≡ m .ptr .0 → r .ptr .1 ≡ m .ptr .1 → PartAt start holds lent r
 part-front p e area start = record { bytes-are = e; same-area = area ∙ p .same-area; start-is = start ∙ p .start-is; length-is = ap length e }
+
+-- what follows parameter rows, numbered or not
+module _ (n : ℕ) where
+  row-ends : (s : List ℕ) → Ends (parameter-row n .rest s) s
+  unfolding parameter-row
+  row-ends s = field-ends parameter-tag (parameter-body n) s
+
+  pub numbered-ends : (before s : List ℕ) → Ends (numbered-row n before .rest s) s
+  unfolding number-field
+  numbered-ends before s = ends-in (field-ends number-tag (number-body (parameter-count n (parameter-row n .dec s)) before) (parameter-row n .rest s)) (row-ends s)
+
+  pub parameter-rows-ends : (b : ℕ) (s : List ℕ) → Ends (parameter-rows n b .rest s) s
+  unfolding parameter-rows numbered-rows
+  parameter-rows-ends b s = by (numbered-test n b s)
+    where
+      by : (t : Bool) → Ends (cond t (chain-rest (numbered-row n) and-its-numbers b [] s) (many-rest (parameter-row n) b s)) s
+      by true = chain-ends (numbered-row n) and-its-numbers numbered-ends b [] s
+      by false = many-ends (parameter-row n) row-ends b s

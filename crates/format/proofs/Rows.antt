@@ -1,5 +1,5 @@
 -- Rows one after the other in an area, and what stands at the front of it. Assumes nothing.
-use Prim.Native.Nat.{ℕ, zero, suc, _+_, _*_}
+use Prim.Native.Nat.{ℕ, zero, suc, _+_, _-_, _*_, _≤_, _<_}
 use mathlib.Core.Path.{_≡_, refl, sym, ap, ap₂, _∙_}
 use mathlib.Core.List.{List, [], _∷_, _++_, flatten, append-assoc}
 use native.Mathlib.Omega.{arith}
@@ -71,3 +71,11 @@ rows-of-take n (suc k) xs =
     let m : suc k * n ≡ n + k * n = omega (arith, suc-mul k n) in
     ap₂ (λ (r : List ℕ) (rs : List (List ℕ)). r ∷ rs) (take-take n (suc k * n) xs (omega arith))
     (ap (λ (j : ℕ). rows-of n k (drop n (take j xs))) m ∙ ap (rows-of n k) (drop-take-add n (k * n) xs) ∙ rows-of-take n k (drop n xs))
+
+-- what is left of an area holds the rows that are left
+pub rows-room : (n b r l : ℕ) → r < b → (b - r) * n ≤ l → (n ≤ l) × ((b - (r + 1)) * n ≤ l - n)
+rows-room n b r l h e =
+    let q : b - r ≡ suc (b - (r + 1)) = omega arith in
+    let m : suc (b - (r + 1)) * n ≡ (b - (r + 1)) * n + n = suc-mul (b - (r + 1)) n in
+    let k : suc (b - (r + 1)) * n ≤ l = rw q at e in
+    (omega arith, omega arith)

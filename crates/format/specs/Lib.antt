@@ -2,8 +2,11 @@
 pub mod Lists
 pub mod ListLaws
 pub mod OverLaws
+pub mod Numbers
 pub mod Refusals
 pub mod RefusalLaws
 pub mod TestLaws
 pub mod File
+pub mod NumberTable
+pub mod NumberLaws
 pub mod Readings

@@ -7,7 +7,7 @@ use mathlib.Core.Bool.{Bool, true, false, false≢true}
 use mathlib.Core.List.{[], _∷_}
 use native.Mathlib.Omega.{arith}
 use Rattle.format.specs.Lists.{All}
-use Rattle.format.specs.Refusals.{Cause, truncated, unexpected, not-prime, sizes-beyond, constant-beyond, parameter-beyond, trailing, area-short, row-beyond, not-mixed, number-of, Tests, unless, _then_, first-refusal, where-accepted}
+use Rattle.format.specs.Refusals.{Cause, truncated, unexpected, not-prime, sizes-beyond, constant-beyond, parameter-beyond, trailing, area-short, row-beyond, not-mixed, number-twice, number-of, Tests, unless, _then_, first-refusal, where-accepted}
 
 -- ---- the reading of a number
 
@@ -31,6 +31,7 @@ number-pos trailing = omega arith
 number-pos area-short = omega arith
 number-pos row-beyond = omega arith
 number-pos not-mixed = omega arith
+number-pos number-twice = omega arith
 
 caused-by-first : (ts : Tests) (k : ℕ) → k ≢ 0 → first-refusal ts ≡ k → Caused ts k
 unfolding first-refusal
@@ -115,6 +116,13 @@ unless-zero t c e = acceptance-reads (unless t c) .0 e .0
 
 pub zero-unless : (t : Bool) (c : Cause) → t ≡ true → first-refusal (unless t c) ≡ 0
 zero-unless t c e = sym (first-passes t c [] 0 e first-none)
+
+-- a last test that passes changes nothing
+pub last-passed : (ts : Tests) (t : Bool) (c : Cause) → t ≡ true → first-refusal ts ≡ first-refusal (ts then unless t c)
+unfolding first-refusal
+last-passed [] t c e = sym (zero-unless t c e)
+last-passed ((true, d) ∷ ts) t c e = last-passed ts t c e
+last-passed ((false, d) ∷ ts) t c e = refl
 
 -- ---- a result where nothing was refused, or what stands for it
 

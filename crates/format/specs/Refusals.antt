@@ -1,16 +1,18 @@
--- Who causes which number: the refusals of document 01, the test behind each, and the judgement of a model handed over.
+-- Who causes which number: the refusals of document 01 and of document 02, E4, the test behind each, and the judgement of a model handed over.
 -- A judgement is a list of tests in the order in which they are made; it gives the number of the first that fails, or 0.
 -- Definitions only; RefusalLaws says how they read.
 use Prim.Native.Nat.{ℕ, zero, suc, _+_, _-_, _*_}
 use mathlib.Core.Path.{_≡_}
 use mathlib.Core.Bool.{Bool, true, false, _&&_}
-use mathlib.Core.List.{List, [], _∷_, _++_}
+use mathlib.Core.List.{List, [], _∷_, _++_, flatten}
+use mathlib.Core.Option.{Option, none, some}
 use lib.ListN.{length, getD, take}
 use lib.Dec.{leb, ltb, eqb}
 use Rattle.residue.specs.Arithmetic.{is-prime}
 use Rattle.limits.specs.Limits.{most-columns, most-rows, largest-prime}
 use Rattle.columns.specs.Columns.{within}
 use Rattle.format.specs.Lists.{all-pass, over-room}
+use Rattle.format.specs.Numbers.{once, numbers-in}
 
 -- ---- causes and their numbers
 
@@ -28,6 +30,8 @@ pub data Cause : Type 0 where
   row-beyond : Cause
   -- the modeller with a mixed question
   not-mixed : Cause
+  -- whoever numbered the parameters
+  number-twice : Cause
 
 abbrev pub number-of : Cause → ℕ
 number-of truncated = 1
@@ -40,6 +44,7 @@ number-of trailing = 7
 number-of area-short = 8
 number-of row-beyond = 9
 number-of not-mixed = 10
+number-of number-twice = 13
 
 -- ---- tests in their order
 
@@ -114,6 +119,11 @@ end-test s = eqb (length s) 0
 unfoldable pub area-test : ℕ → ℕ → Bool
 area-test k len = leb k len
 
+-- the same of an area of numbers, which an unnumbered model does not need
+unfoldable pub numbers-room : ℕ → Option (List ℕ) → Bool
+numbers-room k none = true
+numbers-room k (some ks) = area-test k (length ks)
+
 -- bytes put over the front of an area, where it holds them; else it is refused and unchanged
 pub record PutRoom (bs before after : List ℕ) (refusal : ℕ) : Type 0 where
   pub refusal-is : refusal ≡ first-refusal (unless (area-test (length bs) (length before)) area-short)
@@ -123,20 +133,27 @@ pub record PutRoom (bs before after : List ℕ) (refusal : ℕ) : Type 0 where
 unfoldable pub row-test : ℕ → ℕ → Bool
 row-test i a = ltb i a
 
--- ---- a model handed over without a file: p, n, a, b, and the areas that hold its constants and parameter rows
+-- 13: no number is met a second time in the parameter rows of an area
+unfoldable pub number-test : (n : ℕ) (ws : List ℕ) → Option (List ℕ) → Bool
+number-test n ws none = true
+number-test n ws (some ks) = once (flatten (numbers-in n ws ks))
 
-unfoldable pub model-tests : (p n a b : ℕ) (cs ws : List ℕ) → Tests
-model-tests p n a b cs ws =
+-- ---- a model handed over without a file: p, n, a, b, and the areas that hold its constants, its parameter rows and, where it is numbered, their numbers
+
+unfoldable pub model-tests : (p n a b : ℕ) (cs ws : List ℕ) → Option (List ℕ) → Tests
+model-tests p n a b cs ws ns =
     unless (prime-test p) not-prime
     then unless (size-test n a b) sizes-beyond
     then unless (area-test (a * n) (length cs)) area-short
     then unless (area-test b (length ws)) area-short
+    then unless (numbers-room (b * n) ns) area-short
     then unless (constant-test p (take (a * n) cs)) constant-beyond
     then unless (parameter-test n (take b ws)) parameter-beyond
+    then unless (number-test n (take b ws) ns) number-twice
 
-unfoldable pub refusal : (p n a b : ℕ) (cs ws : List ℕ) → ℕ
+unfoldable pub refusal : (p n a b : ℕ) (cs ws : List ℕ) → Option (List ℕ) → ℕ
 unfolding model-tests
-refusal p n a b cs ws = first-refusal (model-tests p n a b cs ws)
+refusal p n a b cs ws ns = first-refusal (model-tests p n a b cs ws ns)
 
 -- ---- the mixed question about it
 
@@ -144,10 +161,10 @@ refusal p n a b cs ws = first-refusal (model-tests p n a b cs ws)
 unfoldable pub mixed-test : (n a b : ℕ) → Bool
 mixed-test n a b = eqb a b && leb (a + n) most-columns
 
-unfoldable pub mixed-tests : (p n a b : ℕ) (cs ws : List ℕ) → Tests
+unfoldable pub mixed-tests : (p n a b : ℕ) (cs ws : List ℕ) → Option (List ℕ) → Tests
 unfolding model-tests
-mixed-tests p n a b cs ws = model-tests p n a b cs ws then unless (mixed-test n a b) not-mixed
+mixed-tests p n a b cs ws ns = model-tests p n a b cs ws ns then unless (mixed-test n a b) not-mixed
 
-unfoldable pub mixed-refusal : (p n a b : ℕ) (cs ws : List ℕ) → ℕ
+unfoldable pub mixed-refusal : (p n a b : ℕ) (cs ws : List ℕ) → Option (List ℕ) → ℕ
 unfolding mixed-tests
-mixed-refusal p n a b cs ws = first-refusal (mixed-tests p n a b cs ws)
+mixed-refusal p n a b cs ws ns = first-refusal (mixed-tests p n a b cs ws ns)

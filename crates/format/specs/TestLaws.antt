@@ -1,9 +1,10 @@
 -- What each test of a model, a file, an area or a row says, and what holds of a model handed over that is accepted. Assumes nothing.
 use Prim.Native.Nat.{ℕ, _-_, _*_, _≤_, _<_}
-use mathlib.Core.Path.{_≡_}
+use mathlib.Core.Path.{_≡_, refl}
 use mathlib.Core.Logic.{_↔_}
 use mathlib.Core.Bool.{Bool, true, _&&_}
 use mathlib.Core.List.{List}
+use mathlib.Core.Option.{Option, none}
 use native.Mathlib.Omega.{arith}
 use lib.ListN.{length, getD, take}
 use lib.Seq.{getD-take, length-take-le}
@@ -16,7 +17,7 @@ use Rattle.counting.specs.Bools.{and-in, and-left, and-right}
 use Rattle.format.specs.Lists.{All}
 use Rattle.format.specs.ListLaws.{all-pass-all, all-at}
 use Rattle.limits.specs.Limits.{largest-prime, most-columns, most-rows}
-use Rattle.format.specs.Refusals.{head-bytes, said-length, head-test, body-test, due-test, prime-test, size-test, constant-test, parameter-test, end-test, area-test, row-test, model-tests, refusal}
+use Rattle.format.specs.Refusals.{head-bytes, said-length, head-test, body-test, due-test, prime-test, size-test, constant-test, parameter-test, end-test, area-test, row-test, numbers-room, number-test, model-tests, refusal}
 use Rattle.format.specs.RefusalLaws.{acceptance-reads}
 
 leb-reads : (x y : ℕ) → (leb x y ≡ true) ↔ (x ≤ y)
@@ -79,7 +80,7 @@ row-reads i a = (ltb-true i a, lt-ltb i a)
 
 -- ---- a model handed over
 
-pub record Accepted (p n a b : ℕ) (cs ws : List ℕ) : Type 0 where
+pub record Accepted (p n a b : ℕ) (cs ws : List ℕ) (ns : Option (List ℕ)) : Type 0 where
   pub prime : Prime p
   pub p-most : p ≤ largest-prime
   pub n-least : 1 ≤ n
@@ -88,30 +89,74 @@ pub record Accepted (p n a b : ℕ) (cs ws : List ℕ) : Type 0 where
   pub b-most : b ≤ most-rows
   pub constants-lent : a * n ≤ length cs
   pub parameters-lent : b ≤ length ws
+  pub numbers-lent : numbers-room (b * n) ns ≡ true
   pub constants-below : All (λ c. c < p) (take (a * n) cs)
   pub parameters-within : All (λ w. within n w ≡ true) (take b ws)
+  pub numbers-once : number-test n (take b ws) ns ≡ true
 
-pub model-accepted : (p n a b : ℕ) (cs ws : List ℕ) → refusal p n a b cs ws ≡ 0 → Accepted p n a b cs ws
-unfolding refusal model-tests
-model-accepted p n a b cs ws e =
-    let v = acceptance-reads (model-tests p n a b cs ws) .0 e in
-    let q = prime-reads p .0 (v .0) in
-    let z = size-reads n a b .0 (v .1 .0) in
+module _ (p n a b : ℕ) (cs ws : List ℕ) (ns : Option (List ℕ)) where
+  pub model-accepted : refusal p n a b cs ws ns ≡ 0 → Accepted p n a b cs ws ns
+  unfolding refusal model-tests
+  model-accepted e =
+      let v = acceptance-reads (model-tests p n a b cs ws ns) .0 e in
+      let q = prime-reads p .0 (v .0) in
+      let z = size-reads n a b .0 (v .1 .0) in
+      record {
+        prime = q .1;
+        p-most = q .0;
+        n-least = z .0;
+        n-most = z .1;
+        a-most = z .2;
+        b-most = z .3;
+        constants-lent = area-reads _ _ .0 (v .1 .1 .0);
+        parameters-lent = area-reads _ _ .0 (v .1 .1 .1 .0);
+        numbers-lent = v .1 .1 .1 .1 .0;
+        constants-below = constant-reads _ _ .0 (v .1 .1 .1 .1 .1 .0);
+        parameters-within = parameter-reads _ _ .0 (v .1 .1 .1 .1 .1 .1 .0);
+        numbers-once = v .1 .1 .1 .1 .1 .1 .1 .0;
+      }
+
+  pub accepted-model : Accepted p n a b cs ws ns → refusal p n a b cs ws ns ≡ 0
+  unfolding refusal model-tests
+  accepted-model h =
+      acceptance-reads (model-tests p n a b cs ws ns) .1 (
+        prime-reads p .1 (h .p-most, h .prime),
+        (
+          size-reads n a b .1 (h .n-least, h .n-most, h .a-most, h .b-most),
+          (
+            area-reads _ _ .1 (h .constants-lent),
+            (
+              area-reads _ _ .1 (h .parameters-lent),
+              (
+                h .numbers-lent,
+                (constant-reads _ _ .1 (h .constants-below), (parameter-reads _ _ .1 (h .parameters-within), (h .numbers-once, tt))),
+              ),
+            ),
+          ),
+        ),
+      )
+
+-- a numbered model that is accepted is accepted without its numbers
+pub unnumbered-accepted : {p n a b : ℕ} {cs ws : List ℕ} {ns : Option (List ℕ)} → Accepted p n a b cs ws ns → Accepted p n a b cs ws none
+unfolding numbers-room number-test
+unnumbered-accepted h =
     record {
-      prime = q .1;
-      p-most = q .0;
-      n-least = z .0;
-      n-most = z .1;
-      a-most = z .2;
-      b-most = z .3;
-      constants-lent = area-reads _ _ .0 (v .1 .1 .0);
-      parameters-lent = area-reads _ _ .0 (v .1 .1 .1 .0);
-      constants-below = constant-reads _ _ .0 (v .1 .1 .1 .1 .0);
-      parameters-within = parameter-reads _ _ .0 (v .1 .1 .1 .1 .1 .0);
+      prime = h .prime;
+      p-most = h .p-most;
+      n-least = h .n-least;
+      n-most = h .n-most;
+      a-most = h .a-most;
+      b-most = h .b-most;
+      constants-lent = h .constants-lent;
+      parameters-lent = h .parameters-lent;
+      numbers-lent = refl;
+      constants-below = h .constants-below;
+      parameters-within = h .parameters-within;
+      numbers-once = refl;
     }
 
 -- constant k and parameter row r by their places
-module _ {p n a b : ℕ} {cs ws : List ℕ} (h : Accepted p n a b cs ws) where
+module _ {p n a b : ℕ} {cs ws : List ℕ} {ns : Option (List ℕ)} (h : Accepted p n a b cs ws ns) where
   pub constant-below : (k : ℕ) → k < a * n → getD cs k 0 < p
   constant-below k l =
       let len = length-take-le (a * n) cs (h .constants-lent) in

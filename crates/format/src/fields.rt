@@ -23,6 +23,8 @@ pub const PARAMETER_TAG: u8 = 4;
 
 pub const END_TAG: u8 = 5;
 
+pub const NUMBER_TAG: u8 = 6;
+
 // How long the bodies of p and of n, a, b are.
 pub const PRIME_BYTES: usize = 2;
 

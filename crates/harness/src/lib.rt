@@ -6,12 +6,14 @@ ghost use lib.ListN.{take};
 ghost use Rattle.columns.specs.Bytes.{number};
 ghost use Rattle.columns.specs.Columns.{room-bytes, members};
 ghost use Rattle.columns.specs.ColumnSets.{row-numbers};
+ghost use Rattle.format.specs.Numbers.{lent};
 ghost use Rattle.format.specs.File.Format.{WriteCall};
 ghost use Rattle.touching.specs.RowCount.{touching-count};
-ghost use Rattle.harness.specs.Calls.{LayeredBytes, MixedBytes};
+ghost use Rattle.harness.specs.Calls.{LayeredBytes, MixedBytes, FileInAreas};
 use host::put_answer;
 use host::put_mixed;
 use layered::layered_rank;
+use loader::read_file;
 use mixed::mixed_rank;
 use touching::touching_rows;
 use writer::write_file;
@@ -25,11 +27,13 @@ pub extern "C" fn harness_layered(
     b: usize,
     constants: &[u16],
     parameters: &[u64],
+    numbered: bool,
+    numbers: &[u16],
     answer: &mut [u8],
 ) -> u32
-    ensures { λ r. ⌜ LayeredBytes p n a b (now (constants .entry)) (row-numbers (now (parameters .entry))) (now (answer .entry)) r (now (answer .exit)) ⌝ }
+    ensures { λ r. ⌜ LayeredBytes p n a b (now (constants .entry)) (row-numbers (now (parameters .entry))) (lent numbered (now (numbers .entry))) (now (answer .entry)) r (now (answer .exit)) ⌝ }
 {
-    let r = layered_rank(p, n, a, b, constants, parameters);
+    let r = layered_rank(p, n, a, b, constants, parameters, numbered, numbers);
     if r.refusal != 0 {
         return r.refusal;
     }
@@ -45,11 +49,13 @@ pub extern "C" fn harness_mixed(
     b: usize,
     constants: &[u16],
     parameters: &[u64],
+    numbered: bool,
+    numbers: &[u16],
     answer: &mut [u8],
 ) -> u32
-    ensures { λ r. ⌜ MixedBytes p n a b (now (constants .entry)) (row-numbers (now (parameters .entry))) (now (answer .entry)) r (now (answer .exit)) ⌝ }
+    ensures { λ r. ⌜ MixedBytes p n a b (now (constants .entry)) (row-numbers (now (parameters .entry))) (lent numbered (now (numbers .entry))) (now (answer .entry)) r (now (answer .exit)) ⌝ }
 {
-    let r = mixed_rank(p, n, a, b, constants, parameters);
+    let r = mixed_rank(p, n, a, b, constants, parameters, numbered, numbers);
     if r.refusal != 0 {
         return r.refusal;
     }
@@ -65,12 +71,28 @@ pub extern "C" fn harness_write(
     b: usize,
     constants: &[u16],
     parameters: &[u64],
+    numbered: bool,
+    numbers: &[u16],
     out: &mut [u8],
 ) -> u32
-    ensures { λ r. ⌜ ((written : ℕ) × WriteCall p n a b (now (constants .entry)) (row-numbers (now (parameters .entry))) (now (out .entry)) r written (now (out .exit))) ⌝ }
+    ensures { λ r. ⌜ ((written : ℕ) × WriteCall p n a b (now (constants .entry)) (row-numbers (now (parameters .entry))) (lent numbered (now (numbers .entry))) (now (out .entry)) r written (now (out .exit))) ⌝ }
 {
-    let w = write_file(p, n, a, b, constants, parameters, out);
+    let w = write_file(p, n, a, b, constants, parameters, numbered, numbers, out);
     w.refusal
+}
+
+// The model in a file, read into areas; what a C caller does not see are its sizes and whether it is numbered.
+#[no_mangle]
+pub extern "C" fn harness_read(
+    file: &[u8],
+    constants: &mut [u16],
+    parameters: &mut [u64],
+    numbers: &mut [u16],
+) -> u32
+    ensures { λ r. ⌜ FileInAreas (now (file .entry)) (now (constants .entry)) (row-numbers (now (parameters .entry))) (now (numbers .entry)) r (now (constants .exit)) (row-numbers (now (parameters .exit))) (now (numbers .exit)) ⌝ }
+{
+    let sizes = read_file(file, constants, parameters, numbers);
+    sizes.refusal
 }
 
 // How many parameter rows, b of them in an area, have a parameter in a set of columns below n; the bytes of the set are handed over.

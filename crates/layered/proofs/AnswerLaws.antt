@@ -4,6 +4,7 @@ use Prim.Native.Nat.{ℕ, zero, suc, _+_, _*_, _≤_, _<_}
 use mathlib.Core.Path.{_≡_, refl, sym, ap, _∙_, fun-ext}
 use mathlib.Core.Bool.{true, _&&_}
 use mathlib.Core.List.{List, [], _∷_}
+use mathlib.Core.Option.{none}
 use native.Mathlib.Omega.{arith}
 use lib.ListN.{length, getD, take}
 use lib.Dec.{leb}
@@ -29,9 +30,8 @@ use Rattle.rank.specs.ListedModelLaws.{verdict-at-n}
 use Rattle.rank.specs.Demand.{demand3-reported}
 use Rattle.format.specs.Lists.{All}
 use Rattle.limits.specs.Limits.{largest-prime, most-columns, most-rows}
-use Rattle.format.specs.Refusals.{prime-test, parameter-test, model-tests, refusal}
-use Rattle.format.specs.RefusalLaws.{acceptance-reads}
-use Rattle.format.specs.TestLaws.{size-reads, constant-reads, area-reads, model-accepted, constant-below}
+use Rattle.format.specs.Refusals.{prime-test, parameter-test, numbers-room, number-test, refusal}
+use Rattle.format.specs.TestLaws.{prime-reads, parameter-reads, model-accepted, accepted-model, constant-below}
 use Rattle.layered.specs.declared.Answer.{Answer}
 use Rattle.layered.specs.Answers.{Answered}
 use Rattle.layered.specs.Beforehand.{beforehand}
@@ -42,11 +42,11 @@ all-taken Is zero xs d l h = tt
 all-taken Is (suc k) [] d l h = absurd (omega arith)
 all-taken Is (suc k) (x ∷ xs) d l h = (h 0 (omega arith), all-taken Is k xs d (omega arith) (λ i m. h (suc i) (omega arith)))
 
-pub accepted-beforehand : (p n a b : ℕ) (cs ws : List ℕ) → refusal p n a b cs ws ≡ 0 → beforehand p n b ws ≡ true
-unfolding beforehand refusal model-tests
+pub accepted-beforehand : (p n a b : ℕ) (cs ws : List ℕ) → refusal p n a b cs ws none ≡ 0 → beforehand p n b ws ≡ true
+unfolding beforehand
 accepted-beforehand p n a b cs ws e =
-    let h = model-accepted p n a b cs ws e in
-    and-in (and-in (le-leb p largest-prime (h .p-most)) (le-leb 1 n (h .n-least))) (acceptance-reads (model-tests p n a b cs ws) .0 e .1 .1 .1 .1 .1 .0)
+    let h = model-accepted p n a b cs ws none e in
+    and-in (and-in (le-leb p largest-prime (h .p-most)) (le-leb 1 n (h .n-least))) (parameter-reads n (take b ws) .1 (h .parameters-within))
 
 module _ (p n a b : ℕ) (cs ws : List ℕ) (offered : ℕ) (m : members offered ≡ upto n) where
   -- all columns below n are offered
@@ -60,10 +60,10 @@ module _ (p n a b : ℕ) (cs ws : List ℕ) (offered : ℕ) (m : members offered
   pub shows-model : n ≤ width → Shown p n a b offered cs ws (listed-model p n a b cs ws .Q) (listed-model p n a b cs ws .T) (λ x. true)
   shows-model h = record { constants = λ i x li lx. refl; parameters = λ r x lr lx. refl; columns = offered-all h }
 
-  pub accepted-taken : refusal p n a b cs ws ≡ 0 → admissible p n a b offered cs ws ≡ true
+  pub accepted-taken : refusal p n a b cs ws none ≡ 0 → admissible p n a b offered cs ws ≡ true
   unfolding admissible fitting
   accepted-taken e =
-      let h = model-accepted p n a b cs ws e in
+      let h = model-accepted p n a b cs ws none e in
       and-in
       (and-in
       (and-in
@@ -74,28 +74,27 @@ module _ (p n a b : ℕ) (cs ws : List ℕ) (offered : ℕ) (m : members offered
       (prime→test p (h .prime)))
       (all-below-iff p (a * n) cs .1 (constant-below h))
 
-  pub taken-accepted : beforehand p n b ws ≡ true → admissible p n a b offered cs ws ≡ true → refusal p n a b cs ws ≡ 0
-  unfolding beforehand prime-test refusal model-tests
+  pub taken-accepted : beforehand p n b ws ≡ true → admissible p n a b offered cs ws ≡ true → refusal p n a b cs ws none ≡ 0
+  unfolding beforehand prime-test numbers-room number-test
   taken-accepted e f =
       let g = admissible-reads p n a b offered cs ws f in
       let z = g .fits in
       let low : (leb p largest-prime && leb 1 n) ≡ true = and-left (leb p largest-prime && leb 1 n) (parameter-test n (take b ws)) e in
-      acceptance-reads (model-tests p n a b cs ws) .1 (
-        and-in (and-left (leb p largest-prime) (leb 1 n) low) (g .prime),
-        (
-          size-reads n a b .1 (leb-true 1 n (and-right (leb p largest-prime) (leb 1 n) low), z .columns, z .constant-rows, z .parameter-rows),
-          (
-            area-reads (a * n) (length cs) .1 (z .constants-lent),
-            (
-              area-reads b (length ws) .1 (z .parameters-lent),
-              (
-                constant-reads p (take (a * n) cs) .1 (all-taken (λ c. c < p) (a * n) cs 0 (z .constants-lent) (all-below-iff p (a * n) cs .0 (g .low))),
-                (and-right (leb p largest-prime && leb 1 n) (parameter-test n (take b ws)) e, tt),
-              ),
-            ),
-          ),
-        ),
-      )
+      let q = prime-reads p .0 (and-in (and-left (leb p largest-prime) (leb 1 n) low) (g .prime)) in
+      accepted-model p n a b cs ws none (record {
+        prime = q .1;
+        p-most = q .0;
+        n-least = leb-true 1 n (and-right (leb p largest-prime) (leb 1 n) low);
+        n-most = z .columns;
+        a-most = z .constant-rows;
+        b-most = z .parameter-rows;
+        constants-lent = z .constants-lent;
+        parameters-lent = z .parameters-lent;
+        numbers-lent = refl;
+        constants-below = all-taken (λ c. c < p) (a * n) cs 0 (z .constants-lent) (all-below-iff p (a * n) cs .0 (g .low));
+        parameters-within = parameter-reads n (take b ws) .0 (and-right (leb p largest-prime && leb 1 n) (parameter-test n (take b ws)) e);
+        numbers-once = refl;
+      })
 
 -- ---- the answer
 

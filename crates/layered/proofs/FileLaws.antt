@@ -3,8 +3,9 @@
 use Prim.Native.Nat.{ℕ, zero, suc, _+_, _-_, _*_, _≤_, _<_}
 use mathlib.Core.Path.{_≡_, refl, sym, ap, ap₂, _∙_, subst, fun-ext}
 use mathlib.Core.Logic.{_≢_}
-use mathlib.Core.Bool.{true}
-use mathlib.Core.List.{List, [], _∷_, _++_, flatten}
+use mathlib.Core.Bool.{Bool, true}
+use mathlib.Core.Option.{none}
+use mathlib.Core.List.{List, _++_, flatten}
 use native.Mathlib.Omega.{arith}
 use native.Mathlib.Nat.{mul-le-mul, le-of-eq}
 use native.Mathlib.Decide.{decLt}
@@ -22,11 +23,11 @@ use Rattle.format.specs.Lists.{All, over}
 use Rattle.format.proofs.Rows.{over-front, flat-length, flat-all, all-second}
 use Rattle.format.specs.OverLaws.{over-length}
 use Rattle.limits.specs.Limits.{most-rows, most-constants}
-use Rattle.format.specs.Refusals.{where-accepted, model-tests, refusal}
-use Rattle.format.specs.RefusalLaws.{acceptance-reads, then-refused, zero-then, zero-unless}
-use Rattle.format.specs.TestLaws.{prime-reads, size-reads, constant-reads, parameter-reads, area-reads}
+use Rattle.format.specs.Refusals.{where-accepted, numbers-room, number-test, refusal}
+use Rattle.format.specs.RefusalLaws.{then-refused, zero-then, zero-unless}
+use Rattle.format.specs.TestLaws.{area-reads, accepted-model}
 use Rattle.format.specs.File.Piece.{closed}
-use Rattle.format.specs.File.Format.{FileModel, ValidModel, fields, judge, decode, no-model, read-refusal, model-read, ReadCall}
+use Rattle.format.specs.File.Format.{FileModel, ValidModel, fields, judge, decode, area-tests, no-model, read-model, rows-refusal, RowsCall}
 use Rattle.format.specs.File.FormatLaws.{decoded-valid}
 use Rattle.layered.specs.declared.Answer.{Answer}
 use Rattle.layered.specs.Answers.{Answered, RankCall, LayeredCall, LayeredFileCall}
@@ -63,8 +64,8 @@ module _ (s : List ℕ) (bytes : AreBytes s) (ok : judge s ≡ 0) where
 
   -- its model is accepted from areas that it was read into
   file-accepted : (cs ws : List ℕ) → most-constants ≤ length cs → most-rows ≤ length ws
-      → refusal (decode s .p) (decode s .n) (decode s .a) (decode s .b) (over (flatten (decode s .constants)) cs) (over (decode s .parameters) ws) ≡ 0
-  unfolding refusal model-tests
+      → refusal (decode s .p) (decode s .n) (decode s .a) (decode s .b) (over (flatten (decode s .constants)) cs) (over (decode s .parameters) ws) none ≡ 0
+  unfolding numbers-room number-test
   file-accepted cs ws l m =
       let few = few-constants in
       let some = valid .b-most in
@@ -72,48 +73,43 @@ module _ (s : List ℕ) (bytes : AreBytes s) (ok : judge s ≡ 0) where
       let rows = decode s .parameters in
       let len = constants-length in
       let count = valid .parameter-rows in
-      acceptance-reads _ .1 (
-        prime-reads _ .1 (valid .p-most, valid .prime),
-        (
-          size-reads _ _ _ .1 (valid .n-least, valid .n-most, valid .a-most, valid .b-most),
-          (
-            area-reads _ _ .1 (omega (arith, over-length flat cs (omega arith))),
-            (
-              area-reads _ _ .1 (omega (arith, over-length rows ws (omega arith))),
-              (
-                constant-reads _ _ .1 (subst (All (λ c. c < decode s .p)) (sym (over-front flat cs _ len)) (flat-all _ _ _ (valid .constants-below))),
-                (
-                  parameter-reads _ _ .1 (subst (All (λ w. within (decode s .n) w ≡ true)) (sym (over-front rows ws _ count)) (all-second _ _ rows (valid .parameters-within))),
-                  tt,
-                ),
-              ),
-            ),
-          ),
-        ),
-      )
+      accepted-model _ _ _ _ _ _ none (record {
+        prime = valid .prime;
+        p-most = valid .p-most;
+        n-least = valid .n-least;
+        n-most = valid .n-most;
+        a-most = valid .a-most;
+        b-most = valid .b-most;
+        constants-lent = omega (arith, over-length flat cs (omega arith));
+        parameters-lent = omega (arith, over-length rows ws (omega arith));
+        numbers-lent = refl;
+        constants-below = subst (All (λ c. c < decode s .p)) (sym (over-front flat cs _ len)) (flat-all _ _ _ (valid .constants-below));
+        parameters-within = subst (All (λ w. within (decode s .n) w ≡ true)) (sym (over-front rows ws _ count)) (all-second _ _ rows (valid .parameters-within));
+        numbers-once = refl;
+      })
 
 -- ---- a file read
 
 module _ (s : List ℕ) (bytes : AreBytes s) (cs ws : List ℕ) (l : most-constants ≤ length cs) (m : most-rows ≤ length ws) where
   -- areas of the largest size hold every model
-  read-accepted : judge s ≡ 0 → read-refusal s cs ws ≡ 0
-  unfolding read-refusal judge
+  read-accepted : judge s ≡ 0 → rows-refusal s cs ws ≡ 0
+  unfolding rows-refusal area-tests judge
   read-accepted ok =
       let few = few-constants s bytes ok in
       let some = valid s bytes ok .b-most in
       zero-then _ _ ok (zero-then _ _ (zero-unless _ _ (area-reads _ _ .1 (omega arith))) (zero-unless _ _ (area-reads _ _ .1 (omega arith))))
 
-  read-judged : read-refusal s cs ws ≡ judge s
-  unfolding read-refusal judge
+  read-judged : rows-refusal s cs ws ≡ judge s
+  unfolding rows-refusal area-tests judge
   read-judged = at (judge s) refl
     where
-      at : (k : ℕ) → judge s ≡ k → read-refusal s cs ws ≡ judge s
+      at : (k : ℕ) → judge s ≡ k → rows-refusal s cs ws ≡ judge s
       at zero e = read-accepted e ∙ sym e
       at (suc k) e = sym (then-refused (closed fields s) _ (judge s) refl (λ z. omega (arith, e, z)))
 
   -- what was read is the file's model
-  read-all : read-refusal s cs ws ≡ 0 → model-read s cs ws ≡ decode s
-  unfolding model-read
+  read-all : rows-refusal s cs ws ≡ 0 → read-model (rows-refusal s cs ws) s ≡ decode s
+  unfolding read-model
   read-all ok = ap (λ (k : ℕ). where-accepted k (decode s) no-model) ok
 
 -- ---- a file read into a call's own areas
@@ -131,7 +127,7 @@ own-length = le-of-eq (sym (length-replicate {A = ℕ} most-constants 0))
 own-count : most-rows ≤ length own-parameters
 own-count = rw rows-zeros (le-of-eq (sym (length-replicate {A = ℕ} most-rows 0)))
 
-module _ {s : List ℕ} (bytes : AreBytes s) {k p n a b : ℕ} {cs′ ws′ : List ℕ} (r : ReadCall s own-constants own-parameters k p n a b cs′ ws′) where
+module _ {s : List ℕ} (bytes : AreBytes s) {k p n a b : ℕ} {t : Bool} {cs′ ws′ : List ℕ} (r : RowsCall s own-constants own-parameters k p n a b t cs′ ws′) where
   -- the areas are never too short
   pub own-refusal : k ≡ judge s
   own-refusal = r .refusal-is ∙ read-judged s bytes own-constants own-parameters own-length own-count
@@ -140,11 +136,11 @@ module _ {s : List ℕ} (bytes : AreBytes s) {k p n a b : ℕ} {cs′ ws′ : Li
     pub judged : judge s ≡ 0
     judged = sym own-refusal ∙ ok
 
-    all : model-read s own-constants own-parameters ≡ decode s
+    all : read-model (rows-refusal s own-constants own-parameters) s ≡ decode s
     all = read-all s bytes own-constants own-parameters own-length own-count (sym (r .refusal-is) ∙ ok)
 
     -- what was read is accepted
-    pub own-accepted : refusal p n a b cs′ ws′ ≡ 0
+    pub own-accepted : refusal p n a b cs′ ws′ none ≡ 0
     own-accepted =
         rw (r .p-is, r .n-is, r .a-is, r .b-is, r .constants-are, r .parameters-are, all)
         (file-accepted s bytes judged own-constants own-parameters own-length own-count)
@@ -170,8 +166,8 @@ module _ {due given : ℕ} {R A : Type 0} where
   pub call-as : {due′ : ℕ} {A′ : Type 0} → due ≡ due′ → (A → A′) → RankCall due given R A → RankCall due′ given R A′
   call-as e f h = record { is-refusal = h .is-refusal ∙ e; if-refused = λ z. h .if-refused (λ y. z (sym e ∙ y)); if-accepted = λ z. f (h .if-accepted (e ∙ z)) }
 
-pub file-answered : {s : List ℕ} (bytes : AreBytes s) {k p n a b : ℕ} {cs′ ws′ : List ℕ} → ReadCall s own-constants own-parameters k p n a b cs′ ws′ → k ≡ 0
-    → (t : Answer) → LayeredCall p n a b cs′ ws′ t → LayeredFileCall s t
+pub file-answered : {s : List ℕ} (bytes : AreBytes s) {k p n a b : ℕ} {u : Bool} {cs′ ws′ : List ℕ} → RowsCall s own-constants own-parameters k p n a b u cs′ ws′ → k ≡ 0
+    → (t : Answer) → LayeredCall p n a b cs′ ws′ none t → LayeredFileCall s t
 file-answered bytes r ok t h = call-as (own-accepted bytes r ok ∙ sym (judged bytes r ok)) (subst (λ (M : Model). Answered M t) (own-made bytes r ok by-elements)) h
   where
     by-elements : (p n a b : ℕ) (c w : ℕ → ℕ) → Model

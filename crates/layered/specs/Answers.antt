@@ -3,6 +3,7 @@ use Prim.Native.Nat.{ℕ}
 use mathlib.Core.Path.{_≡_}
 use mathlib.Core.Logic.{_≢_}
 use mathlib.Core.List.{List}
+use mathlib.Core.Option.{Option}
 use lib.ListN.{length, replicate}
 use Rattle.limits.specs.Limits.{most-rows, no-column}
 use Rattle.columns.specs.Columns.{width, members, word-of}
@@ -48,9 +49,9 @@ pub record RankCall (due given : ℕ) (IfRefused IfAccepted : Type 0) : Type 0 w
   pub if-refused : due ≢ 0 → IfRefused
   pub if-accepted : due ≡ 0 → IfAccepted
 
--- the layered rank call for a model handed over
-abbrev pub LayeredCall : (p n a b : ℕ) (cs ws : List ℕ) → Answer → Type 0
-LayeredCall p n a b cs ws r = RankCall (refusal p n a b cs ws) (r .refusal) (Refused r) (Answered (listed-model p n a b cs ws) r)
+-- the layered rank call for a model handed over; its parameters' numbers are judged, and the answer is that of the model without them
+abbrev pub LayeredCall : (p n a b : ℕ) (cs ws : List ℕ) → Option (List ℕ) → Answer → Type 0
+LayeredCall p n a b cs ws ns r = RankCall (refusal p n a b cs ws ns) (r .refusal) (Refused r) (Answered (listed-model p n a b cs ws) r)
 
 -- the same for the model in a file
 abbrev pub LayeredFileCall : (file : List ℕ) → Answer → Type 0

@@ -1,7 +1,10 @@
 // The layered rank call: the answer to a model handed over, or in a file.
 ghost use mathlib.Core.Path.{_≡_};
+ghost use mathlib.Core.Option.{none};
 ghost use Rattle.columns.specs.ColumnSets.{row-numbers};
 ghost use Rattle.rank.specs.Verdict.{verdict-number};
+ghost use Rattle.format.specs.Numbers.{lent};
+ghost use Rattle.format.specs.Refusals.{refusal};
 ghost use Rattle.layered.specs.Answers.{Refused, LayeredCall, LayeredFileCall};
 ghost use Rattle.layered.specs.Beforehand.{beforehand};
 use columns::ColumnSet;
@@ -12,7 +15,7 @@ use limits::LARGEST_PRIME;
 use limits::MOST_CONSTANTS;
 use limits::MOST_ROWS;
 use limits::NO_COLUMN;
-use loader::read_file;
+use loader::read_rows;
 
 // The refusal or 0; the verdict, 0 "open", 1 "determined" or 2 "surplus"; the rank; the placed columns, those of them on the
 // constant side, and the short set; and the column of each parameter row, or that it has none.
@@ -69,8 +72,8 @@ fn passes_beforehand(p: u32, n: usize, b: usize, parameters: &[u64]) -> bool
     parameters_within(parameters, b, n)
 }
 
-// The answer to the layered model of p, n, a, b, the constants row by row and the parameter rows. The solver judges most of it, so
-// that an accepted model is judged once; a refused one is judged again for its number.
+// The answer to the layered model of p, n, a, b, the constants row by row, the parameter rows and, where it is numbered, their numbers
+// row by row. Numbers are judged and no more: parameters that are numbered apart are as independent as parameters without numbers.
 pub fn layered_rank(
     p: u32,
     n: usize,
@@ -78,16 +81,55 @@ pub fn layered_rank(
     b: usize,
     constants: &[u16],
     parameters: &[u64],
+    numbered: bool,
+    numbers: &[u16],
 ) -> Answer
-    ensures { λ r. ⌜ LayeredCall p n a b (now (constants .entry)) (row-numbers (now (parameters .entry))) r ⌝ }
+    ensures { λ r. ⌜ LayeredCall p n a b (now (constants .entry)) (row-numbers (now (parameters .entry))) (lent numbered (now (numbers .entry))) r ⌝ }
+{
+    if !numbered {
+        return unnumbered_rank(p, n, a, b, constants, parameters);
+    }
+    let number = judge_model(p, n, a, b, constants, parameters, numbered, numbers);
+    if number != 0 {
+        return refuse(number);
+    }
+    unnumbered_rank(p, n, a, b, constants, parameters)
+}
+
+// The refusal of an unnumbered model, or 0.
+fn judge_unnumbered(
+    p: u32,
+    n: usize,
+    a: usize,
+    b: usize,
+    constants: &[u16],
+    parameters: &[u64],
+) -> u32
+    ensures { λ r. ⌜ r ≡ refusal p n a b (now (constants .entry)) (row-numbers (now (parameters .entry))) none ⌝ }
+{
+    // an unnumbered model has no numbers: an empty part stands for them
+    judge_model(p, n, a, b, constants, parameters, false, &constants[..0])
+}
+
+// The answer to an unnumbered model. The solver judges most of it, so that an accepted model is judged once; a refused one is judged
+// again for its number.
+fn unnumbered_rank(
+    p: u32,
+    n: usize,
+    a: usize,
+    b: usize,
+    constants: &[u16],
+    parameters: &[u64],
+) -> Answer
+    ensures { λ r. ⌜ LayeredCall p n a b (now (constants .entry)) (row-numbers (now (parameters .entry))) none r ⌝ }
 {
     if !passes_beforehand(p, n, b, parameters) {
-        return refuse(judge_model(p, n, a, b, constants, parameters));
+        return refuse(judge_unnumbered(p, n, a, b, constants, parameters));
     }
     let all = columns::below(n);
     let s = exchange::solve(p, n, a, b, all, constants, parameters);
     if !s.valid {
-        return refuse(judge_model(p, n, a, b, constants, parameters));
+        return refuse(judge_unnumbered(p, n, a, b, constants, parameters));
     }
     let verdict = verdict_of(s.rank, n, a + b);
     let rank = s.rank as u8;
@@ -112,9 +154,9 @@ pub fn layered_file(file: &[u8]) -> Answer
 {
     let mut constants = [0u16; MOST_CONSTANTS];
     let mut parameters = [0u64; MOST_WORDS];
-    let sizes = read_file(file, &mut constants, &mut parameters);
+    let sizes = read_rows(file, &mut constants, &mut parameters);
     if sizes.refusal != 0 {
         return refuse(sizes.refusal);
     }
-    layered_rank(sizes.p, sizes.n, sizes.a, sizes.b, &constants, &parameters)
+    unnumbered_rank(sizes.p, sizes.n, sizes.a, sizes.b, &constants, &parameters)
 }

@@ -56,12 +56,28 @@ fn tell(answer: Answer) {
     }
 }
 
-// The rest of a line whose name is written.
+// The rest of a line whose name is written, for an unnumbered model.
 pub fn answer_line(p: u32, n: usize, a: usize, b: usize, constants: &[u16], parameters: &[u64]) {
-    tell(layered::layered_rank(p, n, a, b, constants, parameters));
+    let numbers = [0u16; 1];
+    tell(layered::layered_rank(p, n, a, b, constants, parameters, false, &numbers[..0]));
 }
 
-// A whole line.
+// A whole line for a numbered model,
+pub fn numbered_line(
+    name: &[u8],
+    p: u32,
+    n: usize,
+    a: usize,
+    b: usize,
+    constants: &[u16],
+    parameters: &[u64],
+    numbers: &[u16],
+) {
+    io::write_all(1, name);
+    tell(layered::layered_rank(p, n, a, b, constants, parameters, true, numbers));
+}
+
+// and for an unnumbered one.
 pub fn line(
     name: &[u8],
     p: u32,

@@ -25,6 +25,6 @@ set-bytes = 12
 abbrev pub no-column : ℕ
 no-column = 255
 
--- how many bytes the longest file has: the fields of prime, sizes and end, and the most rows of both kinds
+-- how many bytes the longest file has: the fields of prime, sizes and end, the most rows of both kinds, and the numbers of all parameters
 abbrev pub longest-file : ℕ
-longest-file = 14 + most-rows * (3 + 2 * most-columns) + most-rows * (3 + set-bytes)
+longest-file = 14 + most-rows * (3 + 2 * most-columns) + most-rows * (3 + set-bytes) + most-rows * (3 + 2 * most-columns)

@@ -24,7 +24,8 @@ pub const NO_COLUMN: u8 = 255;
 // How many bytes the longest file has.
 pub const LONGEST_FILE: usize = 14
     + MOST_ROWS * (3 + 2 * MOST_COLUMNS)
-    + MOST_ROWS * (3 + SET_BYTES);
+    + MOST_ROWS * (3 + SET_BYTES)
+    + MOST_ROWS * (3 + 2 * MOST_COLUMNS);
 
 fn columns_tied() -> usize
     ensures { λ r. ⌜ r ≡ most-columns ⌝ }

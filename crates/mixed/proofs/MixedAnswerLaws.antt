@@ -3,6 +3,7 @@ use Prim.Native.Nat.{ℕ, zero, suc, _+_, _-_, _*_, _/_, _%_, _≤_, _<_}
 use mathlib.Core.Path.{_≡_, refl, sym, ap, _∙_, fun-ext}
 use mathlib.Core.Logic.{_≢_, _↔_, inl, inr}
 use mathlib.Core.Bool.{Bool, true, false, _&&_, cond, decide, decide-iff, true≢false}
+use mathlib.Core.Option.{Option}
 use mathlib.Core.List.{List, []}
 use native.Mathlib.Omega.{arith}
 use native.Mathlib.Decide.{ℕ-discrete}
@@ -104,7 +105,7 @@ module _ (p m n : ℕ) (cs ws : List ℕ) where
       back y = omega arith
 
   -- what the call hands to the solver
-  module _ (h : Accepted p n m m cs ws) (room : m + n ≤ most-columns) (form words : List ℕ) (offered : ℕ) (lf : length form ≡ most-constants) (lw : length words ≡ most-rows)
+  module _ {ns : Option (List ℕ)} (h : Accepted p n m m cs ws ns) (room : m + n ≤ most-columns) (form words : List ℕ) (offered : ℕ) (lf : length form ≡ most-constants) (lw : length words ≡ most-rows)
       (entries-are : (k : ℕ) → k < m * (m + n) → getD form k 0 ≡ form-entry m n cs k) (all-offered : members offered ≡ upto (m + n)) where
     wide-enough : m + n ≤ width
     wide-enough = omega arith
@@ -212,18 +213,18 @@ module _ (X : Mixed) (the-rank : ℕ) (placed-set side short-set : Set) (rows : 
 
 -- ---- the judgement
 
-module _ (p n a b : ℕ) (cs ws : List ℕ) where
-  pub at-model : (r : ℕ) → r ≡ refusal p n a b cs ws → r ≢ 0 → r ≡ mixed-refusal p n a b cs ws
+module _ (p n a b : ℕ) (cs ws : List ℕ) (ns : Option (List ℕ)) where
+  pub at-model : (r : ℕ) → r ≡ refusal p n a b cs ws ns → r ≢ 0 → r ≡ mixed-refusal p n a b cs ws ns
   unfolding refusal mixed-refusal mixed-tests
-  at-model r e h = then-refused (model-tests p n a b cs ws) (unless (mixed-test n a b) not-mixed) r e h
+  at-model r e h = then-refused (model-tests p n a b cs ws ns) (unless (mixed-test n a b) not-mixed) r e h
 
-  pub at-mixed : refusal p n a b cs ws ≡ 0 → mixed-test n a b ≡ false → 10 ≡ mixed-refusal p n a b cs ws
+  pub at-mixed : refusal p n a b cs ws ns ≡ 0 → mixed-test n a b ≡ false → 10 ≡ mixed-refusal p n a b cs ws ns
   unfolding refusal mixed-refusal mixed-tests
-  at-mixed z e = then-passed (model-tests p n a b cs ws) (unless (mixed-test n a b) not-mixed) 10 z (first-fails (mixed-test n a b) not-mixed [] e)
+  at-mixed z e = then-passed (model-tests p n a b cs ws ns) (unless (mixed-test n a b) not-mixed) 10 z (first-fails (mixed-test n a b) not-mixed [] e)
 
-  pub at-none : refusal p n a b cs ws ≡ 0 → mixed-test n a b ≡ true → 0 ≡ mixed-refusal p n a b cs ws
+  pub at-none : refusal p n a b cs ws ns ≡ 0 → mixed-test n a b ≡ true → 0 ≡ mixed-refusal p n a b cs ws ns
   unfolding refusal mixed-refusal mixed-tests
-  at-none z e = sym (zero-then (model-tests p n a b cs ws) (unless (mixed-test n a b) not-mixed) z (zero-unless (mixed-test n a b) not-mixed e))
+  at-none z e = sym (zero-then (model-tests p n a b cs ws ns) (unless (mixed-test n a b) not-mixed) z (zero-unless (mixed-test n a b) not-mixed e))
 
   pub mixed-reads : (mixed-test n a b ≡ true) ↔ ((a ≡ b) × (a + n ≤ most-columns))
   unfolding mixed-test
@@ -232,10 +233,10 @@ module _ (p n a b : ℕ) (cs ws : List ℕ) where
     λ w. and-in (eq-eqb a b (w .0)) (le-leb (a + n) most-columns (w .1)),
   )
 
-  pub mixed-accepted : mixed-refusal p n a b cs ws ≡ 0 → Accepted p n a a cs ws × (a + n ≤ most-columns)
+  pub mixed-accepted : mixed-refusal p n a b cs ws ns ≡ 0 → Accepted p n a a cs ws ns × (a + n ≤ most-columns)
   unfolding refusal mixed-refusal mixed-tests
   mixed-accepted e =
-      let z = then-zero (model-tests p n a b cs ws) (unless (mixed-test n a b) not-mixed) e in
+      let z = then-zero (model-tests p n a b cs ws ns) (unless (mixed-test n a b) not-mixed) e in
       let w = mixed-reads .0 (unless-zero (mixed-test n a b) not-mixed (z .1)) in
-      let h : Accepted p n a b cs ws = model-accepted p n a b cs ws (z .0) in
+      let h : Accepted p n a b cs ws ns = model-accepted p n a b cs ws ns (z .0) in
       (rw (sym (w .0)) at h, w .1)

@@ -2,6 +2,7 @@
 use Prim.Native.Nat.{ℕ, _<_}
 use mathlib.Core.Path.{_≡_}
 use mathlib.Core.List.{List, flatten}
+use mathlib.Core.Option.{Option}
 use Rattle.counting.specs.Sets.{_∈_}
 use Rattle.columns.specs.Columns.{width, members, word-of}
 use Rattle.columns.specs.ColumnSets.{whole, empty-set}
@@ -31,9 +32,9 @@ pub record MixedAnswered (X : Mixed) (r : MixedAnswer) : Type 0 where
   pub they-reach : mixed-sum X (members (whole (r .rows))) (members (whole (r .columns))) ≡ mixed-rank X
   pub short-number : whole (r .short) ≡ word-of width (short (layered-form X))
 
--- the mixed rank call for a model handed over
-abbrev pub MixedCall : (p n a b : ℕ) (cs ws : List ℕ) → MixedAnswer → Type 0
-MixedCall p n a b cs ws r = RankCall (mixed-refusal p n a b cs ws) (r .refusal) (MixedRefused r) (MixedAnswered (mixed p a n cs ws) r)
+-- the mixed rank call for a model handed over; its parameters' numbers are judged, and the answer is that of the model without them
+abbrev pub MixedCall : (p n a b : ℕ) (cs ws : List ℕ) → Option (List ℕ) → MixedAnswer → Type 0
+MixedCall p n a b cs ws ns r = RankCall (mixed-refusal p n a b cs ws ns) (r .refusal) (MixedRefused r) (MixedAnswered (mixed p a n cs ws) r)
 
 -- ---- the model in a file
 

@@ -1,6 +1,7 @@
 // The mixed rank call: row i is the sum of constant row i and parameter row i. It is answered through the layered form.
 ghost use mathlib.Core.Path.{_≡_};
 ghost use mathlib.Core.Logic.{_↔_};
+ghost use mathlib.Core.Option.{none};
 ghost use mathlib.Core.Bool.{true, false};
 ghost use Prim.Native.Nat.{ℕ, _+_, _*_, _<_, _≤_};
 ghost use lib.ListN.{length, getD};
@@ -8,6 +9,7 @@ ghost use Rattle.limits.specs.Limits.{most-columns, most-rows, most-constants};
 ghost use Rattle.counting.specs.Sets.{_∈_};
 ghost use Rattle.columns.specs.Columns.{members};
 ghost use Rattle.columns.specs.ColumnSets.{whole, row-numbers};
+ghost use Rattle.format.specs.Numbers.{lent};
 ghost use Rattle.format.specs.Refusals.{mixed-refusal};
 ghost use Rattle.mixed.specs.MixedForm.{form-entry, form-row, serves};
 ghost use Rattle.mixed.specs.MixedAnswers.{MixedRefused, MixedCall, MixedFileCall};
@@ -20,7 +22,7 @@ use limits::MOST_COLUMNS;
 use limits::MOST_CONSTANTS;
 use limits::MOST_ROWS;
 use limits::NO_COLUMN;
-use loader::read_file;
+use loader::read_rows;
 
 // The refusal or 0; the verdict, 0 "open", 1 "determined" or 2 "surplus"; the rank; rows I and columns J that reach it; and the short
 // set of the layered form.
@@ -47,10 +49,19 @@ fn refuse(number: u32) -> MixedAnswer
 }
 
 // The refusal of a mixed question, or 0.
-fn judge_mixed(p: u32, n: usize, a: usize, b: usize, constants: &[u16], parameters: &[u64]) -> u32
-    ensures { λ r. ⌜ r ≡ mixed-refusal p n a b (now (constants .entry)) (row-numbers (now (parameters .entry))) ⌝ }
+fn judge_mixed(
+    p: u32,
+    n: usize,
+    a: usize,
+    b: usize,
+    constants: &[u16],
+    parameters: &[u64],
+    numbered: bool,
+    numbers: &[u16],
+) -> u32
+    ensures { λ r. ⌜ r ≡ mixed-refusal p n a b (now (constants .entry)) (row-numbers (now (parameters .entry))) (lent numbered (now (numbers .entry))) ⌝ }
 {
-    let number = judge_model(p, n, a, b, constants, parameters);
+    let number = judge_model(p, n, a, b, constants, parameters, numbered, numbers);
     if number != 0 {
         return number;
     }
@@ -132,7 +143,8 @@ fn idle_rows(rows: [u8; MOST_ROWS], m: usize) -> ColumnSet
     idle
 }
 
-// The answer to the mixed model of p, n, m = a = b, the constants row by row and the parameter rows.
+// The answer to the mixed model of p, n, m = a = b, the constants row by row, the parameter rows and, where it is numbered, their
+// numbers row by row, which are judged and no more.
 pub fn mixed_rank(
     p: u32,
     n: usize,
@@ -140,10 +152,12 @@ pub fn mixed_rank(
     b: usize,
     constants: &[u16],
     parameters: &[u64],
+    numbered: bool,
+    numbers: &[u16],
 ) -> MixedAnswer
-    ensures { λ r. ⌜ MixedCall p n a b (now (constants .entry)) (row-numbers (now (parameters .entry))) r ⌝ }
+    ensures { λ r. ⌜ MixedCall p n a b (now (constants .entry)) (row-numbers (now (parameters .entry))) (lent numbered (now (numbers .entry))) r ⌝ }
 {
-    let number = judge_mixed(p, n, a, b, constants, parameters);
+    let number = judge_mixed(p, n, a, b, constants, parameters, numbered, numbers);
     if number != 0 {
         return refuse(number);
     }
@@ -170,15 +184,30 @@ pub fn mixed_rank(
     }
 }
 
+// The answer to an unnumbered model.
+fn unnumbered_mixed(
+    p: u32,
+    n: usize,
+    a: usize,
+    b: usize,
+    constants: &[u16],
+    parameters: &[u64],
+) -> MixedAnswer
+    ensures { λ r. ⌜ MixedCall p n a b (now (constants .entry)) (row-numbers (now (parameters .entry))) none r ⌝ }
+{
+    // an unnumbered model has no numbers: an empty part stands for them
+    mixed_rank(p, n, a, b, constants, parameters, false, &constants[..0])
+}
+
 // The answer to the mixed model in a file, or the refusal of the file or of the question.
 pub fn mixed_file(file: &[u8]) -> MixedAnswer
     ensures { λ r. ⌜ MixedFileCall (now (file .entry)) r ⌝ }
 {
     let mut constants = [0u16; MOST_CONSTANTS];
     let mut parameters = [0u64; MOST_WORDS];
-    let sizes = read_file(file, &mut constants, &mut parameters);
+    let sizes = read_rows(file, &mut constants, &mut parameters);
     if sizes.refusal != 0 {
         return refuse(sizes.refusal);
     }
-    mixed_rank(sizes.p, sizes.n, sizes.a, sizes.b, &constants, &parameters)
+    unnumbered_mixed(sizes.p, sizes.n, sizes.a, sizes.b, &constants, &parameters)
 }

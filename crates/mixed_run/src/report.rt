@@ -35,12 +35,30 @@ fn tell(answer: MixedAnswer, m: usize, n: usize) {
     }
 }
 
-// The rest of a line whose name is written.
+// The rest of a line whose name is written, for an unnumbered model.
 pub fn answer_line(p: u32, n: usize, a: usize, b: usize, constants: &[u16], parameters: &[u64]) {
-    tell(mixed::mixed_rank(p, n, a, b, constants, parameters), a, n);
+    let numbers = [0u16; 1];
+    let answer = mixed::mixed_rank(p, n, a, b, constants, parameters, false, &numbers[..0]);
+    tell(answer, a, n);
 }
 
-// A whole line.
+// A whole line for a numbered model,
+pub fn numbered_line(
+    name: &[u8],
+    p: u32,
+    n: usize,
+    a: usize,
+    b: usize,
+    constants: &[u16],
+    parameters: &[u64],
+    numbers: &[u16],
+) {
+    io::write_all(1, name);
+    let answer = mixed::mixed_rank(p, n, a, b, constants, parameters, true, numbers);
+    tell(answer, a, n);
+}
+
+// and for an unnumbered one.
 pub fn line(
     name: &[u8],
     p: u32,

@@ -1,9 +1,10 @@
--- The refusal and the answers of a model depend on the first a × n constants and the first b parameter rows alone. Assumes nothing.
+-- The refusal and the answers of a model depend on the first a × n constants, the first b parameter rows and the numbers of their parameters alone. Assumes nothing.
 use Prim.Native.Nat.{ℕ, suc, _+_, _*_, _≤_, _<_}
 use mathlib.Core.Path.{_≡_, sym, ap, ap₂, _∙_, fun-ext}
 use mathlib.Core.Logic.{by-cases}
 use mathlib.Core.Bool.{true, decide}
 use mathlib.Core.List.{List, []}
+use mathlib.Core.Option.{Option}
 use native.Mathlib.Omega.{arith}
 use native.Mathlib.Decide.{ℕ-discrete}
 use native.Mathlib.Nat.{suc-mul, mul-le-mul-right}
@@ -25,7 +26,8 @@ use Rattle.mixed_models.specs.Mixed.{Mixed, unit, mixed-rank, mixed-verdict, fo
 use Rattle.mixed_models.specs.MixedTheorem.{form-rank}
 use Rattle.limits.specs.Limits.{most-columns}
 use Rattle.format.specs.Lists.{rows-of, over}
-use Rattle.format.specs.Refusals.{Tests, unless, _then_, first-refusal, where-accepted, area-short, not-mixed, area-test, model-tests, refusal, mixed-test, mixed-tests, mixed-refusal}
+use Rattle.format.specs.Numbers.{numbers-of}
+use Rattle.format.specs.Refusals.{Tests, unless, _then_, first-refusal, where-accepted, area-short, not-mixed, area-test, numbers-room, number-test, model-tests, refusal, mixed-test, mixed-tests, mixed-refusal}
 use Rattle.format.specs.File.Format.{FileModel, encode, handed-over, write-refusal, bytes-written, WriteCall}
 use Rattle.format.specs.RefusalLaws.{then-zero, unless-zero}
 use Rattle.format.specs.TestLaws.{area-reads}
@@ -53,43 +55,52 @@ module _ (k : ℕ) (xs ys : List ℕ) (e : take k xs ≡ take k ys) where
       (λ t. area-reads k (length ys) .1 (g .1 (let m = f .0 (area-reads k (length xs) .0 t) in omega arith)))
       (λ t. area-reads k (length xs) .1 (f .1 (let m = g .0 (area-reads k (length ys) .0 t) in omega arith)))
 
+-- two areas of numbers, or none, from which the parameters of b rows have the same numbers
+pub record SameNumbers (n b : ℕ) (ws : List ℕ) (ns ms : Option (List ℕ)) : Type 0 where
+  pub room-same : numbers-room (b * n) ns ≡ numbers-room (b * n) ms
+  pub test-same : number-test n (take b ws) ns ≡ number-test n (take b ws) ms
+  pub rows-same : numbers-of n (take b ws) ns ≡ numbers-of n (take b ws) ms
+
 module _ (p n a b : ℕ) (cs ds ws vs : List ℕ) (ec : take (a * n) cs ≡ take (a * n) ds) (ew : take b ws ≡ take b vs) where
-  -- ---- refusals
+  module _ (ns ms : Option (List ℕ)) (en : SameNumbers n b ws ns ms) where
+    -- ---- refusals
 
-  tests-same : model-tests p n a b cs ws ≡ model-tests p n a b ds vs
-  unfolding model-tests
-  tests-same = rw (front-area (a * n) cs ds ec, front-area b ws vs ew, ec, ew)
+    tests-same : model-tests p n a b cs ws ns ≡ model-tests p n a b ds vs ms
+    unfolding model-tests
+    tests-same = rw (front-area (a * n) cs ds ec, front-area b ws vs ew, ec, en .room-same, en .test-same, ew)
 
-  pub refusal-same : refusal p n a b cs ws ≡ refusal p n a b ds vs
-  unfolding refusal
-  refusal-same = ap first-refusal tests-same
+    pub refusal-same : refusal p n a b cs ws ns ≡ refusal p n a b ds vs ms
+    unfolding refusal
+    refusal-same = ap first-refusal tests-same
 
-  pub mixed-refusal-same : mixed-refusal p n a b cs ws ≡ mixed-refusal p n a b ds vs
-  unfolding mixed-refusal mixed-tests
-  mixed-refusal-same = ap (λ (ts : Tests). first-refusal (ts then unless (mixed-test n a b) not-mixed)) tests-same
+    pub mixed-refusal-same : mixed-refusal p n a b cs ws ns ≡ mixed-refusal p n a b ds vs ms
+    unfolding mixed-refusal mixed-tests
+    mixed-refusal-same = ap (λ (ts : Tests). first-refusal (ts then unless (mixed-test n a b) not-mixed)) tests-same
 
-  -- ---- the file written
+    -- ---- the file written
 
-  handed-same : handed-over p n a b cs ws ≡ handed-over p n a b ds vs
-  unfolding handed-over
-  handed-same =
-      ap₂ (λ (rs : List (List ℕ)) (us : List ℕ). record { p = p; n = n; a = a; b = b; constants = rs; parameters = us })
-      (sym (rows-of-take n a cs) ∙ ap (rows-of n a) ec ∙ rows-of-take n a ds) ew
+    handed-same : handed-over p n a b cs ws ns ≡ handed-over p n a b ds vs ms
+    unfolding handed-over
+    handed-same =
+        ap (λ (rs : List (List ℕ)). record { p = p; n = n; a = a; b = b; constants = rs; parameters = take b ws; numbers = numbers-of n (take b ws) ns })
+        (sym (rows-of-take n a cs) ∙ ap (rows-of n a) ec ∙ rows-of-take n a ds)
+        ∙ ap (λ (x : Option (List (List ℕ))). record { p = p; n = n; a = a; b = b; constants = rows-of n a ds; parameters = take b ws; numbers = x }) (en .rows-same)
+        ∙ ap (λ (us : List ℕ). record { p = p; n = n; a = a; b = b; constants = rows-of n a ds; parameters = us; numbers = numbers-of n us ms }) ew
 
-  write-refusal-same : (out : List ℕ) → write-refusal p n a b cs ws out ≡ write-refusal p n a b ds vs out
-  unfolding write-refusal
-  write-refusal-same out = ap₂ (λ (ts : Tests) (m : FileModel). first-refusal (ts then unless (area-test (length (encode m)) (length out)) area-short)) tests-same handed-same
+    write-refusal-same : (out : List ℕ) → write-refusal p n a b cs ws ns out ≡ write-refusal p n a b ds vs ms out
+    unfolding write-refusal
+    write-refusal-same out = ap₂ (λ (ts : Tests) (m : FileModel). first-refusal (ts then unless (area-test (length (encode m)) (length out)) area-short)) tests-same handed-same
 
-  bytes-same : (out : List ℕ) → bytes-written p n a b cs ws out ≡ bytes-written p n a b ds vs out
-  unfolding bytes-written
-  bytes-same out = ap₂ (λ (k : ℕ) (m : FileModel). where-accepted k (encode m) []) (write-refusal-same out) handed-same
+    bytes-same : (out : List ℕ) → bytes-written p n a b cs ws ns out ≡ bytes-written p n a b ds vs ms out
+    unfolding bytes-written
+    bytes-same out = ap₂ (λ (k : ℕ) (m : FileModel). where-accepted k (encode m) []) (write-refusal-same out) handed-same
 
-  pub write-same : {out out′ : List ℕ} {k len : ℕ} → WriteCall p n a b cs ws out k len out′ → WriteCall p n a b ds vs out k len out′
-  write-same {out} h = record {
-    refusal-is = h .refusal-is ∙ write-refusal-same out;
-    length-is = h .length-is ∙ ap length (bytes-same out);
-    bytes-are = h .bytes-are ∙ ap (λ (bs : List ℕ). over bs out) (bytes-same out);
-  }
+    pub write-same : {out out′ : List ℕ} {k len : ℕ} → WriteCall p n a b cs ws ns out k len out′ → WriteCall p n a b ds vs ms out k len out′
+    write-same {out} h = record {
+      refusal-is = h .refusal-is ∙ write-refusal-same out;
+      length-is = h .length-is ∙ ap length (bytes-same out);
+      bytes-are = h .bytes-are ∙ ap (λ (bs : List ℕ). over bs out) (bytes-same out);
+    }
 
   -- ---- the layered answer
 
@@ -105,11 +116,11 @@ module _ (p n a b : ℕ) (cs ds ws vs : List ℕ) (ec : take (a * n) cs ≡ take
     parameters = λ r x l m. ap (λ (w : ℕ). members w x) (front-at b ws vs ew r l);
   }
 
-  pub layered-same : {r s : Answer} → LayeredCall p n a b cs ws r → LayeredCall p n a b ds vs s → SameAnswer r s
-  layered-same h g =
-      let e = refusal-same in
+  -- whatever the numbers, where the refusals are the same
+  pub layered-same : (ns ms : Option (List ℕ)) → refusal p n a b cs ws ns ≡ refusal p n a b ds vs ms → {r s : Answer} → LayeredCall p n a b cs ws ns r → LayeredCall p n a b ds vs ms s → SameAnswer r s
+  layered-same ns ms e h g =
       let first = h .is-refusal ∙ e ∙ sym (g .is-refusal) in
-      by-cases (ℕ-discrete (refusal p n a b cs ws) 0)
+      by-cases (ℕ-discrete (refusal p n a b cs ws ns) 0)
       (λ z.
       let x = h .if-accepted z in
       let y = g .if-accepted (sym e ∙ z) in
@@ -136,9 +147,9 @@ module _ (p n a b : ℕ) (cs ds ws vs : List ℕ) (ec : take (a * n) cs ≡ take
 
   -- ---- the mixed answer
 
-  equal-rows : mixed-refusal p n a b cs ws ≡ 0 → a ≡ b
+  equal-rows : (ns : Option (List ℕ)) → mixed-refusal p n a b cs ws ns ≡ 0 → a ≡ b
   unfolding mixed-refusal mixed-tests mixed-test
-  equal-rows z = eqb-true a b (and-left (eqb a b) (leb (a + n) most-columns) (unless-zero _ _ (then-zero (model-tests p n a b cs ws) _ z .1)))
+  equal-rows ns z = eqb-true a b (and-left (eqb a b) (leb (a + n) most-columns) (unless-zero _ _ (then-zero (model-tests p n a b cs ws ns) _ z .1)))
 
   module _ (ab : a ≡ b) where
     abbrev X : Mixed
@@ -178,15 +189,14 @@ module _ (p n a b : ℕ) (cs ds ws vs : List ℕ) (ec : take (a * n) cs ≡ take
     unfolding mixed-verdict
     mixed-verdict-same = ap (λ (k : ℕ). verdict-number k n a) mixed-rank-same
 
-  pub mixed-same : {r s : MixedAnswer} → MixedCall p n a b cs ws r → MixedCall p n a b ds vs s → SameMixed r s
-  mixed-same h g =
-      let e = mixed-refusal-same in
+  pub mixed-same : (ns ms : Option (List ℕ)) → mixed-refusal p n a b cs ws ns ≡ mixed-refusal p n a b ds vs ms → {r s : MixedAnswer} → MixedCall p n a b cs ws ns r → MixedCall p n a b ds vs ms s → SameMixed r s
+  mixed-same ns ms e h g =
       let first = h .is-refusal ∙ e ∙ sym (g .is-refusal) in
-      by-cases (ℕ-discrete (mixed-refusal p n a b cs ws) 0)
+      by-cases (ℕ-discrete (mixed-refusal p n a b cs ws ns) 0)
       (λ z.
       let x = h .if-accepted z in
       let y = g .if-accepted (sym e ∙ z) in
-      let ab = equal-rows z in record {
+      let ab = equal-rows ns z in record {
         same-refusal = first;
         same-verdict = x .is-verdict ∙ mixed-verdict-same ab ∙ sym (y .is-verdict);
         same-rank = x .is-rank ∙ mixed-rank-same ab ∙ sym (y .is-rank);

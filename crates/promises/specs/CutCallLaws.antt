@@ -2,6 +2,7 @@
 use Prim.Native.Nat.{ℕ, _≤_, _<_}
 use mathlib.Core.Path.{_≡_, refl, sym, ap, _∙_, subst}
 use mathlib.Core.Logic.{by-cases}
+use mathlib.Core.Bool.{Bool}
 use mathlib.Core.List.{List, [], flatten}
 use native.Mathlib.Omega.{arith}
 use native.Mathlib.Decide.{ℕ-discrete}
@@ -9,14 +10,15 @@ use lib.ListN.{length, take}
 use lib.Seq.{take-all}
 use Rattle.columns.specs.Words.Bytes.{AreBytes}
 use Rattle.format.specs.Lists.{over}
-use Rattle.limits.specs.Limits.{longest-file}
-use Rattle.format.specs.Refusals.{Tests, _then_, first-refusal}
+use Rattle.limits.specs.Limits.{most-rows, longest-file}
+use Rattle.format.specs.Numbers.{number-entries, is-numbered}
+use Rattle.format.specs.Refusals.{Tests, unless, _then_, first-refusal, area-short, area-test}
 use Rattle.format.specs.RefusalLaws.{then-refused, where-refused}
 use Rattle.format.specs.File.Piece.{closed}
-use Rattle.format.specs.File.Format.{FileModel, fields, judge, decode, no-model, read-refusal, model-read, ReadCall}
+use Rattle.format.specs.File.Format.{FileModel, ValidModel, fields, judge, decode, area-tests, number-room, no-model, read-model, RowsRead, rows-refusal, RowsCall, read-refusal, model-read, ReadCall}
 use Rattle.format.specs.File.FormatLaws.{decoded-valid, encode-decode}
 use Rattle.format.specs.File.RowSizes.{parameter-rows-most}
-use Rattle.format.specs.File.WriteLaws.{file-length}
+use Rattle.format.specs.File.WriteLaws.{file-length, numbers-size-most}
 use Rattle.layered.specs.FileModel.{file-model}
 use Rattle.mixed.specs.MixedAnswers.{MixedAnswered, file-mixed, mixed-question}
 use Rattle.host.specs.AreaCall.{area-refusal, AreaCall}
@@ -33,7 +35,10 @@ pub accepted-most : (s : List ℕ) → AreBytes s → judge s ≡ 0 → length s
 accepted-most s bytes e =
     let v = decoded-valid s bytes e in
     let l = sym (ap length (encode-decode s bytes e)) ∙ file-length (decode s) v in
-    omega (arith, rows-most (decode s .a) (decode s .n) (v .a-most) (v .n-most), parameter-rows-most (decode s .b) (decode s .n) (v .b-most))
+    omega (arith, rows-most (decode s .a) (decode s .n) (v .a-most) (v .n-most), parameter-rows-most (decode s .b) (decode s .n) (v .b-most), numbers-size-most (decode s .n) (decode s .parameters) (decode s .numbers), rows-most (length (decode s .parameters)) (decode s .n) (few (decode s .parameters) v) (v .n-most))
+  where
+    few : (ws : List ℕ) → ValidModel (decode s) → length (decode s .parameters) ≤ most-rows
+    few ws v = omega (arith, v .parameter-rows, v .b-most)
 
 module _ (k : ℕ) (s : List ℕ) (bytes : AreBytes s) (h : longest-file < k) where
   -- an accepted file is not cut
@@ -42,33 +47,53 @@ module _ (k : ℕ) (s : List ℕ) (bytes : AreBytes s) (h : longest-file < k) wh
 
   -- ---- read into areas
 
-  module _ (cs ws : List ℕ) where
-    refusal-cut : read-refusal (take k s) cs ws ≡ read-refusal s cs ws
-    unfolding read-refusal judge
-    refusal-cut =
+  -- of every reading: the file's own number, then those of its areas
+  module _ (areas : List ℕ → Tests) where
+    abbrev due : List ℕ → ℕ
+    due t = first-refusal (closed fields t then areas t)
+
+    due-cut : due (take k s) ≡ due s
+    unfolding judge
+    due-cut =
         by-cases (ℕ-discrete (judge s) 0)
-        (λ z. ap (λ (t : List ℕ). read-refusal t cs ws) (accepted-whole z))
+        (λ z. ap due (accepted-whole z))
         (λ nz. sym (then-refused (closed fields (take k s)) _ (judge s) (sym (judge-cut k s h)) nz) ∙ then-refused (closed fields s) _ (judge s) refl nz)
 
-    model-cut : model-read (take k s) cs ws ≡ model-read s cs ws
-    unfolding model-read read-refusal judge
+    model-cut : read-model (due (take k s)) (take k s) ≡ read-model (due s) s
+    unfolding read-model judge
     model-cut =
         by-cases (ℕ-discrete (judge s) 0)
-        (λ z. ap (λ (t : List ℕ). model-read t cs ws) (accepted-whole z))
+        (λ z. ap (λ (t : List ℕ). read-model (due t) t) (accepted-whole z))
         (λ nz.
-        let e : judge s ≡ read-refusal s cs ws = then-refused (closed fields s) _ (judge s) refl nz in
-        where-refused (judge s) (e ∙ sym refusal-cut) nz (decode (take k s)) no-model ∙ sym (where-refused (judge s) e nz (decode s) no-model))
+        let e : judge s ≡ due s = then-refused (closed fields s) _ (judge s) refl nz in
+        where-refused (judge s) (e ∙ sym due-cut) nz (decode (take k s)) no-model ∙ sym (where-refused (judge s) e nz (decode s) no-model))
 
-    pub reading-cut : (r p n a b : ℕ) (cs′ ws′ : List ℕ) → ReadCall (take k s) cs ws r p n a b cs′ ws′ → ReadCall s cs ws r p n a b cs′ ws′
-    reading-cut r p n a b cs′ ws′ g = record {
-      refusal-is = g .refusal-is ∙ refusal-cut;
+    rows-cut : {cs ws : List ℕ} {r p n a b : ℕ} {u : Bool} {cs′ ws′ : List ℕ} → RowsRead (due (take k s)) (take k s) cs ws r p n a b u cs′ ws′ → RowsRead (due s) s cs ws r p n a b u cs′ ws′
+    rows-cut {cs} {ws} g = record {
+      refusal-is = g .refusal-is ∙ due-cut;
       p-is = g .p-is ∙ ap (λ (m : FileModel). m .p) model-cut;
       n-is = g .n-is ∙ ap (λ (m : FileModel). m .n) model-cut;
       a-is = g .a-is ∙ ap (λ (m : FileModel). m .a) model-cut;
       b-is = g .b-is ∙ ap (λ (m : FileModel). m .b) model-cut;
+      numbered-is = g .numbered-is ∙ ap (λ (m : FileModel). is-numbered (m .numbers)) model-cut;
       constants-are = g .constants-are ∙ ap (λ (m : FileModel). over (flatten (m .constants)) cs) model-cut;
       parameters-are = g .parameters-are ∙ ap (λ (m : FileModel). over (m .parameters) ws) model-cut;
     }
+
+  pub rows-reading-cut : (cs ws : List ℕ) (r p n a b : ℕ) (u : Bool) (cs′ ws′ : List ℕ) → RowsCall (take k s) cs ws r p n a b u cs′ ws′ → RowsCall s cs ws r p n a b u cs′ ws′
+  unfolding rows-refusal
+  rows-reading-cut cs ws r p n a b u cs′ ws′ g = rows-cut (λ t. area-tests (decode t) cs ws) g
+
+  pub reading-cut : (cs ws ks : List ℕ) (r p n a b : ℕ) (u : Bool) (cs′ ws′ ks′ : List ℕ) → ReadCall (take k s) cs ws ks r p n a b u cs′ ws′ ks′ → ReadCall s cs ws ks r p n a b u cs′ ws′ ks′
+  unfolding read-refusal model-read
+  reading-cut cs ws ks r p n a b u cs′ ws′ ks′ g =
+      record {
+        rows-are = rows-cut (tests cs ws ks) (g .rows-are);
+        numbers-are = g .numbers-are ∙ ap (λ (m : FileModel). over (number-entries (m .n) (m .parameters) (m .numbers)) ks) (model-cut (tests cs ws ks));
+      }
+    where
+      tests : (cs ws ks : List ℕ) → List ℕ → Tests
+      tests cs ws ks t = area-tests (decode t) cs ws then unless (area-test (number-room (decode t)) (length ks)) area-short
 
   -- ---- the C calls
 

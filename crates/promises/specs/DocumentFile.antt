@@ -2,6 +2,7 @@
 use Prim.Native.Nat.{ℕ}
 use mathlib.Core.Path.{_≡_, refl, ap}
 use mathlib.Core.List.{List, [], _∷_, flatten}
+use mathlib.Core.Option.{none}
 use Rattle.residue.specs.Arithmetic.{is-prime, undivided}
 use Rattle.counting.specs.Sets.{all}
 use Rattle.columns.specs.Columns.{members, within-in}
@@ -10,7 +11,7 @@ use Rattle.mixed_models.specs.Starred.Models.{S2}
 use Rattle.format.specs.Lists.{all-pass}
 use Rattle.format.specs.Refusals.{first-refusal, head-test, body-test, due-test, prime-test, size-test, constant-test, end-test}
 use Rattle.format.specs.File.Piece.{head-tests, closed}
-use Rattle.format.specs.File.Format.{FileModel, entries, prime-field, sizes-field, constant-row, parameter-size, parameter-row, end-field, row-fields, size-fields, fields, judge, decode}
+use Rattle.format.specs.File.Format.{FileModel, entries, prime-field, sizes-field, constant-row, parameter-size, parameter-row, numbered-test, parameter-rows, end-field, row-fields, size-fields, fields, judge, decode}
 use Rattle.layered.specs.FileModel.{file-model}
 
 -- document 01's 32 bytes
@@ -25,14 +26,14 @@ unfolding is-prime undivided all members within-in all-pass first-refusal head-t
 tests = 0
 
 unfoldable run : ℕ
-unfolding document-file tests closed entries prime-field sizes-field constant-row parameter-size parameter-row end-field row-fields size-fields fields judge decode
+unfolding document-file tests closed entries prime-field sizes-field constant-row parameter-size parameter-row numbered-test parameter-rows end-field row-fields size-fields fields judge decode
 run = 0
 
 pub document-accepted : judge document-file ≡ 0
 unfolding run
 document-accepted = refl
 
-decoded : decode document-file ≡ record { p = 1021; n = 2; a = 1; b = 1; constants = (1 ∷ 0 ∷ []) ∷ []; parameters = 2 ∷ [] }
+decoded : decode document-file ≡ record { p = 1021; n = 2; a = 1; b = 1; constants = (1 ∷ 0 ∷ []) ∷ []; parameters = 2 ∷ []; numbers = none }
 unfolding run
 decoded = refl
 

@@ -1,18 +1,21 @@
 -- What is proved over the promises of the calls, one theorem after another. Assumes nothing.
 use Prim.Native.Nat.{ℕ, _+_, _*_, _^_, _≤_, _<_}
-use mathlib.Core.Path.{_≡_, sym, _∙_, subst}
+use mathlib.Core.Path.{_≡_, refl, sym, _∙_, subst}
+use mathlib.Core.Bool.{Bool}
+use mathlib.Core.Option.{Option, none, some}
 use mathlib.Core.Logic.{_⊎_}
 use mathlib.Core.List.{List}
 use native.Mathlib.Omega.{arith}
 use lib.ListN.{length, getD, take}
 use lib.Seq.{take-take}
-use Rattle.counting.specs.Sets.{#, Some}
+use Rattle.counting.specs.Sets.{_∈_, #, Some}
 use Rattle.columns.specs.Columns.{word-width, width, members}
 use Rattle.columns.specs.ColumnSets.{whole, row-numbers}
 use Rattle.columns.specs.Words.Rows.{rows-below}
 use Rattle.columns.specs.Words.Bytes.{AreBytes}
 use Rattle.rank.specs.Layered.Model.{Model}
-use Rattle.mixed_models.specs.Mixed.{Mixed}
+use Rattle.rank.specs.ListedModel.{listed-model}
+use Rattle.mixed_models.specs.Mixed.{Mixed, mixed}
 use Rattle.mixed_models.specs.MixedRowUse.{UsesEveryRow, LeavesRow}
 use Rattle.mixed_models.specs.MixedVerdicts.{mixed-determined-uses-every-row, mixed-surplus-leaves-a-row}
 use Rattle.mixed_models.specs.Starred.Models.{S2}
@@ -21,8 +24,10 @@ use Rattle.determinants.specs.ModelTables.{LayeredOrder, MixedOrder}
 use Rattle.determinants.specs.Theorems.{rank-is-largest-order, mixed-rank-is-largest-order}
 use Rattle.format.specs.Lists.{over}
 use Rattle.limits.specs.Limits.{most-columns, longest-file, no-column}
+use Rattle.format.specs.Numbers.{lent, numbers-of, is-numbered}
 use Rattle.format.specs.Refusals.{refusal, mixed-refusal}
-use Rattle.format.specs.File.Format.{judge, ReadCall, WriteCall}
+use Rattle.format.specs.TestLaws.{model-accepted, accepted-model, unnumbered-accepted}
+use Rattle.format.specs.File.Format.{judge, decode, encode, number-room, RowsCall, ReadCall, handed-over, WriteCall}
 use Rattle.loader.specs.FileRead.{FileRead}
 use Rattle.loader.specs.declared.header.Sizes.{Sizes}
 use Rattle.writer.specs.FileWritten.{FileWritten}
@@ -30,7 +35,7 @@ use Rattle.writer.specs.declared.Written.{Written}
 use Rattle.layered.specs.Answers.{Answered, LayeredCall}
 use Rattle.layered.specs.declared.Answer.{Answer}
 use Rattle.layered.specs.FileModel.{file-model}
-use Rattle.mixed.specs.MixedAnswers.{MixedAnswered, MixedCall}
+use Rattle.mixed.specs.MixedAnswers.{MixedAnswered, MixedCall, file-mixed}
 use Rattle.mixed.specs.declared.MixedAnswer.{MixedAnswer}
 use Rattle.promises.specs.Fixed.{SameAnswer, SameMixed}
 use Rattle.solvability.specs.Host.{HostAnswer, HostMixedAnswer}
@@ -39,35 +44,38 @@ use Rattle.report.specs.FileReport.{FileReport}
 use Rattle.mixed_report.specs.MixedReport.{MixedFileReport}
 use Rattle.promises.specs.TripLaws.{read-then-written, written-then-read}
 use Rattle.promises.specs.CutLaws.{judge-cut}
-use Rattle.promises.specs.CutCallLaws.{reading-cut, host-cut, host-mixed-cut, report-cut, mixed-report-cut}
+use Rattle.promises.specs.CutCallLaws.{reading-cut, rows-reading-cut, host-cut, host-mixed-cut, report-cut, mixed-report-cut}
 use Rattle.promises.specs.AnswerLaws.{refusal-same, mixed-refusal-same, write-same, layered-same, mixed-same}
+use Rattle.promises.specs.NumberingLaws.{numbers-front, front-same, named, mixed-unnumbered, picked-same, without-numbers, file-unnumbered}
 use Rattle.promises.specs.RowLaws.{determined-rows, surplus-rows}
 use Rattle.promises.specs.ShownLaws.{ShownWhole, answer-shown-whole, mixed-shown-whole}
 use Rattle.promises.specs.DocumentFile.{document-file, document-accepted, document-model}
 
 -- ---- read and written, written and read
 
--- A file that was read is written again as it was, whatever the areas held before.
-pub read-then-write : (s cs ws : List ℕ) → AreBytes s → (r : Sizes) (cs′ ws′ : List ℕ) → FileRead s cs ws r cs′ ws′ → r .refusal ≡ 0
-    → (out : List ℕ) → length s ≤ length out → (w : Written) (out′ : List ℕ) → FileWritten (r .p) (r .n) (r .a) (r .b) cs′ ws′ out w out′
+-- A file that was read is written again as it was, whatever the areas held before; its parameters' numbers are handed over where it is numbered.
+pub read-then-write : (s cs ws ks : List ℕ) → AreBytes s → (r : Sizes) (cs′ ws′ ks′ : List ℕ) → FileRead s cs ws ks r cs′ ws′ ks′ → r .refusal ≡ 0
+    → (out : List ℕ) → length s ≤ length out → (w : Written) (out′ : List ℕ) → FileWritten (r .p) (r .n) (r .a) (r .b) cs′ ws′ (lent (r .numbered) ks′) out w out′
     → (w .refusal ≡ 0) × (w .length ≡ length s) × (out′ ≡ over s out)
-read-then-write s cs ws bytes r cs′ ws′ h z out l w out′ k =
-    read-then-written s cs ws bytes (r .p) (r .n) (r .a) (r .b) cs′ ws′ (subst (λ (j : ℕ). ReadCall s cs ws j (r .p) (r .n) (r .a) (r .b) cs′ ws′) z h) out l
-    (w .refusal) (w .length) out′ k
+read-then-write s cs ws ks bytes r cs′ ws′ ks′ h z out l w out′ k =
+    read-then-written s cs ws ks bytes (r .p) (r .n) (r .a) (r .b) (r .numbered) cs′ ws′ ks′
+    (subst (λ (j : ℕ). ReadCall s cs ws ks j (r .p) (r .n) (r .a) (r .b) (r .numbered) cs′ ws′ ks′) z h) out l (w .refusal) (w .length) out′ k
 
 -- The numbers of parameter rows that an area of words has fit a set's room.
 pub rows-of-words-fit : (words : List ℕ) → ((i : ℕ) → getD words i 0 < 2 ^ word-width) → (r : ℕ) → getD (row-numbers words) r 0 < 2 ^ width
 rows-of-words-fit = rows-below
 
--- A model that was written is read again as it was, into any areas that hold it; the numbers of its parameter rows fit a set's room (`rows-of-words-fit`).
-pub write-then-read : (p n a b : ℕ) (cs ws : List ℕ) → ((i : ℕ) → getD ws i 0 < 2 ^ width)
-    → (out : List ℕ) (w : Written) (out′ : List ℕ) → FileWritten p n a b cs ws out w out′ → w .refusal ≡ 0
-    → (cs₂ ws₂ : List ℕ) → a * n ≤ length cs₂ → b ≤ length ws₂
-    → (r : Sizes) (cs₂′ ws₂′ : List ℕ) → FileRead (take (w .length) out′) cs₂ ws₂ r cs₂′ ws₂′
+-- A model that was written is read again as it was, into any areas that hold it, with the numbers of its parameters; the numbers of its parameter rows fit a
+-- set's room (`rows-of-words-fit`), and those of its parameters two bytes.
+pub write-then-read : (p n a b : ℕ) (cs ws : List ℕ) (ns : Option (List ℕ)) → ((i : ℕ) → getD ws i 0 < 2 ^ width) → ((ks : List ℕ) → ns ≡ some ks → (i : ℕ) → getD ks i 0 < 65536)
+    → (out : List ℕ) (w : Written) (out′ : List ℕ) → FileWritten p n a b cs ws ns out w out′ → w .refusal ≡ 0
+    → (cs₂ ws₂ ks₂ : List ℕ) → a * n ≤ length cs₂ → b ≤ length ws₂ → number-room (handed-over p n a b cs ws ns) ≤ length ks₂
+    → (r : Sizes) (cs₂′ ws₂′ ks₂′ : List ℕ) → FileRead (take (w .length) out′) cs₂ ws₂ ks₂ r cs₂′ ws₂′ ks₂′
     → (r .refusal ≡ 0) × (r .p ≡ p) × (r .n ≡ n) × (r .a ≡ a) × (r .b ≡ b) × (take (a * n) cs₂′ ≡ take (a * n) cs) × (take b ws₂′ ≡ take b ws)
-write-then-read p n a b cs ws words out w out′ h z cs₂ ws₂ fc fw r cs₂′ ws₂′ k =
-    written-then-read p n a b cs ws words out (w .length) out′ (subst (λ (j : ℕ). WriteCall p n a b cs ws out j (w .length) out′) z h) cs₂ ws₂ fc fw
-    (r .refusal) (r .p) (r .n) (r .a) (r .b) cs₂′ ws₂′ k
+    × (r .numbered ≡ is-numbered (numbers-of n (take b ws) ns)) × (numbers-of n (take b ws) (lent (r .numbered) ks₂′) ≡ numbers-of n (take b ws) ns)
+write-then-read p n a b cs ws ns words small out w out′ h z cs₂ ws₂ ks₂ fc fw fk r cs₂′ ws₂′ ks₂′ k =
+    written-then-read p n a b cs ws ns words small out (w .length) out′ (subst (λ (j : ℕ). WriteCall p n a b cs ws ns out j (w .length) out′) z h) cs₂ ws₂ ks₂ fc fw fk
+    (r .refusal) (r .p) (r .n) (r .a) (r .b) (r .numbered) cs₂′ ws₂′ ks₂′ k
 
 -- ---- input cut off
 
@@ -81,9 +89,14 @@ cut-input-behind-the-longest s = judge-cut (longest-file + 1) s (omega arith)
 
 -- What is promised of the part is promised of the whole: of the reading into areas,
 pub cut-input-read : (k : ℕ) (s : List ℕ) → AreBytes s → longest-file < k
-    → (cs ws : List ℕ) (the-refusal p n a b : ℕ) (cs′ ws′ : List ℕ)
-    → ReadCall (take k s) cs ws the-refusal p n a b cs′ ws′ → ReadCall s cs ws the-refusal p n a b cs′ ws′
+    → (cs ws ks : List ℕ) (the-refusal p n a b : ℕ) (numbered : Bool) (cs′ ws′ ks′ : List ℕ)
+    → ReadCall (take k s) cs ws ks the-refusal p n a b numbered cs′ ws′ ks′ → ReadCall s cs ws ks the-refusal p n a b numbered cs′ ws′ ks′
 cut-input-read = reading-cut
+
+pub cut-input-rows : (k : ℕ) (s : List ℕ) → AreBytes s → longest-file < k
+    → (cs ws : List ℕ) (the-refusal p n a b : ℕ) (numbered : Bool) (cs′ ws′ : List ℕ)
+    → RowsCall (take k s) cs ws the-refusal p n a b numbered cs′ ws′ → RowsCall s cs ws the-refusal p n a b numbered cs′ ws′
+cut-input-rows = rows-reading-cut
 
 -- of the C calls,
 pub cut-input-host : (k : ℕ) (s : List ℕ) → AreBytes s → longest-file < k
@@ -105,32 +118,80 @@ cut-input-report-mixed = mixed-report-cut
 
 -- ---- areas longer than the model
 
-module _ (p n a b : ℕ) (cs ws : List ℕ) where
+module _ (p n a b : ℕ) (cs ws : List ℕ) (ns : Option (List ℕ)) where
   cut-cs : take (a * n) cs ≡ take (a * n) (take (a * n) cs)
   cut-cs = sym (take-take (a * n) (a * n) cs (omega arith))
 
   cut-ws : take b ws ≡ take b (take b ws)
   cut-ws = sym (take-take b b ws (omega arith))
 
-  -- What stands in the areas behind the model does not change the refusal,
-  pub surplus-not-tested : refusal p n a b cs ws ≡ refusal p n a b (take (a * n) cs) (take b ws)
-  surplus-not-tested = refusal-same p n a b cs (take (a * n) cs) ws (take b ws) cut-cs cut-ws
+  -- the first b × n entries of the numbers
+  abbrev front-numbers : Option (List ℕ)
+  front-numbers = numbers-front (b * n) ns
 
-  pub surplus-not-tested-mixed : mixed-refusal p n a b cs ws ≡ mixed-refusal p n a b (take (a * n) cs) (take b ws)
-  surplus-not-tested-mixed = mixed-refusal-same p n a b cs (take (a * n) cs) ws (take b ws) cut-cs cut-ws
+  -- What stands in the areas behind the model does not change the refusal,
+  pub surplus-not-tested : refusal p n a b cs ws ns ≡ refusal p n a b (take (a * n) cs) (take b ws) front-numbers
+  surplus-not-tested = refusal-same p n a b cs (take (a * n) cs) ws (take b ws) cut-cs cut-ws ns front-numbers (front-same n b ws ns)
+
+  pub surplus-not-tested-mixed : mixed-refusal p n a b cs ws ns ≡ mixed-refusal p n a b (take (a * n) cs) (take b ws) front-numbers
+  surplus-not-tested-mixed = mixed-refusal-same p n a b cs (take (a * n) cs) ws (take b ws) cut-cs cut-ws ns front-numbers (front-same n b ws ns)
 
   -- nor what is written of the model,
   pub surplus-not-written : {out out′ : List ℕ} {the-refusal len : ℕ}
-      → WriteCall p n a b cs ws out the-refusal len out′ → WriteCall p n a b (take (a * n) cs) (take b ws) out the-refusal len out′
-  surplus-not-written = write-same p n a b cs (take (a * n) cs) ws (take b ws) cut-cs cut-ws
+      → WriteCall p n a b cs ws ns out the-refusal len out′ → WriteCall p n a b (take (a * n) cs) (take b ws) front-numbers out the-refusal len out′
+  surplus-not-written = write-same p n a b cs (take (a * n) cs) ws (take b ws) cut-cs cut-ws ns front-numbers (front-same n b ws ns)
 
   -- nor the layered answer in the parts that are fixed,
-  pub surplus-not-read : {r s : Answer} → LayeredCall p n a b cs ws r → LayeredCall p n a b (take (a * n) cs) (take b ws) s → SameAnswer r s
-  surplus-not-read = layered-same p n a b cs (take (a * n) cs) ws (take b ws) cut-cs cut-ws
+  pub surplus-not-read : {r s : Answer} → LayeredCall p n a b cs ws ns r → LayeredCall p n a b (take (a * n) cs) (take b ws) front-numbers s → SameAnswer r s
+  surplus-not-read = layered-same p n a b cs (take (a * n) cs) ws (take b ws) cut-cs cut-ws ns front-numbers surplus-not-tested
 
   -- nor the mixed one.
-  pub surplus-not-read-mixed : {r s : MixedAnswer} → MixedCall p n a b cs ws r → MixedCall p n a b (take (a * n) cs) (take b ws) s → SameMixed r s
-  surplus-not-read-mixed = mixed-same p n a b cs (take (a * n) cs) ws (take b ws) cut-cs cut-ws
+  pub surplus-not-read-mixed : {r s : MixedAnswer} → MixedCall p n a b cs ws ns r → MixedCall p n a b (take (a * n) cs) (take b ws) front-numbers s → SameMixed r s
+  surplus-not-read-mixed = mixed-same p n a b cs (take (a * n) cs) ws (take b ws) cut-cs cut-ws ns front-numbers surplus-not-tested-mixed
+
+-- ---- numbered parameters
+
+module _ (p n a b : ℕ) (cs ws ks : List ℕ) where
+  -- In a numbered model that is accepted, a number names one place: two parameters with the same number are the same parameter.
+  pub numbers-name-parameters : refusal p n a b cs ws (some ks) ≡ 0 → (r x r′ x′ : ℕ) → r < b → x < n → r′ < b → x′ < n
+      → x ∈ members (getD ws r 0) → x′ ∈ members (getD ws r′ 0) → getD ks (r * n + x) 0 ≡ getD ks (r′ * n + x′) 0 → (r ≡ r′) × (x ≡ x′)
+  numbers-name-parameters e = named p n a b cs ws ks e
+
+  -- So its parameters are independent, as those of an unnumbered model are: it is accepted without its numbers too,
+  pub numbers-only-refuse : refusal p n a b cs ws (some ks) ≡ 0 → refusal p n a b cs ws none ≡ 0
+  numbers-only-refuse e = accepted-model p n a b cs ws none (unnumbered-accepted (model-accepted p n a b cs ws (some ks) e))
+
+  -- with the same layered answer in the parts that are fixed, each with a legal assignment of the same model and demand 3 (`Answered`),
+  pub numbers-change-no-answer : refusal p n a b cs ws (some ks) ≡ 0 → {r s : Answer} → LayeredCall p n a b cs ws (some ks) r → LayeredCall p n a b cs ws none s
+      → SameAnswer r s × Answered (listed-model p n a b cs ws) r × Answered (listed-model p n a b cs ws) s
+  numbers-change-no-answer e h g =
+      let f = numbers-only-refuse e in
+      (layered-same p n a b cs cs ws ws refl refl (some ks) none (e ∙ sym f) h g, h .if-accepted e, g .if-accepted f)
+
+  -- and the same mixed one.
+  pub numbers-change-no-mixed-answer : mixed-refusal p n a b cs ws (some ks) ≡ 0 → {r s : MixedAnswer} → MixedCall p n a b cs ws (some ks) r → MixedCall p n a b cs ws none s
+      → SameMixed r s × MixedAnswered (mixed p a n cs ws) r × MixedAnswered (mixed p a n cs ws) s
+  numbers-change-no-mixed-answer e h g =
+      let f = mixed-unnumbered p n a b cs ws ks e in
+      (mixed-same p n a b cs cs ws ws refl refl (some ks) none (e ∙ sym f) h g, h .if-accepted e, g .if-accepted f)
+
+  -- An entry without a parameter is not read: another area with the same numbers at the parameters is refused alike,
+  module _ (js : List ℕ) (rows : b ≤ length ws) (room : b * n ≤ length ks) (room′ : b * n ≤ length js)
+      (same : (r x : ℕ) → r < b → x < n → x ∈ members (getD ws r 0) → getD ks (r * n + x) 0 ≡ getD js (r * n + x) 0) where
+    pub other-entries-not-tested : refusal p n a b cs ws (some ks) ≡ refusal p n a b cs ws (some js)
+    other-entries-not-tested = refusal-same p n a b cs cs ws ws refl refl (some ks) (some js) (picked-same n b ws ks js rows room room′ same)
+
+    pub other-entries-not-tested-mixed : mixed-refusal p n a b cs ws (some ks) ≡ mixed-refusal p n a b cs ws (some js)
+    other-entries-not-tested-mixed = mixed-refusal-same p n a b cs cs ws ws refl refl (some ks) (some js) (picked-same n b ws ks js rows room room′ same)
+
+    -- and written alike.
+    pub other-entries-not-written : {out out′ : List ℕ} {the-refusal len : ℕ}
+        → WriteCall p n a b cs ws (some ks) out the-refusal len out′ → WriteCall p n a b cs ws (some js) out the-refusal len out′
+    other-entries-not-written = write-same p n a b cs cs ws ws refl refl (some ks) (some js) (picked-same n b ws ks js rows room room′ same)
+
+-- The file of a model without its numbers, made of a numbered one, is accepted and has the same layered and mixed model, of which the calls on files speak.
+pub unnumbered-file : (s : List ℕ) → AreBytes s → judge s ≡ 0 → let s′ = encode (without-numbers (decode s)) in (judge s′ ≡ 0) × (file-model s′ ≡ file-model s) × (file-mixed s′ ≡ file-mixed s)
+unnumbered-file = file-unnumbered
 
 -- ---- rows used and left over
 

@@ -3,11 +3,14 @@
 use Prim.Native.Nat.{ℕ, zero, suc}
 use mathlib.Core.Path.{_≡_, refl, sym, ap, _∙_}
 use mathlib.Core.Logic.{_≢_}
+use mathlib.Core.Bool.{Bool, false, false≢true}
+use mathlib.Core.Option.{Option, none, some}
 use mathlib.Core.List.{List, [], _∷_, _++_, flatten}
 use lib.ListN.{length, drop}
 use Rattle.format.specs.Lists.{over}
+use Rattle.format.specs.Numbers.{number-entries, is-numbered}
 use Rattle.format.specs.Refusals.{Tests, where-accepted}
-use Rattle.format.specs.File.Format.{FileModel, decode, no-model, model-read, read-refusal, ReadCall, write-refusal, bytes-written, WriteCall, lookup-refusal, lookup-length, lookup-start}
+use Rattle.format.specs.File.Format.{FileModel, decode, no-model, read-model, model-read, read-refusal, ReadCall, write-refusal, bytes-written, WriteCall, lookup-refusal, lookup-length, lookup-start}
 use Rattle.text.specs.Text.{print-refusal, printed, Prints}
 use Rattle.text.specs.declared.Printed.{Printed}
 use Rattle.host.specs.AreaCall.{AreaCall, WrittenOver}
@@ -25,39 +28,63 @@ surplus : (xs area : List ℕ) → drop (length xs) (over xs area) ≡ drop (len
 unfolding over
 surplus xs area = drop-front xs (drop (length xs) area)
 
+-- the entries that a read writes over the area of the numbers
+abbrev entries-read : FileModel → List ℕ
+entries-read m = number-entries (m .n) (m .parameters) (m .numbers)
+
 -- a refused read changes no lent element and gives no number
-pub read-refused : (s cs ws : List ℕ) (k p n a b : ℕ) (cs′ ws′ : List ℕ) → ReadCall s cs ws k p n a b cs′ ws′ → read-refusal s cs ws ≢ 0
-    → (cs′ ≡ cs) × (ws′ ≡ ws) × (p ≡ 0) × (n ≡ 0) × (a ≡ 0) × (b ≡ 0)
-unfolding over model-read flatten
-read-refused s cs ws k p n a b cs′ ws′ x h =
-    let e : model-read s cs ws ≡ no-model = where-refused (read-refusal s cs ws) (decode s) no-model h in (
-      x .constants-are ∙ ap (λ (m : FileModel). over (flatten (m .constants)) cs) e,
-      x .parameters-are ∙ ap (λ (m : FileModel). over (m .parameters) ws) e,
-      x .p-is ∙ ap (λ (m : FileModel). m .p) e,
-      x .n-is ∙ ap (λ (m : FileModel). m .n) e,
-      x .a-is ∙ ap (λ (m : FileModel). m .a) e,
-      x .b-is ∙ ap (λ (m : FileModel). m .b) e,
+pub read-refused : (s cs ws ks : List ℕ) (k p n a b : ℕ) (numbered : Bool) (cs′ ws′ ks′ : List ℕ) → ReadCall s cs ws ks k p n a b numbered cs′ ws′ ks′
+    → read-refusal s cs ws ks ≢ 0 → (cs′ ≡ cs) × (ws′ ≡ ws) × (ks′ ≡ ks) × (p ≡ 0) × (n ≡ 0) × (a ≡ 0) × (b ≡ 0) × (numbered ≡ false)
+unfolding over model-read read-model number-entries is-numbered flatten
+read-refused s cs ws ks k p n a b numbered cs′ ws′ ks′ x h =
+    let e : model-read s cs ws ks ≡ no-model = where-refused (read-refusal s cs ws ks) (decode s) no-model h in
+    let r = x .rows-are in (
+      r .constants-are ∙ ap (λ (m : FileModel). over (flatten (m .constants)) cs) e,
+      r .parameters-are ∙ ap (λ (m : FileModel). over (m .parameters) ws) e,
+      x .numbers-are ∙ ap (λ (m : FileModel). over (entries-read m) ks) e,
+      r .p-is ∙ ap (λ (m : FileModel). m .p) e,
+      r .n-is ∙ ap (λ (m : FileModel). m .n) e,
+      r .a-is ∙ ap (λ (m : FileModel). m .a) e,
+      r .b-is ∙ ap (λ (m : FileModel). m .b) e,
+      r .numbered-is ∙ ap (λ (m : FileModel). is-numbered (m .numbers)) e,
     )
 
--- an accepted read leaves what is behind the constants and the parameter rows
-pub read-surplus : (s cs ws : List ℕ) (k p n a b : ℕ) (cs′ ws′ : List ℕ) → ReadCall s cs ws k p n a b cs′ ws′
-    → (drop (length (flatten (model-read s cs ws .constants))) cs′ ≡ drop (length (flatten (model-read s cs ws .constants))) cs)
-    × (drop (length (model-read s cs ws .parameters)) ws′ ≡ drop (length (model-read s cs ws .parameters)) ws)
-read-surplus s cs ws k p n a b cs′ ws′ x = (
-  ap (drop (length (flatten (model-read s cs ws .constants)))) (x .constants-are) ∙ surplus (flatten (model-read s cs ws .constants)) cs,
-  ap (drop (length (model-read s cs ws .parameters))) (x .parameters-are) ∙ surplus (model-read s cs ws .parameters) ws,
-)
+-- an accepted read leaves what is behind the constants, the parameter rows and the numbers
+pub read-surplus : (s cs ws ks : List ℕ) (k p n a b : ℕ) (numbered : Bool) (cs′ ws′ ks′ : List ℕ) → ReadCall s cs ws ks k p n a b numbered cs′ ws′ ks′
+    → (drop (length (flatten (model-read s cs ws ks .constants))) cs′ ≡ drop (length (flatten (model-read s cs ws ks .constants))) cs)
+    × (drop (length (model-read s cs ws ks .parameters)) ws′ ≡ drop (length (model-read s cs ws ks .parameters)) ws)
+    × (drop (length (entries-read (model-read s cs ws ks))) ks′ ≡ drop (length (entries-read (model-read s cs ws ks))) ks)
+unfolding model-read
+read-surplus s cs ws ks k p n a b numbered cs′ ws′ ks′ x =
+    let m = model-read s cs ws ks in (
+      ap (drop (length (flatten (m .constants)))) (x .rows-are .constants-are) ∙ surplus (flatten (m .constants)) cs,
+      ap (drop (length (m .parameters))) (x .rows-are .parameters-are) ∙ surplus (m .parameters) ws,
+      ap (drop (length (entries-read m))) (x .numbers-are) ∙ surplus (entries-read m) ks,
+    )
 
-pub write-refused : (p n a b : ℕ) (cs ws out : List ℕ) (k len : ℕ) (out′ : List ℕ) → WriteCall p n a b cs ws out k len out′ → write-refusal p n a b cs ws out ≢ 0 → (out′ ≡ out) × (len ≡ 0)
-unfolding over bytes-written
-write-refused p n a b cs ws out k len out′ x h =
-    let e : bytes-written p n a b cs ws out ≡ [] = where-refused (write-refusal p n a b cs ws out) _ [] h in
-    (x .bytes-are ∙ ap (λ (l : List ℕ). over l out) e, x .length-is ∙ ap (λ (l : List ℕ). length l) e)
+unwritten : (n : ℕ) (ws ks : List ℕ) (ns : Option (List (List ℕ))) → is-numbered ns ≡ false → over (number-entries n ws ns) ks ≡ ks
+unfolding over number-entries is-numbered
+unwritten n ws ks none e = refl
+unwritten n ws ks (some kss) e = absurd (false≢true (sym e))
 
--- the length returned is that of what is written, and nothing behind it changes
-pub write-surplus : (p n a b : ℕ) (cs ws out : List ℕ) (k len : ℕ) (out′ : List ℕ) → WriteCall p n a b cs ws out k len out′ → drop len out′ ≡ drop len out
-write-surplus p n a b cs ws out k len out′ x =
-    ap (λ (j : ℕ). drop j out′) (x .length-is) ∙ ap (drop (length (bytes-written p n a b cs ws out))) (x .bytes-are) ∙ surplus (bytes-written p n a b cs ws out) out ∙ ap (λ (j : ℕ). drop j out) (sym (x .length-is))
+-- an unnumbered file, so one without parameter rows too, leaves the area of the numbers as it was
+pub unnumbered-read : (s cs ws ks : List ℕ) (k p n a b : ℕ) (cs′ ws′ ks′ : List ℕ) → ReadCall s cs ws ks k p n a b false cs′ ws′ ks′ → ks′ ≡ ks
+unfolding model-read
+unnumbered-read s cs ws ks k p n a b cs′ ws′ ks′ x =
+    let m = model-read s cs ws ks in x .numbers-are ∙ unwritten (m .n) (m .parameters) ks (m .numbers) (sym (x .rows-are .numbered-is))
+
+module _ (p n a b : ℕ) (cs ws : List ℕ) (ns : Option (List ℕ)) (out : List ℕ) (k len : ℕ) (out′ : List ℕ) (x : WriteCall p n a b cs ws ns out k len out′) where
+  pub write-refused : write-refusal p n a b cs ws ns out ≢ 0 → (out′ ≡ out) × (len ≡ 0)
+  unfolding over bytes-written
+  write-refused h =
+      let e : bytes-written p n a b cs ws ns out ≡ [] = where-refused (write-refusal p n a b cs ws ns out) _ [] h in
+      (x .bytes-are ∙ ap (λ (l : List ℕ). over l out) e, x .length-is ∙ ap (λ (l : List ℕ). length l) e)
+
+  -- the length returned is that of what is written, and nothing behind it changes
+  pub write-surplus : drop len out′ ≡ drop len out
+  write-surplus =
+      let bytes = bytes-written p n a b cs ws ns out in
+      ap (λ (j : ℕ). drop j out′) (x .length-is) ∙ ap (drop (length bytes)) (x .bytes-are) ∙ surplus bytes out ∙ ap (λ (j : ℕ). drop j out) (sym (x .length-is))
 
 -- a refused printing changes no byte and gives no length
 pub print-refused : (text area : List ℕ) (r : Printed) (area′ : List ℕ) → Prints text area r area′ → print-refusal text area ≢ 0 → (area′ ≡ area) × (r .length ≡ 0)

@@ -3,7 +3,8 @@
 use Prim.Native.Nat.{ℕ}
 use mathlib.Core.Path.{_≡_, refl, sym, ap, _∙_}
 use mathlib.Core.Logic.{_≢_}
-use mathlib.Core.Bool.{true, false, true≢false}
+use mathlib.Core.Bool.{Bool, true, false, true≢false}
+use mathlib.Core.Option.{none}
 use mathlib.Core.List.{List, [], _∷_, flatten, flatMap}
 use native.Mathlib.Omega.{arith}
 use lib.ListN.{getD}
@@ -16,19 +17,20 @@ use Rattle.rank.specs.ListedModel.{listed-model}
 use Rattle.layered.specs.Answers.{LayeredCall}
 use Rattle.layered.specs.declared.Answer.{Answer}
 use Rattle.format.specs.Lists.{all-pass, over}
+use Rattle.format.specs.Numbers.{is-numbered}
 use Rattle.format.specs.Refusals.{first-refusal, head-test, body-test, due-test, prime-test, size-test, constant-test, area-test, end-test, refusal}
 use Rattle.promises.specs.DocumentFile.{document-file}
 use Rattle.refutations.specs.Computing.{computing}
 use Rattle.refutations.specs.Accepted.{judging}
 use Rattle.format.specs.File.Piece.{head-tests, closed}
-use Rattle.format.specs.File.Format.{entries, prime-field, sizes-field, constant-row, parameter-size, parameter-row, end-field, row-fields, size-fields, fields, judge, decode, read-refusal, model-read, ReadCall}
+use Rattle.format.specs.File.Format.{entries, prime-field, sizes-field, constant-row, parameter-size, parameter-row, numbered-test, parameter-rows, end-field, row-fields, size-fields, fields, judge, decode, area-tests, number-room, read-model, read-refusal, ReadCall}
 
 unfoldable file-run : ℕ
-unfolding flatMap flatten is-prime undivided all members within-in all-pass over first-refusal head-test body-test due-test prime-test size-test constant-test area-test end-test head-tests closed entries prime-field sizes-field constant-row parameter-size parameter-row end-field row-fields size-fields fields judge decode read-refusal model-read
+unfolding flatMap flatten is-prime undivided all members within-in all-pass over first-refusal head-test body-test due-test prime-test size-test constant-test area-test end-test head-tests closed entries prime-field sizes-field constant-row parameter-size parameter-row numbered-test parameter-rows end-field row-fields size-fields fields judge decode area-tests number-room read-model read-refusal is-numbered
 file-run = 0
 
 -- p 2, n 2, a 1, constants 0 1: column 0 is blocked, column 1 is not
-blocked-accepted : refusal 2 2 1 0 (0 ∷ 1 ∷ []) [] ≡ 0
+blocked-accepted : refusal 2 2 1 0 (0 ∷ 1 ∷ []) [] none ≡ 0
 unfolding judging
 blocked-accepted = refl
 
@@ -37,11 +39,11 @@ unfolding computing
 blocked-rank = refl
 
 -- 1: it stops at its first blocked column, so its rank is 0
-pub stops-at-blocked : (r : Answer) → LayeredCall 2 2 1 0 (0 ∷ 1 ∷ []) [] r → r .rank ≡ 0 → ⊥
+pub stops-at-blocked : (r : Answer) → LayeredCall 2 2 1 0 (0 ∷ 1 ∷ []) [] none r → r .rank ≡ 0 → ⊥
 stops-at-blocked r x z = let e = x .if-accepted blocked-accepted .solved .is-rank in let f = blocked-rank in omega arith
 
 -- p 2, n 2, a 1, constants 1 1: column 1 cannot be placed beside column 0
-equal-accepted : refusal 2 2 1 0 (1 ∷ 1 ∷ []) [] ≡ 0
+equal-accepted : refusal 2 2 1 0 (1 ∷ 1 ∷ []) [] none ≡ 0
 unfolding judging
 equal-accepted = refl
 
@@ -54,37 +56,37 @@ unfolding computing
 equal-rank = refl
 
 -- 2: it lists column 1 as placed untested
-pub takes-untested : (r : Answer) → LayeredCall 2 2 1 0 (1 ∷ 1 ∷ []) [] r → members (whole (r .placed)) 1 ≡ true → ⊥
+pub takes-untested : (r : Answer) → LayeredCall 2 2 1 0 (1 ∷ 1 ∷ []) [] none r → members (whole (r .placed)) 1 ≡ true → ⊥
 takes-untested r x h = true≢false (sym h ∙ x .if-accepted equal-accepted .solved .is-placed 1 ∙ equal-placed)
 
 -- 3: it makes up the rank 2
-pub made-up-rank : (r : Answer) → LayeredCall 2 2 1 0 (1 ∷ 1 ∷ []) [] r → r .rank ≡ 2 → ⊥
+pub made-up-rank : (r : Answer) → LayeredCall 2 2 1 0 (1 ∷ 1 ∷ []) [] none r → r .rank ≡ 2 → ⊥
 made-up-rank r x z = let e = x .if-accepted equal-accepted .solved .is-rank in let f = equal-rank in omega arith
 
 -- 4: it says open, rank 0
-pub open-rank-0 : (r : Answer) → LayeredCall 2 2 1 0 (1 ∷ 1 ∷ []) [] r → r .verdict ≡ 0 → r .rank ≡ 0 → ⊥
+pub open-rank-0 : (r : Answer) → LayeredCall 2 2 1 0 (1 ∷ 1 ∷ []) [] none r → r .verdict ≡ 0 → r .rank ≡ 0 → ⊥
 open-rank-0 r x o z = let e = x .if-accepted equal-accepted .solved .is-rank in let f = equal-rank in omega arith
 
 -- 6: it refuses
-pub refuses-a-model : (r : Answer) → LayeredCall 2 2 1 0 (1 ∷ 1 ∷ []) [] r → r .refusal ≢ 0 → ⊥
+pub refuses-a-model : (r : Answer) → LayeredCall 2 2 1 0 (1 ∷ 1 ∷ []) [] none r → r .refusal ≢ 0 → ⊥
 refuses-a-model r x h = h (x .is-refusal ∙ equal-accepted)
 
-stored : over (flatten (model-read document-file (7 ∷ 7 ∷ 7 ∷ []) (9 ∷ []) .constants)) (7 ∷ 7 ∷ 7 ∷ []) ≡ 1 ∷ 0 ∷ 7 ∷ []
+stored : over (flatten (read-model (read-refusal document-file (7 ∷ 7 ∷ 7 ∷ []) (9 ∷ []) []) document-file .constants)) (7 ∷ 7 ∷ 7 ∷ []) ≡ 1 ∷ 0 ∷ 7 ∷ []
 unfolding file-run document-file
 stored = refl
 
 -- 5: it reads and stores nothing
-pub stores-nothing : (k p n a b : ℕ) (ws′ : List ℕ) → ReadCall document-file (7 ∷ 7 ∷ 7 ∷ []) (9 ∷ []) k p n a b (7 ∷ 7 ∷ 7 ∷ []) ws′ → ⊥
-stores-nothing k p n a b ws′ x = let e : _≡_ {A = ℕ} 7 1 = ap (λ (l : List ℕ). getD l 0 0) (x .constants-are ∙ stored) in omega arith
+pub stores-nothing : (k p n a b : ℕ) (numbered : Bool) (ws′ ks′ : List ℕ) → ReadCall document-file (7 ∷ 7 ∷ 7 ∷ []) (9 ∷ []) [] k p n a b numbered (7 ∷ 7 ∷ 7 ∷ []) ws′ ks′ → ⊥
+stores-nothing k p n a b numbered ws′ ks′ x = let e : _≡_ {A = ℕ} 7 1 = ap (λ (l : List ℕ). getD l 0 0) (x .rows-are .constants-are ∙ stored) in omega arith
 
 -- and a read that writes past a × n
-pub writes-surplus : (k p n a b : ℕ) (ws′ : List ℕ) → ReadCall document-file (7 ∷ 7 ∷ 7 ∷ []) (9 ∷ []) k p n a b (1 ∷ 0 ∷ 0 ∷ []) ws′ → ⊥
-writes-surplus k p n a b ws′ x = let e : _≡_ {A = ℕ} 0 7 = ap (λ (l : List ℕ). getD l 2 0) (x .constants-are ∙ stored) in omega arith
+pub writes-surplus : (k p n a b : ℕ) (numbered : Bool) (ws′ ks′ : List ℕ) → ReadCall document-file (7 ∷ 7 ∷ 7 ∷ []) (9 ∷ []) [] k p n a b numbered (1 ∷ 0 ∷ 0 ∷ []) ws′ ks′ → ⊥
+writes-surplus k p n a b numbered ws′ ks′ x = let e : _≡_ {A = ℕ} 0 7 = ap (λ (l : List ℕ). getD l 2 0) (x .rows-are .constants-are ∙ stored) in omega arith
 
-read-accepted : read-refusal document-file (7 ∷ 7 ∷ 7 ∷ []) (9 ∷ []) ≡ 0
+read-accepted : read-refusal document-file (7 ∷ 7 ∷ 7 ∷ []) (9 ∷ []) [] ≡ 0
 unfolding file-run document-file
 read-accepted = refl
 
 -- 6: it refuses the file
-pub refuses-the-file : (k p n a b : ℕ) (cs′ ws′ : List ℕ) → ReadCall document-file (7 ∷ 7 ∷ 7 ∷ []) (9 ∷ []) k p n a b cs′ ws′ → k ≢ 0 → ⊥
-refuses-the-file k p n a b cs′ ws′ x h = h (x .refusal-is ∙ read-accepted)
+pub refuses-the-file : (k p n a b : ℕ) (numbered : Bool) (cs′ ws′ ks′ : List ℕ) → ReadCall document-file (7 ∷ 7 ∷ 7 ∷ []) (9 ∷ []) [] k p n a b numbered cs′ ws′ ks′ → k ≢ 0 → ⊥
+refuses-the-file k p n a b numbered cs′ ws′ ks′ x h = h (x .rows-are .refusal-is ∙ read-accepted)

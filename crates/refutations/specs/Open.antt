@@ -5,6 +5,7 @@ use mathlib.Core.Path.{_≡_, refl, sym, ap, _∙_}
 use mathlib.Core.Logic.{_≢_, _⊎_, inl, inr}
 use mathlib.Core.Bool.{true, false, false≢true}
 use mathlib.Core.List.{List}
+use mathlib.Core.Option.{Option}
 use lib.ListN.{getD}
 use Rattle.counting.specs.Sets.{Set, _∈_}
 use Rattle.rank.specs.Layered.Model.{Model, Seat, out, constant, row, is-placed, is-constant, constants}
@@ -30,23 +31,23 @@ use Rattle.promises.specs.AnswerLaws.{layered-same, mixed-same}
 
 -- ---- two results of one call
 
-module _ (p n a b : ℕ) (cs ws : List ℕ) where
+module _ (p n a b : ℕ) (cs ws : List ℕ) (ns : Option (List ℕ)) where
   -- of the layered call agree in every number and set but the side and the rows,
-  pub layered-fixed : {r s : Answer} → LayeredCall p n a b cs ws r → LayeredCall p n a b cs ws s → SameAnswer r s
-  layered-fixed = layered-same p n a b cs cs ws ws refl refl
+  pub layered-fixed : {r s : Answer} → LayeredCall p n a b cs ws ns r → LayeredCall p n a b cs ws ns s → SameAnswer r s
+  layered-fixed = layered-same p n a b cs cs ws ws refl refl ns ns refl
 
   -- where it refuses, in these too;
-  pub refused-fixed : {r s : Answer} → LayeredCall p n a b cs ws r → LayeredCall p n a b cs ws s → refusal p n a b cs ws ≢ 0
+  pub refused-fixed : {r s : Answer} → LayeredCall p n a b cs ws ns r → LayeredCall p n a b cs ws ns s → refusal p n a b cs ws ns ≢ 0
       → (r .constants ≡ s .constants) × (r .rows ≡ s .rows)
   refused-fixed x y ne =
       (x .if-refused ne .none-on-the-side ∙ sym (y .if-refused ne .none-on-the-side), x .if-refused ne .no-columns ∙ sym (y .if-refused ne .no-columns))
 
   -- of the mixed call agree in every number and set but I and J,
-  pub mixed-fixed : {r s : MixedAnswer} → MixedCall p n a b cs ws r → MixedCall p n a b cs ws s → SameMixed r s
-  mixed-fixed = mixed-same p n a b cs cs ws ws refl refl
+  pub mixed-fixed : {r s : MixedAnswer} → MixedCall p n a b cs ws ns r → MixedCall p n a b cs ws ns s → SameMixed r s
+  mixed-fixed = mixed-same p n a b cs cs ws ws refl refl ns ns refl
 
   -- where it refuses, in these too.
-  pub mixed-refused-fixed : {r s : MixedAnswer} → MixedCall p n a b cs ws r → MixedCall p n a b cs ws s → mixed-refusal p n a b cs ws ≢ 0
+  pub mixed-refused-fixed : {r s : MixedAnswer} → MixedCall p n a b cs ws ns r → MixedCall p n a b cs ws ns s → mixed-refusal p n a b cs ws ns ≢ 0
       → (r .rows ≡ s .rows) × (r .columns ≡ s .columns)
   mixed-refused-fixed x y ne = (x .if-refused ne .no-rows ∙ sym (y .if-refused ne .no-rows), x .if-refused ne .no-columns ∙ sym (y .if-refused ne .no-columns))
 

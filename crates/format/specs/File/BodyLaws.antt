@@ -2,7 +2,7 @@
 use Prim.Native.Nat.{ℕ, zero, suc, _+_, _*_, _/_, _%_, _^_, _≤_, _<_}
 use mathlib.Core.Path.{_≡_, refl, sym, ap, _∙_}
 use mathlib.Core.Bool.{true}
-use mathlib.Core.List.{List, [], _∷_}
+use mathlib.Core.List.{List, [], _∷_, _++_}
 use native.Mathlib.Omega.{arith}
 use native.Mathlib.Nat.{lt-of-lt-of-le}
 use lib.ListN.{length, getD}
@@ -15,11 +15,12 @@ use Rattle.columns.specs.Columns.{width, within}
 use Rattle.columns.specs.Words.Bytes.{AreBytes, bytes-of-length, number-bytes, number-below}
 use Rattle.columns.specs.Words.Operations.{within-pow}
 use Rattle.format.specs.Lists.{All}
+use Rattle.format.specs.Numbers.{once}
 use Rattle.limits.specs.Limits.{largest-prime, most-columns, most-rows}
 use Rattle.format.specs.Refusals.{first-refusal}
 use Rattle.format.specs.RefusalLaws.{unless-zero, zero-unless}
 use Rattle.format.specs.TestLaws.{prime-reads, size-reads, constant-reads}
-use Rattle.format.specs.File.Format.{parameter-size, entries, entry-bytes, prime-body, sizes-body, constant-body, parameter-body, end-body}
+use Rattle.format.specs.File.Format.{parameter-size, entries, entry-bytes, prime-body, sizes-body, constant-body, parameter-body, number-body, end-body}
 use Rattle.format.specs.File.PieceLaws.{BodyLaw}
 use Rattle.format.specs.File.RowSizes.{parameter-size-most, parameter-room}
 
@@ -127,6 +128,25 @@ parameter-law n k =
 
     in-n : (w : ℕ) → IsParameters n w → w < 2 ^ n
     in-n w v = ltb-true w (2 ^ n) (sym (within-pow width n w (v .0)) ∙ v .1)
+
+-- ---- numbers of parameters
+
+abbrev pub IsNumbers : ℕ → List ℕ → List ℕ → Type 0
+IsNumbers k before ks = (length ks ≡ k) × All (λ x. x < 65536) ks × (once (before ++ ks) ≡ true)
+
+entries-small : (b : List ℕ) → AreBytes b → All (λ x. x < 65536) (entries b)
+unfolding entries
+entries-small [] h = tt
+entries-small (x ∷ []) h = tt
+entries-small (x ∷ y ∷ b) h = let hx = h 0 in let hy = h 1 in (omega arith, entries-small b (λ j. h (suc (suc j))))
+
+pub number-law : (k : ℕ) (before : List ℕ) → 2 * k < 65536 → BodyLaw (number-body k before) (IsNumbers k before)
+number-law k before l =
+    record {
+      small = l;
+      good = λ b h m e. let g = entries-good k b h m in ((g .0, entries-small b h, unless-zero _ _ e), g .1);
+      back = λ ks v. let g = entries-back ks in (omega arith, zero-unless _ _ (ap (λ (t : List ℕ). once (before ++ t)) (g .1) ∙ v .2), g .1);
+    }
 
 pub end-law : BodyLaw end-body (λ x. Unit {0})
 unfolding first-refusal

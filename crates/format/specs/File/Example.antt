@@ -2,6 +2,7 @@
 use Prim.Native.Nat.{ℕ}
 use mathlib.Core.Path.{_≡_, refl}
 use mathlib.Core.List.{List, [], _∷_, _++_, flatMap}
+use mathlib.Core.Option.{none}
 use lib.ListN.{take}
 use Rattle.residue.specs.Arithmetic.{is-prime, undivided}
 use Rattle.counting.specs.Sets.{all}
@@ -9,7 +10,7 @@ use Rattle.columns.specs.Columns.{members, within-in}
 use Rattle.format.specs.Lists.{all-pass}
 use Rattle.format.specs.Refusals.{first-refusal, head-test, body-test, due-test, prime-test, size-test, constant-test, end-test, row-test}
 use Rattle.format.specs.File.Piece.{head-tests, closed}
-use Rattle.format.specs.File.Format.{FileModel, entries, entry-bytes, prime-field, sizes-field, rows-part, from-row, constant-row, parameter-size, parameter-row, end-field, row-fields, size-fields, fields, judge, decode, encode, lookup-refusal, lookup-start, lookup-length, lookup}
+use Rattle.format.specs.File.Format.{FileModel, entries, entry-bytes, prime-field, sizes-field, rows-part, from-row, constant-row, parameter-size, parameter-row, numbered-test, parameter-rows, end-field, row-fields, size-fields, fields, judge, decode, encode, lookup-refusal, lookup-start, lookup-length, lookup}
 
 bytes : List ℕ
 bytes =
@@ -17,11 +18,11 @@ bytes =
     ∷ 0x00 ∷ 0x00 ∷ 0x00 ∷ 0x00 ∷ 0x00 ∷ 0x05 ∷ 0x00 ∷ 0x00 ∷ []
 
 model : FileModel
-model = record { p = 1021; n = 2; a = 1; b = 1; constants = (1 ∷ 0 ∷ []) ∷ []; parameters = 2 ∷ [] }
+model = record { p = 1021; n = 2; a = 1; b = 1; constants = (1 ∷ 0 ∷ []) ∷ []; parameters = 2 ∷ []; numbers = none }
 
 -- what the computations below open
 unfoldable run : ℕ
-unfolding bytes model flatMap is-prime undivided all members within-in all-pass first-refusal head-test body-test due-test prime-test size-test constant-test end-test row-test head-tests closed entries entry-bytes prime-field sizes-field constant-row parameter-size parameter-row end-field row-fields size-fields fields rows-part from-row judge decode encode lookup-refusal lookup-start lookup-length lookup
+unfolding bytes model flatMap is-prime undivided all members within-in all-pass first-refusal head-test body-test due-test prime-test size-test constant-test end-test row-test head-tests closed entries entry-bytes prime-field sizes-field constant-row parameter-size parameter-row numbered-test parameter-rows end-field row-fields size-fields fields rows-part from-row judge decode encode lookup-refusal lookup-start lookup-length lookup
 run = 0
 
 accepted : judge bytes ≡ 0

@@ -4,6 +4,8 @@
 use Prim.Native.Nat.{ℕ, zero, suc, _+_, _-_, _/_, _%_}
 use mathlib.Core.List.{List, [], _∷_, _++_, flatMap}
 use mathlib.Core.Path.{_≡_}
+use mathlib.Core.Bool.{Bool, cond}
+use mathlib.Core.Logic.{_⊎_, inl, inr, ⊎-elim}
 use lib.ListN.{length, take, drop}
 use denote.Ref.{RefT}
 use Rattle.format.specs.declared.judge.Judged.{Judged}
@@ -58,6 +60,36 @@ many-rest P (suc k) s = many-rest P k (P .rest s)
 -- the piece k times
 abbrev pub many : {A : Type 0} → ℕ → Piece A → Piece (List A)
 many k P = record { tests = many-tests P k; dec = many-dec P k; rest = many-rest P k; enc = flatMap (P .enc) }
+
+-- k pieces, each of them by what those before said, which begins with x and goes on by step
+abbrev pub chain-tests : {S A : Type 0} → (S → Piece A) → (S → A → S) → ℕ → S → List ℕ → Tests
+chain-tests P step zero x s = []
+chain-tests P step (suc k) x s = P x .tests s then chain-tests P step k (step x (P x .dec s)) (P x .rest s)
+
+abbrev pub chain-dec : {S A : Type 0} → (S → Piece A) → (S → A → S) → ℕ → S → List ℕ → List A
+chain-dec P step zero x s = []
+chain-dec P step (suc k) x s = P x .dec s ∷ chain-dec P step k (step x (P x .dec s)) (P x .rest s)
+
+abbrev pub chain-rest : {S A : Type 0} → (S → Piece A) → (S → A → S) → ℕ → S → List ℕ → List ℕ
+chain-rest P step zero x s = s
+chain-rest P step (suc k) x s = chain-rest P step k (step x (P x .dec s)) (P x .rest s)
+
+abbrev pub chain-enc : {S A : Type 0} → (S → Piece A) → (S → A → S) → S → List A → List ℕ
+chain-enc P step x [] = []
+chain-enc P step x (y ∷ ys) = P x .enc y ++ chain-enc P step (step x y) ys
+
+abbrev pub chain : {S A : Type 0} → ℕ → S → (S → Piece A) → (S → A → S) → Piece (List A)
+chain k x P step = record { tests = chain-tests P step k x; dec = chain-dec P step k x; rest = chain-rest P step k x; enc = chain-enc P step x }
+
+-- one of two pieces, the second where the test of what stands there passes
+abbrev pub either : {A B : Type 0} → (List ℕ → Bool) → Piece A → Piece B → Piece (A ⊎ B)
+either f P Q =
+    record {
+      tests = λ s. cond (f s) (Q .tests s) (P .tests s);
+      dec = λ s. cond (f s) (inr (Q .dec s)) (inl (P .dec s));
+      rest = λ s. cond (f s) (Q .rest s) (P .rest s);
+      enc = ⊎-elim (P .enc) (Q .enc);
+    }
 
 -- one piece, and after it one that goes by the first one's value
 abbrev pub seq : {A B : Type 0} → Piece A → (A → Piece B) → Piece (A × B)

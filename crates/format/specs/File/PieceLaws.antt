@@ -2,16 +2,18 @@
 -- what is of the stated form passes and is read as it was written. Assumes nothing.
 use Prim.Native.Nat.{ℕ, zero, suc, _+_, _-_, _/_, _%_, _≤_, _<_}
 use mathlib.Core.Path.{_≡_, refl, sym, ap, _∙_, subst}
+use mathlib.Core.Bool.{Bool, true, false, cond}
+use mathlib.Core.Logic.{_⊎_, inl, inr, ⊎-elim}
 use mathlib.Core.List.{List, [], _∷_, _++_, append-assoc, flatMap}
 use native.Mathlib.Omega.{arith}
 use lib.ListN.{length, getD, take, drop, length-append, length-drop, take-append-drop}
 use lib.Seq.{take-at, drop-at, getD-drop, getD-append-add, length-take-le}
 use Rattle.columns.specs.Words.Bytes.{AreBytes}
 use Rattle.format.specs.Lists.{All}
-use Rattle.format.specs.Refusals.{head-bytes, said-length, first-refusal}
+use Rattle.format.specs.Refusals.{Tests, _then_, head-bytes, said-length, first-refusal}
 use Rattle.format.specs.RefusalLaws.{acceptance-reads, then-zero, zero-then}
 use Rattle.format.specs.TestLaws.{head-reads, due-reads, body-reads}
-use Rattle.format.specs.File.Piece.{Body, Piece, head-tests, field, many, many-tests, many-dec, many-rest, seq}
+use Rattle.format.specs.File.Piece.{Body, Piece, head-tests, field, many, many-tests, many-dec, many-rest, chain, chain-tests, chain-dec, chain-rest, chain-enc, either, seq}
 
 pub record BodyLaw {A : Type 0} (B : Body A) (Is : A → Type 0) : Type 0 where
   pub small : B .size < 65536
@@ -121,6 +123,40 @@ many-law {A} k {P} {Is} L = record { good = good k; back = back k }
           simp (append-assoc, g .2) (i .2),
         )
 
+-- every value is as stated after those before it
+abbrev pub AllFrom : {S A : Type 0} → (S → A → Type 0) → (S → A → S) → S → List A → Type 0
+AllFrom Is step x [] = Unit {0}
+AllFrom Is step x (y ∷ ys) = Is x y × AllFrom Is step (step x y) ys
+
+pub chain-law : {S A : Type 0} (k : ℕ) (x : S) {P : S → Piece A} (step : S → A → S) {Is : S → A → Type 0} → ((x : S) → Law (P x) (Is x))
+    → Law (chain k x P step) (λ ys. (length ys ≡ k) × AllFrom Is step x ys)
+unfolding first-refusal
+chain-law {S} {A} k x {P} step {Is} L = record { good = good k x; back = back k x }
+  where
+    good : (k : ℕ) (x : S) (s : List ℕ) → AreBytes s → first-refusal (chain-tests P step k x s) ≡ 0
+        → ((length (chain-dec P step k x s) ≡ k) × AllFrom Is step x (chain-dec P step k x s)) × (chain-enc P step x (chain-dec P step k x s) ++ chain-rest P step k x s ≡ s)
+    good zero x s h e = ((refl, tt), refl)
+    good (suc k) x s h e =
+        let z = then-zero (P x .tests s) _ e in
+        let g = L x .good s h (z .0) in
+        let i = good k (step x (P x .dec s)) (P x .rest s) (bytes-tail (P x .enc (P x .dec s)) _ (subst AreBytes (sym (g .1)) h)) (z .1) in
+        ((ap suc (i .0 .0), (g .0, i .0 .1)), simp (append-assoc, i .1) (g .1))
+
+    back : (k : ℕ) (x : S) (ys : List A) (t : List ℕ) → (length ys ≡ k) × AllFrom Is step x ys
+        → (first-refusal (chain-tests P step k x (chain-enc P step x ys ++ t)) ≡ 0) × (chain-dec P step k x (chain-enc P step x ys ++ t) ≡ ys) × (chain-rest P step k x (chain-enc P step x ys ++ t) ≡ t)
+    back zero x [] t v = (refl, refl, refl)
+    back zero x (y ∷ ys) t v = absurd (omega arith)
+    back (suc k) x [] t v = absurd (omega arith)
+    back (suc k) x (y ∷ ys) t v =
+        let u = chain-enc P step (step x y) ys ++ t in
+        let g = L x .back y u (v .1 .0) in
+        let i = back k (step x y) ys t (omega arith, v .1 .1) in
+        let next : (f : S → List ℕ → ℕ) → f (step x (P x .dec (P x .enc y ++ u))) (P x .rest (P x .enc y ++ u)) ≡ f (step x y) u = λ f. rw (g .1, g .2) refl in (
+          rw append-assoc (zero-then (P x .tests (P x .enc y ++ u)) (chain-tests P step k (step x (P x .dec (P x .enc y ++ u))) (P x .rest (P x .enc y ++ u))) (g .0) (next (λ z s. first-refusal (chain-tests P step k z s)) ∙ i .0)),
+          simp (append-assoc, g .1, g .2, i .1),
+          simp (append-assoc, g .1, g .2) (i .2),
+        )
+
 pub seq-law : {A B : Type 0} {P : Piece A} {Q : A → Piece B} {Is : A → Type 0} {On : A → B → Type 0}
     → Law P Is → ((a : A) → Is a → Law (Q a) (On a)) → Law (seq P Q) (λ x. Is (x .0) × On (x .0) (x .1))
 seq-law {A} {B} {P} {Q} {Is} {On} L M = record { good = good; back = back }
@@ -143,3 +179,42 @@ seq-law {A} {B} {P} {Q} {Is} {On} L M = record { good = good; back = back }
           simp (append-assoc, g .1, g .2, i .1),
           rw append-assoc (ap (λ (a : A). Q a .rest (P .rest u)) (g .1) ∙ ap (Q (x .0) .rest) (g .2) ∙ i .2),
         )
+
+-- one of two pieces, and another behind it, where what stands there tells which of the two was written
+pub either-law : {A B C : Type 0} (f : List ℕ → Bool) {P : Piece A} {Q : Piece B} {R : Piece C} {Is : A → Type 0} {On : B → Type 0} {In : C → Type 0}
+    → Law P Is → Law Q On → Law R In → (Told : Type 0) → ((s : List ℕ) → f s ≡ true → Told)
+    → ((x : A) (z : C) (t : List ℕ) → Is x → In z → f (P .enc x ++ (R .enc z ++ t)) ≡ false)
+    → ((y : B) (z : C) (t : List ℕ) → On y → Told → In z → f (Q .enc y ++ (R .enc z ++ t)) ≡ true)
+    → Law (seq (either f P Q) (λ _. R)) (λ x. ⊎-elim Is (λ y. On y × Told) (x .0) × In (x .1))
+either-law {A} {B} {C} f {P} {Q} {R} {Is} {On} {In} L M N Told told first second = record { good = λ s h e. good s h (f s) refl e; back = back }
+  where
+    -- by what the test says
+    tests : Bool → List ℕ → Tests
+    tests b s = cond b (Q .tests s) (P .tests s) then R .tests (cond b (Q .rest s) (P .rest s))
+
+    value : Bool → List ℕ → (A ⊎ B) × C
+    value b s = (cond b (inr (Q .dec s)) (inl (P .dec s)), R .dec (cond b (Q .rest s) (P .rest s)))
+
+    left : Bool → List ℕ → List ℕ
+    left b s = R .rest (cond b (Q .rest s) (P .rest s))
+
+    good : (s : List ℕ) → AreBytes s → (b : Bool) → f s ≡ b → first-refusal (tests b s) ≡ 0
+        → (⊎-elim Is (λ y. On y × Told) (value b s .0) × In (value b s .1)) × ((⊎-elim (P .enc) (Q .enc) (value b s .0) ++ R .enc (value b s .1)) ++ left b s ≡ s)
+    good s h false q e = seq-law L (λ _ _. N) .good s h e
+    good s h true q e = let g = seq-law M (λ _ _. N) .good s h e in (((g .0 .0, told s q), g .0 .1), g .1)
+
+    Back : Bool → List ℕ → (A ⊎ B) × C → List ℕ → Type 0
+    Back b s x t = (first-refusal (tests b s) ≡ 0) × (value b s ≡ x) × (left b s ≡ t)
+
+    back : (x : (A ⊎ B) × C) (t : List ℕ) → ⊎-elim Is (λ y. On y × Told) (x .0) × In (x .1)
+        → let s = (⊎-elim (P .enc) (Q .enc) (x .0) ++ R .enc (x .1)) ++ t in Back (f s) s x t
+    back (inl x, z) t v =
+        let s = (P .enc x ++ R .enc z) ++ t in
+        let q : f s ≡ false = ap f (append-assoc (P .enc x) (R .enc z) t) ∙ first x z t (v .0) (v .1) in
+        let g = seq-law L (λ _ _. N) .back (x, z) t v in
+        subst (λ (b : Bool). Back b s (inl x, z) t) (sym q) (g .0, ap (λ (y : A × C). (inl (y .0), y .1)) (g .1), g .2)
+    back (inr y, z) t v =
+        let s = (Q .enc y ++ R .enc z) ++ t in
+        let q : f s ≡ true = ap f (append-assoc (Q .enc y) (R .enc z) t) ∙ second y z t (v .0 .0) (v .0 .1) (v .1) in
+        let g = seq-law M (λ _ _. N) .back (y, z) t (v .0 .0, v .1) in
+        subst (λ (b : Bool). Back b s (inr y, z) t) (sym q) (g .0, ap (λ (x : B × C). (inr (x .0), x .1)) (g .1), g .2)

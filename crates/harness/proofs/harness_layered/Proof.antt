@@ -3,6 +3,7 @@ use mathlib.Core.Path.{refl, sym, _∙_}
 use mathlib.Core.List.{[]}
 use borrow.Author.Needs.{needs}
 use Rattle.columns.specs.ColumnSets.{row-numbers}
+use Rattle.format.specs.Numbers.{lent}
 use Rattle.format.specs.Refusals.{first-refusal, model-tests, refusal}
 use Rattle.rank.specs.ListedModel.{listed-model}
 use Rattle.host.specs.AnswerBytes.{answer-length, answer-bytes, AnswerWritten}
@@ -12,7 +13,7 @@ use Rattle.harness.proofs.harness_layered.Tie as tie
 
 -- where the call begins, where the rank is known, where the answer is put, and where the model was accepted
 abbrev begun : tie.After-slice-known → tie.Start
-begun c = c .before .before .before
+begun c = c .before .before .before .before
 
 abbrev ranked : tie.After-struct-known → tie.After-layered-rank
 ranked c = c .before
@@ -31,7 +32,7 @@ unfolding refusal
 returns c =
     let r = ranked (c .before) in
     let a = begun (r .before) .args in
-    refused-before (model-tests (a .p) (a .n) (a .a) (a .b) (a .constants .now) (row-numbers (a .parameters .now))) [] answer-length (AnswerWritten (listed-model (a .p) (a .n) (a .a) (a .b) (a .constants .now) (row-numbers (a .parameters .now)))) (a .answer .now) _ (r .layered-rank .ensures .is-refusal) (c .if1 .taken)
+    refused-before (model-tests (a .p) (a .n) (a .a) (a .b) (a .constants .now) (row-numbers (a .parameters .now)) (lent (a .numbered) (a .numbers .now))) [] answer-length (AnswerWritten (listed-model (a .p) (a .n) (a .a) (a .b) (a .constants .now) (row-numbers (a .parameters .now)))) (a .answer .now) _ (r .layered-rank .ensures .is-refusal) (c .if1 .taken)
 
 put-answer-requires : tie.Need-put-answer-requires
 put-answer-requires c κs = search needs
@@ -46,7 +47,7 @@ returns-2 c =
     let a = begun (r .before) .args in
     let h = r .layered-rank .ensures in
     let ok = sym (h .is-refusal) ∙ accepted c .if1 .left in
-    answer-put answer-bytes (model-tests (a .p) (a .n) (a .a) (a .b) (a .constants .now) (row-numbers (a .parameters .now))) [] _ (h .if-accepted ok) ok refl (put c .put-answer .ensures)
+    answer-put answer-bytes (model-tests (a .p) (a .n) (a .a) (a .b) (a .constants .now) (row-numbers (a .parameters .now)) (lent (a .numbered) (a .numbers .now))) [] _ (h .if-accepted ok) ok refl (put c .put-answer .ensures)
 
 pub harness-layered-spec : {M : Type 1} → statement M
 harness-layered-spec = tie.close (tie.spec layered-rank-requires returns put-answer-requires same-length returns-2)

@@ -1,4 +1,4 @@
--- `mixed::mixed_file` meets its contract, by what the reading and the mixed rank call ensure. Assumes nothing.
+-- `mixed::mixed_file` meets its contract, by what the reading and the mixed call ensure. Assumes nothing.
 use Rattle.columns.specs.Words.Bytes.{AreBytes}
 use Rattle.mixed.proofs.MixedFileLaws.{mixed-file-refused, mixed-file-answered}
 use borrow.Author.Needs.{needs}
@@ -6,27 +6,27 @@ use Rattle.mixed.proofs.mixed_file.Statement.{statement}
 use Rattle.mixed.proofs.mixed_file.Tie as tie
 
 -- where the file is lent, seen from behind its reading; and where it is read, seen from the test of the refusal
-abbrev lent : tie.After-read-file → tie.After-shared-slice-known
+abbrev lent : tie.After-read-rows → tie.After-shared-slice-known
 lent c = c .before .before .before
 
-abbrev read : tie.After-struct-known → tie.After-read-file
+abbrev read : tie.After-struct-known → tie.After-read-rows
 read c = c .before .before .before
 
 bytes : (c : tie.After-shared-slice-known) → AreBytes (c .before .args .file .now)
 bytes c i = search (needs, c .shared-slice-known .given i)
 
 -- the file's bytes, where it is read
-file-bytes : (c : tie.After-read-file) → AreBytes (lent c .before .args .file .now)
+file-bytes : (c : tie.After-read-rows) → AreBytes (lent c .before .args .file .now)
 file-bytes c = bytes (lent c)
 
-slice-aggregate-read-file : tie.Need-slice-aggregate-read-file
-slice-aggregate-read-file c = search needs
+slice-aggregate-read-rows : tie.Need-slice-aggregate-read-rows
+slice-aggregate-read-rows c = search needs
 
-slice-aggregate-read-file-2 : tie.Need-slice-aggregate-read-file-2
-slice-aggregate-read-file-2 c = search needs
+slice-aggregate-read-rows-2 : tie.Need-slice-aggregate-read-rows-2
+slice-aggregate-read-rows-2 c = search needs
 
-read-file-requires : tie.Need-read-file-requires
-read-file-requires c κs = search needs
+read-rows-requires : tie.Need-read-rows-requires
+read-rows-requires c κs = search needs
 
 refuse-requires : tie.Need-refuse-requires
 refuse-requires c κs = search needs
@@ -34,33 +34,33 @@ refuse-requires c κs = search needs
 returns : tie.Need-returns
 returns c =
     let at-read = read (c .before .before) in
-    mixed-file-refused (file-bytes at-read) (at-read .read-file .ensures) (c .before .if1 .taken) _ (c .refuse .ensures .0) (c .refuse .ensures .1)
+    mixed-file-refused (file-bytes at-read) (at-read .read-rows .ensures) (c .before .if1 .taken) _ (c .refuse .ensures .0) (c .refuse .ensures .1)
 
-slice-aggregate-mixed-rank : tie.Need-slice-aggregate-mixed-rank
-slice-aggregate-mixed-rank c = search needs
+slice-aggregate-unnumbered-mixed : tie.Need-slice-aggregate-unnumbered-mixed
+slice-aggregate-unnumbered-mixed c = search needs
 
-slice-aggregate-mixed-rank-2 : tie.Need-slice-aggregate-mixed-rank-2
-slice-aggregate-mixed-rank-2 c = search needs
+slice-aggregate-unnumbered-mixed-2 : tie.Need-slice-aggregate-unnumbered-mixed-2
+slice-aggregate-unnumbered-mixed-2 c = search needs
 
-mixed-rank-requires : tie.Need-mixed-rank-requires
-mixed-rank-requires c κs = search needs
+unnumbered-mixed-requires : tie.Need-unnumbered-mixed-requires
+unnumbered-mixed-requires c κs = search needs
 
 returns-2 : tie.Need-returns-2
 returns-2 c =
     let accepted = c .before .before .before in
     let at-read = read (accepted .before) in
-    mixed-file-answered (file-bytes at-read) (at-read .read-file .ensures) (accepted .if1 .left) _ (c .mixed-rank .ensures)
+    mixed-file-answered (file-bytes at-read) (at-read .read-rows .ensures) (accepted .if1 .left) _ (c .unnumbered-mixed .ensures)
 
 pub mixed-file-spec : {M : Type 1} → statement M
 mixed-file-spec =
     tie.close
     (tie.spec
-    slice-aggregate-read-file
-    slice-aggregate-read-file-2
-    read-file-requires
+    slice-aggregate-read-rows
+    slice-aggregate-read-rows-2
+    read-rows-requires
     refuse-requires
     returns
-    slice-aggregate-mixed-rank
-    slice-aggregate-mixed-rank-2
-    mixed-rank-requires
+    slice-aggregate-unnumbered-mixed
+    slice-aggregate-unnumbered-mixed-2
+    unnumbered-mixed-requires
     returns-2)

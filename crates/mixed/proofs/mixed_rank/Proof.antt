@@ -8,6 +8,7 @@ use Rattle.columns.specs.Columns.{moved-down}
 use Rattle.columns.specs.ColumnSets.{Fits, most-words, row-numbers}
 use Rattle.columns.specs.Words.Rows.{most-words-rows}
 use Rattle.exchange.specs.Solve.{SolvedBy}
+use Rattle.format.specs.Numbers.{lent}
 use Rattle.format.specs.Refusals.{mixed-refusal}
 use Rattle.format.specs.TestLaws.{Accepted}
 use Rattle.mixed_models.specs.Mixed.{layered-form, mixed}
@@ -20,7 +21,7 @@ use Rattle.mixed.proofs.mixed_rank.Tie as tie
 
 -- where the call begins, seen from behind the judgement
 abbrev begun : tie.After-judge-mixed → tie.Start
-begun c = c .before .before .before
+begun c = c .before .before .before .before
 
 -- from behind the solver: where the form's columns are made, where its parameters and its constants are filled in, and where the question is accepted
 abbrev offered : tie.After-solve → tie.After-below
@@ -46,11 +47,11 @@ abbrev answered : tie.After-verdict-of → tie.After-solve
 answered c = c .before .before
 
 -- the question is accepted
-none-refused : (c : tie.Else1) → let a = begun (c .before) .args in mixed-refusal (a .p) (a .n) (a .a) (a .b) (a .constants .now) (row-numbers (a .parameters .now)) ≡ 0
+none-refused : (c : tie.Else1) → let a = begun (c .before) .args in mixed-refusal (a .p) (a .n) (a .a) (a .b) (a .constants .now) (row-numbers (a .parameters .now)) (lent (a .numbered) (a .numbers .now)) ≡ 0
 none-refused c = sym (c .before .judge-mixed .ensures) ∙ c .if1 .left
 
-accepted : (c : tie.Else1) → let a = begun (c .before) .args in Accepted (a .p) (a .n) (a .a) (a .a) (a .constants .now) (row-numbers (a .parameters .now)) × (a .a + a .n ≤ most-columns)
-accepted c = let a = begun (c .before) .args in mixed-accepted (a .p) (a .n) (a .a) (a .b) (a .constants .now) (row-numbers (a .parameters .now)) (none-refused c)
+accepted : (c : tie.Else1) → let a = begun (c .before) .args in Accepted (a .p) (a .n) (a .a) (a .a) (a .constants .now) (row-numbers (a .parameters .now)) (lent (a .numbered) (a .numbers .now)) × (a .a + a .n ≤ most-columns)
+accepted c = let a = begun (c .before) .args in mixed-accepted (a .p) (a .n) (a .a) (a .b) (a .constants .now) (row-numbers (a .parameters .now)) (lent (a .numbered) (a .numbers .now)) (none-refused c)
 
 -- the solver takes the form, and answers it
 form-solved : (c : tie.After-solve) → let a = begun (passed c .before) .args in
@@ -62,10 +63,10 @@ form-solved c =
     let constants = constants-filled filled .fill-constants .ensures in
     let parameters = filled .fill-parameters .ensures in
     let all = offered c .below .ensures in
-    let lent = parameters .0 ∙ most-words-rows _ refl in
+    let room = parameters .0 ∙ most-words-rows _ refl in
     c .solve .ensures .if-valid
-    (form-admissible (a .p) (a .a) (a .n) (a .constants .now) (row-numbers (a .parameters .now)) (h .0) (h .1) _ _ _ (constants .0) lent (constants .1) all) _ _ _
-    (shows-form (a .p) (a .a) (a .n) (a .constants .now) (row-numbers (a .parameters .now)) (h .0) (h .1) _ _ _ (constants .0) lent (constants .1) all (parameters .1))
+    (form-admissible (a .p) (a .a) (a .n) (a .constants .now) (row-numbers (a .parameters .now)) (h .0) (h .1) _ _ _ (constants .0) room (constants .1) all) _ _ _
+    (shows-form (a .p) (a .a) (a .n) (a .constants .now) (row-numbers (a .parameters .now)) (h .0) (h .1) _ _ _ (constants .0) room (constants .1) all (parameters .1))
 
 sets-fit : (c : tie.After-solve) → Fits (c .solve .result .short)
 sets-fit c = search (needs, c .solve .ok .1 .1 .1 .1 .1 .1 .0)

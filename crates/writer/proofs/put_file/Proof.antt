@@ -8,10 +8,11 @@ use lib.ListN.{length, take, drop, length-append}
 use Rattle.columns.specs.ColumnSets.{row-numbers}
 use Rattle.columns.specs.Bytes.{bytes-of}
 use Rattle.format.specs.Lists.{rows-of}
+use Rattle.format.specs.Numbers.{lent}
 use Rattle.format.specs.OverLaws.{Wrote}
 use Rattle.format.specs.File.Piece.{field-bytes}
 use Rattle.format.specs.File.Format.{prime-tag, sizes-tag, end-tag, encode, handed-over}
-use Rattle.format.specs.File.Steps.{constant-bytes, parameter-bytes}
+use Rattle.format.specs.File.Steps.{constant-bytes, rows-bytes}
 use Rattle.format.proofs.Puts.{first-put, wrote-put, put-all, room-left}
 use Rattle.writer.proofs.Rows.{handed-over-fields}
 use Rattle.writer.proofs.put_file.Statement.{statement}
@@ -19,8 +20,8 @@ use Rattle.writer.proofs.put_file.Tie as tie
 
 -- the places: where the call began, where each field is put, and where each was still to be put
 
-abbrev entry : tie.After-shared-slice-known2 → tie.Start
-entry c = c .before .before .before
+abbrev entry : tie.After-shared-slice-known3 → tie.Start
+entry c = c .before .before .before .before
 
 abbrev prime-put : tie.After-slice-known2 → tie.After-put-prime
 prime-put c = c .before .before
@@ -37,7 +38,7 @@ rows-put c = c .before .before
 abbrev before-rows : tie.After-slice-known4 → tie.After-slice-known3
 before-rows c = rows-put c .before .before
 
-abbrev parameters-put : tie.After-slice-known5 → tie.After-put-parameter-rows
+abbrev parameters-put : tie.After-slice-known5 → tie.After-put-rows
 parameters-put c = c .before .before
 
 abbrev before-parameters : tie.After-slice-known5 → tie.After-slice-known4
@@ -66,7 +67,7 @@ entry₄ c = entry₃ (before-parameters c)
 -- the file of a call, and the bytes of its fields
 
 abbrev file : tie.Start → List ℕ
-file s = let a = s .args in encode (handed-over (a .p) (a .n) (a .a) (a .b) (a .constants .now) (row-numbers (a .parameters .now)))
+file s = let a = s .args in encode (handed-over (a .p) (a .n) (a .a) (a .b) (a .constants .now) (row-numbers (a .parameters .now)) (lent (a .numbered) (a .numbers .now)))
 
 abbrev prime : tie.Start → List ℕ
 prime s = field-bytes prime-tag 2 (bytes-of 2 (s .args .p))
@@ -78,7 +79,7 @@ abbrev rows : tie.Start → List ℕ
 rows s = flatMap (constant-bytes (s .args .n)) (rows-of (s .args .n) (s .args .a) (s .args .constants .now))
 
 abbrev parameters : tie.Start → List ℕ
-parameters s = flatMap (parameter-bytes (s .args .n)) (take (s .args .b) (row-numbers (s .args .parameters .now)))
+parameters s = let a = s .args in rows-bytes (a .n) (take (a .b) (row-numbers (a .parameters .now))) (lent (a .numbered) (a .numbers .now))
 
 abbrev end : List ℕ
 end = field-bytes end-tag 0 []
@@ -95,7 +96,7 @@ abbrev left₁ : tie.Start → List ℕ
 left₁ s = sizes s ++ left₂ s
 
 fields : (s : tie.Start) → file s ≡ prime s ++ left₁ s
-fields s = let a = s .args in handed-over-fields (a .p) (a .n) (a .a) (a .b) (a .constants .now) (row-numbers (a .parameters .now))
+fields s = let a = s .args in handed-over-fields (a .p) (a .n) (a .a) (a .b) (a .constants .now) (row-numbers (a .parameters .now)) (lent (a .numbered) (a .numbers .now))
 
 first : (s : tie.Start) → length (prime s) ≤ length (file s)
 first s = omega (arith, ap length (fields s) ∙ length-append (prime s) (left₁ s))
@@ -112,7 +113,7 @@ abbrev at₁ : tie.After-slice-known2 → ℕ
 at₁ c = prime-put c .put-prime .result
 
 written₁ : (c : tie.After-slice-known2) → let s = entry₁ c in Wrote (file s) (left₁ s) (s .args .out .now) (area₁ c) (at₁ c)
-written₁ c = let s = entry₁ c in first-put _ (prime s) (left₁ s) (fields s) (s .pre .5) (prime-put c .put-prime .ensures)
+written₁ c = let s = entry₁ c in first-put _ (prime s) (left₁ s) (fields s) (s .pre .1) (prime-put c .put-prime .ensures)
 
 abbrev area₂ : tie.After-slice-known3 → List ℕ
 area₂ c = let d = before-sizes c in back (area₁ d) (at₁ d) (sizes-put c .put-sizes .last .0)
@@ -133,13 +134,13 @@ written₃ : (c : tie.After-slice-known4) → let s = entry₃ c in Wrote (file 
 written₃ c = wrote-put (rows (entry₃ c)) _ _ (written₂ (before-rows c)) refl (rows-put c .put-constant-rows .ensures)
 
 abbrev area₄ : tie.After-slice-known5 → List ℕ
-area₄ c = let d = before-parameters c in back (area₃ d) (at₃ d) (parameters-put c .put-parameter-rows .last .0)
+area₄ c = let d = before-parameters c in back (area₃ d) (at₃ d) (parameters-put c .put-rows .last .0)
 
 abbrev at₄ : tie.After-slice-known5 → ℕ
-at₄ c = at₃ (before-parameters c) + parameters-put c .put-parameter-rows .result
+at₄ c = at₃ (before-parameters c) + parameters-put c .put-rows .result
 
 written₄ : (c : tie.After-slice-known5) → let s = entry₄ c in Wrote (file s) end (s .args .out .now) (area₄ c) (at₄ c)
-written₄ c = wrote-put (parameters (entry₄ c)) _ _ (written₃ (before-parameters c)) refl (parameters-put c .put-parameter-rows .ensures)
+written₄ c = wrote-put (parameters (entry₄ c)) _ _ (written₃ (before-parameters c)) refl (parameters-put c .put-rows .ensures)
 
 -- there is room for the next field
 abbrev Room : List ℕ → ℕ → List ℕ → Type 0
@@ -158,7 +159,7 @@ room₄ : (c : tie.After-slice-known5) → Room end (at₄ c) (area₄ c)
 room₄ c = room-left end [] (written₄ c) refl
 
 put-prime-requires : tie.Need-put-prime-requires
-put-prime-requires c κs = let s = entry (c .before) in omega (arith, first s, s .pre)
+put-prime-requires c κs = let s = entry (c .before) in omega (arith, first s, s .pre .1)
 
 sub-put-sizes : tie.Need-sub-put-sizes
 sub-put-sizes c = omega (arith, room₁ c)
@@ -194,22 +195,22 @@ part-put-constant-rows-end : tie.Need-part-put-constant-rows-end
 part-put-constant-rows-end c = search needs
 
 put-constant-rows-requires : tie.Need-put-constant-rows-requires
-put-constant-rows-requires c κs = let h = entry₂ (c .before) .pre in (h .0, h .3, room₂ (c .before) .1)
+put-constant-rows-requires c κs = let h = entry₂ (c .before) .pre .0 in (h .n-most, h .constants-lent, room₂ (c .before) .1)
 
 add-at-2 : tie.Need-add-at-2
 add-at-2 c = omega (arith, written₃ c .room)
 
-sub-put-parameter-rows : tie.Need-sub-put-parameter-rows
-sub-put-parameter-rows c = omega (arith, room₃ c)
+sub-put-rows : tie.Need-sub-put-rows
+sub-put-rows c = omega (arith, room₃ c)
 
-part-put-parameter-rows-start : tie.Need-part-put-parameter-rows-start
-part-put-parameter-rows-start c = omega (arith, room₃ c)
+part-put-rows-start : tie.Need-part-put-rows-start
+part-put-rows-start c = omega (arith, room₃ c)
 
-part-put-parameter-rows-end : tie.Need-part-put-parameter-rows-end
-part-put-parameter-rows-end c = search needs
+part-put-rows-end : tie.Need-part-put-rows-end
+part-put-rows-end c = search needs
 
-put-parameter-rows-requires : tie.Need-put-parameter-rows-requires
-put-parameter-rows-requires c κs = (entry₃ (c .before) .pre .4, room₃ (c .before) .1)
+put-rows-requires : tie.Need-put-rows-requires
+put-rows-requires c κs = let h = entry₃ (c .before) .pre .0 in (h .n-most, h .parameters-lent, h .parameters-within, h .numbers-lent, room₃ (c .before) .1)
 
 add-at-3 : tie.Need-add-at-3
 add-at-3 c = omega (arith, written₄ c .room)
@@ -253,10 +254,10 @@ put-file-spec =
     part-put-constant-rows-end
     put-constant-rows-requires
     add-at-2
-    sub-put-parameter-rows
-    part-put-parameter-rows-start
-    part-put-parameter-rows-end
-    put-parameter-rows-requires
+    sub-put-rows
+    part-put-rows-start
+    part-put-rows-end
+    put-rows-requires
     add-at-3
     sub-put-head
     part-put-head-start

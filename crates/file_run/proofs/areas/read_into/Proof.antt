@@ -24,6 +24,12 @@ slice-relend-prefix-read-file-2 c = search needs
 slice-aggregate-read-file-2 : tie.Need-slice-aggregate-read-file-2
 slice-aggregate-read-file-2 c = sym (length-take-le _ _ (omega arith))
 
+array-borrow-prefix-numbers : tie.Need-array-borrow-prefix-numbers
+array-borrow-prefix-numbers c = search needs
+
+slice-aggregate-read-file-3 : tie.Need-slice-aggregate-read-file-3
+slice-aggregate-read-file-3 c = search needs
+
 read-file-requires : tie.Need-read-file-requires
 read-file-requires c κs = search needs
 
@@ -58,6 +64,8 @@ read-into-spec =
     slice-aggregate-read-file
     slice-relend-prefix-read-file-2
     slice-aggregate-read-file-2
+    array-borrow-prefix-numbers
+    slice-aggregate-read-file-3
     read-file-requires
     sizes-requires
     constants-requires

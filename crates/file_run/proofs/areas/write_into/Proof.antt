@@ -15,11 +15,17 @@ slice-aggregate-write-file c = search needs
 slice-aggregate-write-file-2 : tie.Need-slice-aggregate-write-file-2
 slice-aggregate-write-file-2 c = search needs
 
+array-share-prefix-numbers : tie.Need-array-share-prefix-numbers
+array-share-prefix-numbers c = search needs
+
+slice-aggregate-write-file-3 : tie.Need-slice-aggregate-write-file-3
+slice-aggregate-write-file-3 c = search needs
+
 slice-relend-prefix-write-file : tie.Need-slice-relend-prefix-write-file
 slice-relend-prefix-write-file c = search needs
 
-slice-aggregate-write-file-3 : tie.Need-slice-aggregate-write-file-3
-slice-aggregate-write-file-3 c = sym (length-take-le _ _ (omega arith))
+slice-aggregate-write-file-4 : tie.Need-slice-aggregate-write-file-4
+slice-aggregate-write-file-4 c = sym (length-take-le _ _ (omega arith))
 
 write-file-requires : tie.Need-write-file-requires
 write-file-requires c κs = search needs
@@ -52,8 +58,10 @@ write-into-spec =
     returns
     slice-aggregate-write-file
     slice-aggregate-write-file-2
-    slice-relend-prefix-write-file
+    array-share-prefix-numbers
     slice-aggregate-write-file-3
+    slice-relend-prefix-write-file
+    slice-aggregate-write-file-4
     write-file-requires
     cast-number
     number-requires

@@ -6,8 +6,8 @@ use Prim.Native.Nat.{ℕ, _-_}
 use lib.ListN.{length, take, drop}
 use Rattle.format.specs.Refusals.{first-refusal}
 use Rattle.format.specs.File.Piece.{Piece, many, seq, closed}
-use Rattle.format.specs.File.Format.{constant-tag, parameter-tag, constant-body, parameter-body, constant-row, parameter-row, end-field, row-fields}
-use Rattle.format.proofs.Parts.{Ends, field-ends, many-ends}
+use Rattle.format.specs.File.Format.{constant-tag, constant-body, constant-row, ParameterRows, parameter-rows, end-field, row-fields}
+use Rattle.format.proofs.Parts.{Ends, field-ends, many-ends, parameter-rows-ends}
 use Rattle.format.proofs.Judging.{accepted, left-within, next-part, seq-refused, seq-passed}
 use Rattle.format.proofs.judge.judge_row_fields.Statement.{statement}
 use Rattle.format.proofs.judge.judge_row_fields.Tie as tie
@@ -20,7 +20,7 @@ entry c = c .before .before
 abbrev constants-judged : tie.After-struct-known2 → tie.After-judge-constant-rows
 constants-judged c = c .before .before .before
 
-abbrev constants-passed : tie.After-judge-parameter-rows → tie.After-struct-known2
+abbrev constants-passed : tie.After-judge-either-rows → tie.After-struct-known2
 constants-passed c = c .before .before
 
 -- the bytes of a call, and the pieces that are judged one after another
@@ -31,10 +31,10 @@ bytes s = s .args .rest .now
 abbrev constants : tie.Start → Piece (List (List ℕ))
 constants s = many (s .args .a) (constant-row (s .args .p) (s .args .n))
 
-abbrev parameters : tie.Start → Piece (List ℕ)
-parameters s = many (s .args .b) (parameter-row (s .args .n))
+abbrev parameters : tie.Start → Piece ParameterRows
+parameters s = parameter-rows (s .args .n) (s .args .b)
 
-abbrev behind : tie.Start → Piece (List ℕ × Unit {0})
+abbrev behind : tie.Start → Piece (ParameterRows × Unit {0})
 behind s = seq (parameters s) (λ _. end-field)
 
 constant-ends : (s : tie.Start) → Ends (constants s .rest (bytes s)) (bytes s)
@@ -42,8 +42,7 @@ unfolding constant-row
 constant-ends s = many-ends (constant-row (s .args .p) (s .args .n)) (field-ends constant-tag (constant-body (s .args .p) (s .args .n))) (s .args .a) (bytes s)
 
 parameter-ends : (s : tie.Start) (rest : List ℕ) → Ends (parameters s .rest rest) rest
-unfolding parameter-row
-parameter-ends s rest = many-ends (parameter-row (s .args .n)) (field-ends parameter-tag (parameter-body (s .args .n))) (s .args .b) rest
+parameter-ends s rest = parameter-rows-ends (s .args .n) (s .args .b) rest
 
 -- the constant rows are not refused, and what follows them
 passed : (c : tie.After-struct-known2) → let s = entry (constants-judged c) in first-refusal (constants s .tests (bytes s)) ≡ 0
@@ -72,8 +71,8 @@ part-rows-start c = search needs
 part-rows-end : tie.Need-part-rows-end
 part-rows-end c = search needs
 
-judge-parameter-rows-requires : tie.Need-judge-parameter-rows-requires
-judge-parameter-rows-requires c κs = search needs
+judge-either-rows-requires : tie.Need-judge-either-rows-requires
+judge-either-rows-requires c κs = search needs
 
 returns-2 : tie.Need-returns-2
 unfolding row-fields
@@ -82,12 +81,12 @@ returns-2 c =
     let k = constants-passed d in
     let s = entry (constants-judged k) in
     seq-passed (constants s) (λ _. behind s) _ _ (passed k)
-    (seq-refused (parameters s) (λ _. end-field) _ _ (d .judge-parameter-rows .ensures .refusal-is ∙ ap (λ (u : List ℕ). first-refusal (parameters s .tests u)) (rest k)) (c .if2 .taken))
+    (seq-refused (parameters s) (λ _. end-field) _ _ (d .judge-either-rows .ensures .refusal-is ∙ ap (λ (u : List ℕ). first-refusal (parameters s .tests u)) (rest k)) (c .if2 .taken))
 
 sub-end : tie.Need-sub-end
 sub-end c =
     let d = c .before .before .before in
-    left-within (d .judge-parameter-rows .ensures) (c .before .if2 .left) (parameter-ends (entry (constants-judged (constants-passed d))) _)
+    left-within (d .judge-either-rows .ensures) (c .before .if2 .left) (parameter-ends (entry (constants-judged (constants-passed d))) _)
 
 sub-judge-end : tie.Need-sub-judge-end
 sub-judge-end c = search needs
@@ -109,7 +108,7 @@ returns-3 c =
     let k = constants-passed d in
     let s = entry (constants-judged k) in
     let t = rest k in
-    let j = d .judge-parameter-rows .ensures in
+    let j = d .judge-either-rows .ensures in
     let z = not-refused .if2 .left in
     seq-passed (constants s) (λ _. behind s) _ _ (passed k)
     (seq-passed (parameters s) (λ _. end-field) _ _ (ap (λ (u : List ℕ). first-refusal (parameters s .tests u)) (sym t) ∙ accepted j z)
@@ -125,7 +124,7 @@ judge-row-fields-spec =
     sub-rows
     part-rows-start
     part-rows-end
-    judge-parameter-rows-requires
+    judge-either-rows-requires
     returns-2
     sub-end
     sub-judge-end

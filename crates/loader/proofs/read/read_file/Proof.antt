@@ -1,168 +1,69 @@
 -- `read::read_file` meets its contract. Assumes nothing.
-use borrow.Author.Needs.{needs}
-use native.Mathlib.Omega.{arith}
-use Prim.Native.Nat.{ℕ, _-_, _*_, _≤_}
-use mathlib.Core.List.{List}
-use mathlib.Core.Path.{_≡_, refl, sym, ap, _∙_}
-use native.Mathlib.Nat.{mul-le-mul, le-of-lt}
-use lib.ListN.{length, take, drop}
+use Prim.Native.Nat.{ℕ, _*_, _≤_, _<_}
+use mathlib.Core.Path.{_≡_, refl, sym, ap₂, _∙_, subst}
+use mathlib.Core.Bool.{true, false, false≢true}
+use lib.ListN.{length}
+use borrow.Author.Tests.{not-true, not-false}
 use Rattle.columns.specs.ColumnSets.{row-numbers}
-use Rattle.columns.specs.Words.Bytes.{AreBytes}
-use Rattle.format.specs.declared.header.Header.{Header}
-use Rattle.format.specs.Lists.{over}
-use Rattle.format.specs.File.Piece.{said-rests}
-use Rattle.format.specs.File.Format.{judge, rows-part}
-use Rattle.format.specs.File.Steps.{constants-said, parameters-said}
-use Rattle.format.proofs.Headers.{header-refusal}
-use Rattle.format.proofs.Parts.{ends-within, said-rests-ends, left-part}
-use Rattle.format.proofs.Walking.{rows-said}
-use Rattle.loader.proofs.Reading.{Numbers, Sizes-are, numbers-accepted, constants-fit, reading-refused, constants-short, parameters-short, reading-done}
+use Rattle.loader.specs.FileRead.{room-test}
+use Rattle.loader.proofs.Reading.{NumbersDue, numbers-due, room-held, room-short, room-enough, file-short, file-done}
+use borrow.Author.Needs.{needs}
 use Rattle.loader.proofs.read.read_file.Statement.{statement}
 use Rattle.loader.proofs.read.read_file.Tie as tie
 
-bytes : (c : tie.After-shared-slice-known) → AreBytes (c .before .args .file .now)
-bytes c i = search (needs, c .shared-slice-known .given i)
+-- the places: where the sizes are read, where the call began, and where the rows are filled
 
--- the places before the rows are found: where the areas are lent, where the call began, where the sizes are known, where the
--- constants' area is found to hold them, and where the file was accepted
-
-abbrev lent : tie.After-sizes-of → tie.After-slice-known2
-lent c = c .before .before
-
-abbrev entry : tie.After-sizes-of → tie.Start
-entry c = lent c .before .before .before
-
-abbrev sized : tie.Else1 → tie.After-sizes-of
+abbrev sized : tie.After-numbers-held → tie.After-read-sizes
 sized c = c .before .before
 
-abbrev constants-held : tie.After-rows → tie.Else2
-constants-held c = c .before .before
+abbrev entry : tie.After-numbers-held → tie.Start
+entry c = sized c .before .before .before .before .before
 
-abbrev passed : tie.After-rows → tie.Else1
-passed c = constants-held c .before .before
+abbrev tested : tie.After-fill-rows → tie.After-numbers-held
+tested c = c .before .before .before .before
 
--- the places behind: where the rows are found, where the constants are read, where the parameter rows are found, and where these are read
+-- the area of the numbers holds them
+held : (c : tie.After-fill-rows) → let t = tested c in room-test (sized t .read-sizes .result) (length (entry t .args .numbers .now)) ≡ true
+held c = sym (tested c .numbers-held .ensures) ∙ not-false _ (c .before .before .before .if1 .left)
 
-abbrev rows-found : tie.After-read-constants → tie.After-left-after
-rows-found c = c .before .before .before
+-- where the file is numbered, its own sizes were read
+due : (c : tie.After-fill-rows) → c .fill-rows .result .numbered ≡ true → let t = tested c in NumbersDue (entry t .args .file .now) (sized t .read-sizes .result) (c .fill-rows .result)
+due c t = numbers-due (sized (tested c) .read-sizes .ensures) (c .fill-rows .ensures) t
 
-abbrev constants-read : tie.After-left-after2 → tie.After-read-constants
-constants-read c = c .before .before .before
+read-sizes-requires : tie.Need-read-sizes-requires
+read-sizes-requires c κs = search needs
 
-abbrev parameters-found : tie.After-read-parameters → tie.After-left-after2
-parameters-found c = c .before .before .before
-
-abbrev parameters-read : tie.After-slice-known4 → tie.After-read-parameters
-parameters-read c = c .before .before
-
--- the file of the call
-abbrev file : tie.After-sizes-of → List ℕ
-file c = entry c .args .file .now
-
--- the numbers of the header
-numbers : (c : tie.After-sizes-of) → let z = c .sizes-of .result in Numbers (file c) (z .refusal) (z .p) (z .n) (z .a) (z .b)
-numbers c =
-    let h = c .before .read-header .ensures in
-    let z = c .sizes-of .ensures in
-    record {
-      refusal-is = z .0 ∙ ap (λ (h : Header). h .refusal) h ∙ header-refusal _;
-      p-is = z .1 ∙ ap (λ (h : Header). h .p) h;
-      n-is = z .2 ∙ ap (λ (h : Header). h .n) h;
-      a-is = z .3 ∙ ap (λ (h : Header). h .a) h;
-      b-is = z .4 ∙ ap (λ (h : Header). h .b) h;
-    }
-
-accepted : (c : tie.Else1) → judge (file (sized c)) ≡ 0
-accepted c = sym (numbers (sized c) .refusal-is) ∙ c .if1 .left
-
-sizes : (c : tie.Else1) → let z = sized c .sizes-of .result in Sizes-are (file (sized c)) (z .p) (z .n) (z .a) (z .b)
-sizes c = numbers-accepted (numbers (sized c)) (accepted c)
-
--- the area of the parameter rows holds them
-parameters-held : (c : tie.Else3) → let d = sized (passed (c .before)) in d .sizes-of .result .b ≤ length (row-numbers (entry d .args .parameters .now))
-parameters-held c = rw (c .before .rows .ensures) at (c .if3 .left)
-
--- the rows stand behind two fields
-rows : (c : tie.After-left-after) → let s = file (sized (passed (c .before .before))) in let left = c .left-after .result in
-    take (length s - (length s - left)) (drop (length s - left) s) ≡ rows-part s
-rows c = left-part (said-rests-ends 2 _) (c .left-after .ensures) ∙ rows-said _ (accepted (passed (c .before .before)))
-
-read-header-requires : tie.Need-read-header-requires
-read-header-requires c κs = search needs
-
-sizes-of-requires : tie.Need-sizes-of-requires
-sizes-of-requires c κs = search needs
-
-returns : tie.Need-returns
-returns c = reading-refused _ _ _ (numbers (c .before .before)) (c .if1 .taken)
-
-mul-if2 : tie.Need-mul-if2
-mul-if2 c = let z = c .before .before .before .sizes-of in
-    let m : z .result .a * z .result .n ≤ 256 * 256 = mul-le-mul (le-of-lt (z .ensures .6)) (le-of-lt (z .ensures .5)) in
-    omega arith
+numbers-held-requires : tie.Need-numbers-held-requires
+numbers-held-requires c κs = let x = c .before .read-sizes .ensures in (x .n-small, x .b-small)
 
 no-sizes-requires : tie.Need-no-sizes-requires
 no-sizes-requires c κs = search needs
 
-returns-2 : tie.Need-returns-2
-returns-2 c = let z = c .no-sizes .ensures in
-    let d = c .before .before .before in
-    rw (z .0, z .1, z .2, z .3, z .4) (constants-short _ _ _ (accepted d) (sizes d) (c .before .if2 .taken))
-
-rows-requires : tie.Need-rows-requires
-rows-requires c κs = search needs
-
-no-sizes-requires-2 : tie.Need-no-sizes-requires-2
-no-sizes-requires-2 c κs = search needs
-
 same-length : tie.Need-same-length
-same-length c = refl
+same-length c = search needs
 
-returns-3 : tie.Need-returns-3
-returns-3 c = let z = c .no-sizes2 .ensures in
-    let held = c .before .before in
-    let d = passed held in
-    rw (z .0, z .1, z .2, z .3, z .4) (parameters-short _ _ _ (accepted d) (sizes d) (constants-held held .if2 .left) (rw (held .rows .ensures) at (c .before .if3 .taken)))
+returns : tie.Need-returns
+returns c =
+    let t = c .before .before in
+    let z = c .no-sizes .ensures in
+    let a = entry t .args in
+    let q = room-short (sized t .read-sizes .ensures) (length (a .numbers .now)) (sym (t .numbers-held .ensures) ∙ not-true _ (c .before .if1 .taken)) in
+    rw (z .0, z .1, z .2, z .3, z .4, z .5) (file-short (a .file .now) (a .constants .now) (row-numbers (a .parameters .now)) (a .numbers .now) (q .0) (q .1))
 
-left-after-requires : tie.Need-left-after-requires
-left-after-requires c κs = search needs
+fill-rows-requires : tie.Need-fill-rows-requires
+fill-rows-requires c κs = c .before .before .before .before .before .read-sizes .ensures
 
-sub-at : tie.Need-sub-at
-sub-at c = rw (c .left-after .ensures) (ends-within (said-rests-ends 2 _))
-
-sub-rows : tie.Need-sub-rows
-sub-rows c = search needs
-
-part-rows-start : tie.Need-part-rows-start
-part-rows-start c = search needs
-
-part-rows-end : tie.Need-part-rows-end
-part-rows-end c = search needs
-
-read-constants-requires : tie.Need-read-constants-requires
-read-constants-requires c κs =
-    let found = c .before .before in
-    let held = found .before .before in
-    let d = passed held in
-    rw (rows found) (constants-fit (bytes (lent (sized d) .before .before)) (accepted d) (sizes d) _ (constants-held held .if2 .left))
-
-left-after-requires-2 : tie.Need-left-after-requires-2
-left-after-requires-2 c κs = search needs
-
-sub-end : tie.Need-sub-end
-sub-end c = rw (c .left-after2 .ensures) (ends-within (said-rests-ends _ _))
-
-sub-read-parameters : tie.Need-sub-read-parameters
-sub-read-parameters c = search needs
-
-part-read-parameters-start : tie.Need-part-read-parameters-start
-part-read-parameters-start c = search needs
-
-part-read-parameters-end : tie.Need-part-read-parameters-end
-part-read-parameters-end c = search needs
-
-read-parameters-requires : tie.Need-read-parameters-requires
-read-parameters-requires c κs = search needs
+put-numbers-requires : tie.Need-put-numbers-requires
+put-numbers-requires c κs =
+    let d = c .before .before .before .before .before .before in
+    let x = sized (tested d) .read-sizes .ensures in
+    let q = due d (c .before .if2 .taken) in
+    let room = room-enough x _ (held d) (q .is-numbered-too) in
+    let len = length (entry (tested d) .args .numbers .now) in (
+      subst (λ (k : ℕ). k < 256) (sym (q .a-same)) (x .a-small),
+      subst (λ (k : ℕ). k < 256) (sym (q .n-same)) (x .n-small),
+      subst (λ (k : ℕ). k ≤ len) (sym (ap₂ (λ (b : ℕ) (n : ℕ). b * n) (q .b-same) (q .n-same))) room,
+    )
 
 same-length-2 : tie.Need-same-length-2
 same-length-2 c = search needs
@@ -170,46 +71,48 @@ same-length-2 c = search needs
 same-length-3 : tie.Need-same-length-3
 same-length-3 c = search needs
 
-returns-4 : tie.Need-returns-4
-returns-4 c =
-    let behind = parameters-found (parameters-read c) in
-    let found = rows-found (constants-read behind) in
-    let held = found .before .before in
-    let d = passed held in
-    let z = sized d .sizes-of .result in
-    let a = entry (sized d) .args in
-    let t = rows found in
-    let constants = constants-read behind .read-constants .ensures ∙ ap (λ (u : List ℕ). over (constants-said (z .a) u) (a .constants .now)) t in
-    let left = left-part (said-rests-ends (z .a) _) (behind .left-after2 .ensures) ∙ ap (said-rests (z .a)) t in
-    let parameters = parameters-read c .read-parameters .ensures ∙ ap (λ (u : List ℕ). over (parameters-said (z .b) u) (row-numbers (a .parameters .now))) left in
-    rw (d .if1 .left) (reading-done _ _ _ (accepted d) (sizes d) (constants-held held .if2 .left) (parameters-held (found .before)) _ _ constants parameters)
+same-length-4 : tie.Need-same-length-4
+same-length-4 c = search needs
+
+returns-2 : tie.Need-returns-2
+returns-2 c =
+    let p = c .before .before in
+    let d = p .before .before .before .before .before .before .before in
+    let t = tested d in
+    let n = p .before .before .if2 .taken in
+    file-done _ _ _ _ (room-held (sized t .read-sizes .ensures) _ (held d)) (d .fill-rows .ensures) (λ _. p .put-numbers .ensures) (λ f. absurd (false≢true (sym f ∙ n)))
+
+same-length-5 : tie.Need-same-length-5
+same-length-5 c = search needs
+
+same-length-6 : tie.Need-same-length-6
+same-length-6 c = search needs
+
+same-length-7 : tie.Need-same-length-7
+same-length-7 c = search needs
+
+returns-3 : tie.Need-returns-3
+returns-3 c =
+    let d = c .before .before .before .before .before in
+    let t = tested d in
+    file-done _ _ _ _ (room-held (sized t .read-sizes .ensures) _ (held d)) (d .fill-rows .ensures) (λ n. absurd (false≢true (sym (c .if2 .left) ∙ n))) (λ _. refl)
 
 pub read-file-spec : {M : Type 1} → statement M
 read-file-spec =
     tie.close
     (tie.spec
-    read-header-requires
-    sizes-of-requires
-    returns
-    mul-if2
+    read-sizes-requires
+    numbers-held-requires
     no-sizes-requires
-    returns-2
-    rows-requires
-    no-sizes-requires-2
     same-length
-    returns-3
-    left-after-requires
-    sub-at
-    sub-rows
-    part-rows-start
-    part-rows-end
-    read-constants-requires
-    left-after-requires-2
-    sub-end
-    sub-read-parameters
-    part-read-parameters-start
-    part-read-parameters-end
-    read-parameters-requires
+    returns
+    fill-rows-requires
+    put-numbers-requires
     same-length-2
     same-length-3
-    returns-4)
+    same-length-4
+    returns-2
+    same-length-5
+    same-length-6
+    same-length-7
+    returns-3)
