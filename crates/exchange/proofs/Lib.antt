@@ -6,3 +6,4 @@ pub mod HeldLaws
 pub mod PlacingLaws
 pub mod OfferingLaws
 pub mod AnswerLaws
+pub mod ReadingLaws

@@ -4,7 +4,7 @@ use mathlib.Core.Path.{_≡_, refl, sym, ap, _∙_}
 use mathlib.Core.Logic.{_↔_, inl, inr}
 use mathlib.Core.Bool.{Bool, true, false, false≢true}
 use mathlib.Core.List.{List}
-use lib.ListN.{getD}
+use lib.ListN.{getD, replicate, getD-replicate}
 use native.Mathlib.Omega.{arith}
 use native.Mathlib.Decide.{ℕ-discrete}
 use Rattle.counting.specs.Bools.{not-true}
@@ -22,6 +22,7 @@ use Rattle.rank.specs.Layered.Offers.{Offered, offered-none, offered-same, offe
 use Rattle.rank.specs.Modulus.{residue-of}
 use Rattle.rank.specs.Layered.Valid.{state}
 use Rattle.rank.specs.Layered.Seating.{empty-valid}
+use Rattle.exchange.specs.Sizes.{lines}
 use Rattle.exchange.specs.Code.Cells.{cell}
 use Rattle.exchange.specs.Code.Scanning.{owner-at}
 use Rattle.exchange.specs.Code.Held.{Given, model-of, ShowsConstants, Held}
@@ -143,6 +144,10 @@ module _ {p n a b : ℕ} {ws : List ℕ} {G : Given p n b ws} where
   }
 
 -- ---- nothing is placed at first
+
+-- every row is free
+pub none-owned : (n N : ℕ) → N ≤ lines → (q : ℕ) → q < N → owner-at (replicate lines n) q ≡ n
+none-owned n N h q l = getD-replicate lines q n 0 (omega arith)
 
 module _ (p n a b : ℕ) (ws : List ℕ) (t o : List ℕ) (free : (q : ℕ) → q < a + b → owner-at o q ≡ n) where
   pub offers-start : (offered : Set) (G : Given p n b ws) → ShowsConstants p n a b ws G t → ((x : ℕ) → (x ∈ offered) ↔ ((x < n) × (x ∈ G .E))) → Offers p n a b ws offered t o G

@@ -7,3 +7,4 @@ pub mod Held
 pub mod Placing
 pub mod Offering
 pub mod Answer
+pub mod Reading

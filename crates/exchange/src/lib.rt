@@ -1,27 +1,32 @@
 // Elimination and matching: the answer to a layered model, by placing one column after another on a row of its own.
-// Over the column sets of `columns`: the tableau, the search of the exchange graph, seats, and the offering of columns. Code
-// outside sees one call.
+// Over the column sets of `columns`: the tableau, the search of the exchange graph, seats, and the offering of columns; and how a
+// column depends on others, read off the tableau. Code outside sees two calls.
 ghost use mathlib.Core.Path.{_≡_};
 ghost use mathlib.Core.Logic.{_↔_};
 ghost use mathlib.Core.Bool.{true, false};
 ghost use Prim.Native.Nat.{ℕ, _<_, _≤_};
 ghost use Rattle.limits.specs.Limits.{most-columns, most-rows};
 ghost use Rattle.residue.specs.Arithmetic.{is-prime, InverseTable};
+ghost use Rattle.rank.specs.Modulus.{field-of};
 ghost use Rattle.counting.specs.Sets.{_∈_};
 ghost use Rattle.columns.specs.Columns.{members, within};
 ghost use Rattle.columns.specs.ColumnSets.{whole, row-numbers};
 ghost use Rattle.exchange.specs.Solve.{Nothing, SolvedBy, Solves};
+ghost use Rattle.exchange.specs.Depending.{Without, Dependent, Depending};
 ghost use Rattle.exchange.specs.Code.Cells.{TableauArray};
 ghost use Rattle.exchange.specs.Code.Held.{Given, model-of, ShowsConstants};
+ghost use Rattle.exchange.specs.Code.Reading.{ShowsRows};
 
 mod admission;
 mod offering;
+mod reading;
 mod search;
 mod seating;
 mod sizes;
 mod tableau;
 
 use columns::ColumnSet;
+use limits::MOST_COLUMNS;
 use limits::MOST_ROWS;
 use limits::NO_COLUMN;
 use residue::LISTED_PRIME;
@@ -106,4 +111,75 @@ pub fn solve(
         return answer(&mut t, parameters, &inverses, p as u16, n, a, b, offered);
     }
     answer(&mut t, parameters, &[], p as u16, n, a, b, offered)
+}
+
+// How a column depends on held columns: 2, these are dependent themselves; 1, the column depends on them; 0, it does not. And the
+// multiplier of each column, 0 where none is given. Where the constants are not taken, nothing.
+pub struct Dependence {
+    pub valid: bool,
+    pub outcome: u8,
+    pub multipliers: [u16; MOST_COLUMNS],
+}
+
+// An outcome that gives no multipliers.
+fn without_multipliers(valid: bool, outcome: u8) -> Dependence
+    ensures { λ r. ⌜ (r .valid ≡ valid) × Without outcome r ⌝ }
+{
+    Dependence {
+        valid,
+        outcome,
+        multipliers: [0; MOST_COLUMNS],
+    }
+}
+
+// How the column x depends on the held columns, over a filled tableau: these are placed on the constant rows alone, and what the
+// tableau then has in the column is read off.
+fn read_column(
+    t: &mut [u16; CELLS],
+    p: u16,
+    n: usize,
+    a: usize,
+    held: ColumnSet,
+    x: usize,
+) -> Dependence
+    requires { ⌜ TableauArray p (now t) × (n ≤ most-columns) × (a ≤ most-rows) × (within n (whole held) ≡ true) × (is-prime p ≡ true) × (x < n) ⌝ }
+    ensures { λ r. ⌜ (r .valid ≡ true) × ((Q : ℕ → ℕ → field-of p .F) → ShowsRows p n a Q (now (t .entry)) → Dependent p n a Q (members (whole held)) x r) ⌝ }
+{
+    let mut owner = [n as u8; LINES];
+    let placed = offering::offer_all(t, &mut owner, &[], &[], p, n, a, 0, held);
+    let missing = columns::difference(held, placed);
+    if !columns::is_empty(missing) {
+        return without_multipliers(true, 2);
+    }
+    if !reading::is_zero_where_free(t, &owner, n, a, x) {
+        return without_multipliers(true, 0);
+    }
+    let multipliers = reading::entries_by_owner(t, &owner, n, a, x);
+    Dependence {
+        valid: true,
+        outcome: 1,
+        multipliers,
+    }
+}
+
+// How the column x depends on the held columns, by p, n, a and the constants row by row.
+pub fn column_dependence(
+    p: u32,
+    n: usize,
+    a: usize,
+    held: ColumnSet,
+    x: usize,
+    constants: &[u16],
+) -> Dependence
+    ensures { λ r. ⌜ Depending p n a held x (now (constants .entry)) r ⌝ }
+{
+    if !admission::is_admissible(p, n, a, 0, held, constants, &[]) {
+        return without_multipliers(false, 0);
+    }
+    if x >= n {
+        return without_multipliers(false, 0);
+    }
+    let mut t = [0u16; CELLS];
+    tableau::fill(&mut t, constants, n, a);
+    read_column(&mut t, p as u16, n, a, held, x)
 }

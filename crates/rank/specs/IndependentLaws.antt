@@ -47,10 +47,10 @@ module _ (q : ℕ) (P : Prime q) (a n : ℕ) (Q : ℕ → ℕ → residues q P .
 
   module _ (S : Set) where
     -- the coefficients that the test runs over are those that are zero outside S
-    last-choice : ℕ → ℕ
+    unfoldable pub last-choice : ℕ → ℕ
     last-choice x = cond (S x) (q - 1) 0
 
-    cut-chosen : (c : ℕ → F) → In (residues q P) S c → Chosen (res q P) last-choice n (cut q P n c)
+    pub cut-chosen : (c : ℕ → F) → In (residues q P) S c → Chosen (res q P) last-choice n (cut q P n c)
     unfolding last-choice
     cut-chosen c h = record {
       inside = λ x l. elim (true? (S x)) [
@@ -64,7 +64,7 @@ module _ (q : ℕ) (P : Prime q) (a n : ℕ) (Q : ℕ → ℕ → residues q P .
       beyond = λ x l. cut-beyond q P n c x l;
     }
 
-    chosen-in : (c : ℕ → F) → Chosen (res q P) last-choice n c → In (residues q P) S c
+    pub chosen-in : (c : ℕ → F) → Chosen (res q P) last-choice n c → In (residues q P) S c
     unfolding last-choice
     chosen-in c h x ns = elim (decLt x n) [
       | no nl ↦ h .beyond x (omega arith) ∙ res-zero _ P

@@ -38,7 +38,7 @@ module _ (q : ℕ) (P : Prime q) where
   open Field (residues q P) using (F, 𝟘)
 
   -- the residue of a sum of products
-  res-total : (n : ℕ) (r c : ℕ → ℕ) → res q P (total n (λ j. r j * c j)) ≡ dot (residues q P) n (λ j. res q P (r j)) (λ j. res q P (c j))
+  pub res-total : (n : ℕ) (r c : ℕ → ℕ) → res q P (total n (λ j. r j * c j)) ≡ dot (residues q P) n (λ j. res q P (r j)) (λ j. res q P (c j))
   unfolding total dot Σ
   res-total zero r c = res-zero q P
   res-total (suc n) r c = res-add q P _ _ ∙ ap₂ (residues q P ._+_) (res-total n r c) (res-mul q P (r n) (c n))

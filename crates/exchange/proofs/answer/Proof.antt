@@ -1,16 +1,15 @@
 -- `exchange::answer` meets its contract, by what its callees ensure. Assumes nothing.
 use Prim.Native.Nat.{ℕ, _+_, _-_, _<_, _≤_}
 use mathlib.Core.Path.{_≡_, refl}
-use lib.ListN.{getD-replicate, replicate}
+use lib.ListN.{replicate}
 use Rattle.counting.specs.Sets.{_∈_}
 use Rattle.columns.specs.Columns.{members}
 use Rattle.columns.specs.ColumnSets.{whole, row-numbers}
 use Rattle.columns.specs.Words.Operations.{within-iff}
 use Rattle.columns.specs.Words.Sets.{columns-below}
 use Rattle.exchange.specs.Sizes.{lines}
-use Rattle.exchange.specs.Code.Scanning.{owner-at}
 use Rattle.exchange.proofs.HeldLaws.{held-shows}
-use Rattle.exchange.proofs.OfferingLaws.{offers-start, offers-some}
+use Rattle.exchange.proofs.OfferingLaws.{none-owned, offers-start, offers-some}
 use Rattle.exchange.proofs.AnswerLaws.{missing-below, solved}
 use borrow.Author.Needs.{needs}
 use native.Mathlib.Omega.{arith}
@@ -35,10 +34,6 @@ offered c = missed c .before
 
 abbrev begun : tie.After-owner → tie.Start
 begun c = c .before .before .before .before
-
--- every row is free at first
-none-owned : (n N : ℕ) → N ≤ lines → (q : ℕ) → q < N → owner-at (replicate lines n) q ≡ n
-none-owned n N h q l = getD-replicate lines q n 0 (omega arith)
 
 cast-owner : tie.Need-cast-owner
 cast-owner c = search needs

@@ -1,24 +1,21 @@
 -- `exchange::solve` meets its contract: the tableau shows the constants, and `answer` does the rest. Assumes nothing.
-use Prim.Native.Nat.{ℕ, _-_, _*_, _<_}
+use Prim.Native.Nat.{ℕ, _-_, _<_}
 use mathlib.Core.Path.{_≡_, refl, sym, ap, _∙_}
 use mathlib.Core.Logic.{_↔_}
 use mathlib.Core.Bool.{true, false, true≢false}
-use lib.ListN.{replicate}
 use borrow.Author.Tests.{not-true, not-false}
-use Rattle.residue.specs.Primes.{is-prime-reads}
 use Rattle.counting.specs.Sets.{_∈_}
 use Rattle.columns.specs.Columns.{members}
 use Rattle.columns.specs.ColumnSets.{whole, row-numbers}
 use Rattle.columns.specs.Words.Operations.{within-iff}
 use Rattle.columns.specs.Words.Sets.{columns-below}
 use Rattle.rank.specs.Modulus.{residue-of}
-use Rattle.exchange.specs.Sizes.{cells}
 use Rattle.exchange.specs.Solve.{admissible, SolvedBy, Solves}
-use Rattle.exchange.specs.SolveLaws.{all-below-iff, Admissible, admissible-reads}
+use Rattle.exchange.specs.SolveLaws.{Admissible, admissible-reads}
 use Rattle.exchange.specs.Code.Cells.{TableauArray}
 use Rattle.exchange.specs.Code.Held.{Given, model-of, ShowsConstants}
 use Rattle.exchange.specs.declared.Solution.{Solution}
-use Rattle.exchange.proofs.CellLaws.{zeros-below, filled-below}
+use Rattle.exchange.proofs.AdmissionLaws.{filled-tableau}
 use borrow.Author.Needs.{needs}
 use native.Mathlib.Omega.{arith}
 use Rattle.exchange.proofs.solve.Statement.{statement}
@@ -58,13 +55,7 @@ returns c =
 filled : (c : tie.After-fill) → TableauArray (begun (accepted c .before) .args .p) (c .fill .last .0)
 filled c =
     let a = begun (accepted c .before) .args in
-    let g = good (accepted c) in
-    let f = g .fits in
-    let pos = is-prime-reads (a .p) .0 (g .prime) .least in
-    record {
-      full = c .fill .ensures .0;
-      below = filled-below (a .p) (a .n) (a .a) (a .constants .now) (replicate cells 0) (c .fill .last .0) (omega (arith, f .columns)) (f .constants-lent) (all-below-iff (a .p) (a .a * a .n) (a .constants .now) .0 (g .low)) (zeros-below (a .p) cells (omega arith)) (c .fill .ensures .1);
-    }
+    filled-tableau (a .p) (a .n) (a .a) (a .b) (whole (a .offered)) (a .constants .now) (row-numbers (a .parameters .now)) (c .fill .last .0) (good (accepted c)) (c .fill .ensures .0) (c .fill .ensures .1)
 
 -- what an answer over it is
 solved : (c : tie.After-fill) (r : Solution) → let a = begun (accepted c .before) .args in let ws = row-numbers (a .parameters .now) in

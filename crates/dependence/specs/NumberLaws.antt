@@ -1,0 +1,216 @@
+-- What the test and the numbers of `Multipliers` say modulo a prime, and which outcome they make. Assumes nothing.
+use Prim.Native.Nat.{ℕ, zero, suc, _≤_, _<_}
+use mathlib.Core.Path.{_≡_, refl, sym, _∙_, ap, ap₂}
+use mathlib.Core.Bool.{true, false, cond, decide, decide-iff, true≢false}
+use mathlib.Core.Logic.{_≢_, _↔_, _⊎_, inl, inr}
+use mathlib.Core.List.{List, [], _∷_}
+use native.Mathlib.Omega.{arith}
+use native.Mathlib.Nat.{zero-mod}
+use lib.ListN.{length, getD, replicate}
+use Rattle.residue.specs.Arithmetic.{Prime}
+use Rattle.residue.specs.Fields.{Field}
+use Rattle.residue.specs.Residues.{residues, res, num-of, num-of-below, num-of-res, res-num-of, res-zero}
+use Rattle.counting.specs.Bools.{true?, not-true}
+use Rattle.counting.specs.Sets.{Set, _∈_, _⊆_, set}
+use Rattle.counting.specs.Counts.{all-iff}
+use Rattle.counting.specs.Choices.{largest}
+use Rattle.counting.specs.ChoiceLaws.{Chosen, largest-le, largest-at, some-iff, cond-true, cond-false}
+use Rattle.rank.specs.Linear.Independence.{dot, In, Indep}
+use Rattle.rank.specs.Linear.Sums.{dot-cong}
+use Rattle.rank.specs.Linear.Kernels.{Same}
+use Rattle.rank.specs.Linear.Tableaus.{Tableau, owned}
+use Rattle.rank.specs.Independent.{independent}
+use Rattle.rank.specs.IndependentLaws.{cut, cut-below, last-choice, cut-chosen, chosen-in}
+use Rattle.dependence.specs.Multipliers.{Depends, sums-to, last-multiplier, depends, multiplier, outcome, given, listing}
+use Rattle.dependence.specs.MultiplierLaws.{unique, depends-not}
+use Rattle.dependence.specs.TableauLaws.{owned-columns-independent, tableau-shows-multipliers, tableau-shows-independence}
+
+module _ (q : ℕ) (P : Prime q) (a n : ℕ) (Q : ℕ → ℕ → residues q P .F) (H : Set) (x : ℕ) where
+  open Field (residues q P) using (F, 𝟘)
+
+  sums-iff : (c : ℕ → F) → (sums-to q P a n Q x c ≡ true) ↔ ((i : ℕ) → i < a → dot (residues q P) n (Q i) c ≡ Q i x)
+  unfolding sums-to
+  sums-iff c = (
+    λ e i l. decide-iff (residues q P .decide (dot (residues q P) n (Q i) c) (Q i x)) .0
+        (all-iff a (λ i. decide (residues q P .decide (dot (residues q P) n (Q i) c) (Q i x))) .0 e i l),
+    λ h. all-iff a (λ i. decide (residues q P .decide (dot (residues q P) n (Q i) c) (Q i x))) .1
+        (λ i l. decide-iff (residues q P .decide (dot (residues q P) n (Q i) c) (Q i x)) .1 (h i l)),
+  )
+
+  -- what is tried are the coefficients that are 0 where nothing is held; past the last column they do not count
+  tried-held : (c : ℕ → F) → Chosen (res q P) (last-multiplier q P a n Q H) n c → In (residues q P) H c
+  unfolding last-multiplier last-choice
+  tried-held c h = chosen-in q P a n Q H c h
+
+  tried-depends : (c : ℕ → F) → Chosen (res q P) (last-multiplier q P a n Q H) n c → sums-to q P a n Q x c ≡ true → Depends (residues q P) a n Q H x c
+  tried-depends c h e = record { only-held = tried-held c h; sums = sums-iff c .0 e }
+
+  cut-tried : (c : ℕ → F) → In (residues q P) H c → Chosen (res q P) (last-multiplier q P a n Q H) n (cut q P n c)
+  unfolding last-multiplier last-choice
+  cut-tried c h = cut-chosen q P a n Q H c h
+
+  cut-sums : (c : ℕ → F) → Depends (residues q P) a n Q H x c → sums-to q P a n Q x (cut q P n c) ≡ true
+  cut-sums c m = sums-iff (cut q P n c) .1 (λ i l. dot-cong (residues q P) n (Q i) (cut q P n c) c (cut-below q P n c) ∙ m .sums i l)
+
+  pub depends-iff : (depends q P a n Q H x ≡ true) ↔ ((c : ℕ → F) × Depends (residues q P) a n Q H x c)
+  unfolding depends
+  depends-iff = (
+    λ e.
+        let w : (c : ℕ → F) × Chosen (res q P) (last-multiplier q P a n Q H) n c × (sums-to q P a n Q x c ≡ true)
+        = some-iff (res q P) (last-multiplier q P a n Q H) n (sums-to q P a n Q x) .0 e in
+        (w .0, tried-depends (w .0) (w .1) (w .2)),
+    λ w. some-iff (res q P) (last-multiplier q P a n Q H) n (sums-to q P a n Q x) .1
+        (cut q P n (w .0), cut-tried (w .0) (w .1 .only-held), cut-sums (w .0) (w .1)),
+  )
+
+  -- where x depends on the held columns the number at j is that of some multipliers, and else it is 0
+  pub multiplier-cases : (j : ℕ) → ((c : ℕ → F) × Depends (residues q P) a n Q H x c × (multiplier q P a n Q H x j ≡ num-of q P (c j)))
+      ⊎ ((depends q P a n Q H x ≡ false) × (multiplier q P a n Q H x j ≡ 0))
+  unfolding multiplier
+  multiplier-cases j = elim (true? (sums-to q P a n Q x (w .0))) [
+    | yes e ↦ inl (w .0, tried-depends (w .0) (w .1) e, sym (w .2) ∙ cond-true (sums-to q P a n Q x (w .0)) (num-of q P (w .0 j)) 0 e)
+    | no ne ↦ elim (true? (depends q P a n Q H x)) [
+      | no nd ↦ inr (not-true (depends q P a n Q H x) nd, none ne)
+      | yes d ↦
+          let m : (c : ℕ → F) × Depends (residues q P) a n Q H x c = depends-iff .0 d in
+          let c : ℕ → F = cut q P n (m .0) in
+          inl (
+            c,
+            tried-depends c (cut-tried (m .0) (m .1 .only-held)) (cut-sums (m .0) (m .1)),
+            omega (
+              arith,
+              none ne,
+              cond-true (sums-to q P a n Q x c) (num-of q P (c j)) 0 (cut-sums (m .0) (m .1)),
+              largest-le (res q P) (last-multiplier q P a n Q H) n value c (cut-tried (m .0) (m .1 .only-held)),
+            ),
+          )
+    ]
+  ]
+    where
+      value : (ℕ → F) → ℕ
+      value c = cond (sums-to q P a n Q x c) (num-of q P (c j)) 0
+
+      w : (c : ℕ → F) × Chosen (res q P) (last-multiplier q P a n Q H) n c × (value c ≡ largest (res q P) (last-multiplier q P a n Q H) n value)
+      w = largest-at (res q P) (last-multiplier q P a n Q H) n value
+
+      none : (sums-to q P a n Q x (w .0) ≡ true → ⊥) → largest (res q P) (last-multiplier q P a n Q H) n value ≡ 0
+      none ne = sym (w .2) ∙ cond-false (sums-to q P a n Q x (w .0)) (num-of q P (w .0 j)) 0 ne
+
+  -- it is below q,
+  pub multiplier-below : (j : ℕ) → multiplier q P a n Q H x j < q
+  multiplier-below j = elim (multiplier-cases j) [
+    | inl w ↦ omega (arith, w .2, num-of-below q P (w .0 j))
+    | inr w ↦ omega (arith, w .1, num-of-below q P 𝟘)
+  ]
+
+  -- 0 at a column that is not held,
+  pub multiplier-not-held : (j : ℕ) → (j ∈ H → ⊥) → multiplier q P a n Q H x j ≡ 0
+  multiplier-not-held j nj = elim (multiplier-cases j) [
+    | inl w ↦ w .2 ∙ ap (num-of q P) (w .1 .only-held j nj ∙ sym (res-zero q P)) ∙ num-of-res q P 0 ∙ zero-mod q
+    | inr w ↦ w .1
+  ]
+
+  -- and 0 everywhere where x does not depend on the held columns
+  pub multiplier-none : depends q P a n Q H x ≡ false → (j : ℕ) → multiplier q P a n Q H x j ≡ 0
+  multiplier-none d j = elim (multiplier-cases j) [
+    | inl w ↦ absurd (true≢false (sym (depends-iff .1 (w .0, w .1)) ∙ d))
+    | inr w ↦ w .1
+  ]
+
+  -- the held columns are independent
+  module _ (i : Indep (residues q P) a n Q H) where
+    -- the numbers are those of any multipliers that there are,
+    pub multipliers-are : (c : ℕ → F) → Depends (residues q P) a n Q H x c → (j : ℕ) → j < n → multiplier q P a n Q H x j ≡ num-of q P (c j)
+    multipliers-are c m j l = elim (multiplier-cases j) [
+      | inl w ↦ w .2 ∙ ap (num-of q P) (unique Q H x (w .0) c i (w .1) m j l)
+      | inr w ↦ absurd (true≢false (sym (depends-iff .1 (c, m)) ∙ w .0))
+    ]
+
+    -- and where x depends on the held columns they are its multipliers
+    pub multipliers-sum : depends q P a n Q H x ≡ true → Depends (residues q P) a n Q H x (λ j. res q P (multiplier q P a n Q H x j))
+    multipliers-sum d =
+        let w : (c : ℕ → F) × Depends (residues q P) a n Q H x c = depends-iff .0 d in
+        record {
+          only-held = λ j nj. ap (res q P) (multiplier-not-held j nj) ∙ res-zero q P;
+          sums = λ k lk. dot-cong (residues q P) n (Q k) (λ j. res q P (multiplier q P a n Q H x j)) (w .0)
+              (λ j l. ap (res q P) (multipliers-are (w .0) (w .1) j l) ∙ res-num-of q P (w .0 j)) ∙ w .1 .sums k lk;
+        }
+
+-- a tableau modulo q that owns the held columns and no others
+module _ (q : ℕ) (P : Prime q) (a n : ℕ) (Q T : ℕ → ℕ → residues q P .F) (base : ℕ → ℕ) (same : Same (residues q P) a n Q T)
+    (t : Tableau (residues q P) a n T base) (H : Set) (own : H ⊆ owned a base) (held : (h : ℕ) → h < a → base h < n → base h ∈ H)
+    (below : (j : ℕ) → j ∈ H → j < n) (x : ℕ) (l : x < n) where
+  open Field (residues q P) using (F, 𝟘)
+
+  -- a column that is 0 in every free row depends on them, and the multiplier of the owner of a row is its entry there
+  pub tableau-shows-the-numbers : ((h : ℕ) → h < a → n ≤ base h → T h x ≡ 𝟘)
+      → (depends q P a n Q H x ≡ true) × ((h : ℕ) → h < a → base h ∈ H → multiplier q P a n Q H x (base h) ≡ num-of q P (T h x))
+  tableau-shows-the-numbers z =
+      let w : (c : ℕ → F) × Depends (residues q P) a n Q H x c × ((h : ℕ) → h < a → base h ∈ H → c (base h) ≡ T h x)
+      = tableau-shows-multipliers Q T base same t H own held below x l z in (
+        depends-iff q P a n Q H x .1 (w .0, w .1),
+        λ h lh e. multipliers-are q P a n Q H x (owned-columns-independent Q T base same t H own) (w .0) (w .1) (base h) (below (base h) e)
+            ∙ ap (num-of q P) (w .2 h lh e),
+      )
+
+  -- one that is not 0 in some free row does not
+  pub tableau-shows-no-dependence : (h : ℕ) → h < a → n ≤ base h → T h x ≢ 𝟘 → depends q P a n Q H x ≡ false
+  tableau-shows-no-dependence h lh f nz =
+      let k : (x ∈ H → ⊥) × Indep (residues q P) a n Q (set H x true) = tableau-shows-independence Q T base same t H own held below x l h lh f nz in
+      not-true (depends q P a n Q H x) (λ e.
+      let w : (c : ℕ → F) × Depends (residues q P) a n Q H x c = depends-iff q P a n Q H x .0 e in depends-not Q H x (w .0) l (k .0) (w .1) (k .1))
+
+-- ---- the outcome, and the multipliers given with it
+
+module _ (q : ℕ) (P : Prime q) (a n : ℕ) (Q : ℕ → ℕ → residues q P .F) (H : Set) (x : ℕ) where
+  -- where the held columns are dependent
+  module _ (d : independent q P a n Q H ≡ false) where
+    pub outcome-dependent : outcome q P a n Q H x ≡ 2
+    unfolding outcome
+    outcome-dependent = rw d refl
+
+    pub none-given : (j : ℕ) → given q P a n Q H x j ≡ 0
+    unfolding given
+    none-given j = rw d refl
+
+  -- where they are independent
+  module _ (i : independent q P a n Q H ≡ true) where
+    pub outcome-depends : depends q P a n Q H x ≡ true → outcome q P a n Q H x ≡ 1
+    unfolding outcome
+    outcome-depends e = rw (i, e) refl
+
+    pub outcome-apart : depends q P a n Q H x ≡ false → outcome q P a n Q H x ≡ 0
+    unfolding outcome
+    outcome-apart e = rw (i, e) refl
+
+    pub multiplier-given : (j : ℕ) → given q P a n Q H x j ≡ multiplier q P a n Q H x j
+    unfolding given
+    multiplier-given j = rw i refl
+
+-- ---- numbers in a list
+
+pub listed : (k : ℕ) (f : ℕ → ℕ) (l : List ℕ) → length l ≡ k → ((j : ℕ) → j < k → getD l j 0 ≡ f j) → l ≡ listing k f
+unfolding listing
+listed zero f [] e h = refl
+listed zero f (v ∷ l) e h = absurd (omega arith)
+listed (suc k) f [] e h = absurd (omega arith)
+listed (suc k) f (v ∷ l) e h = ap₂ _∷_ (h 0 (omega arith)) (listed k (λ j. f (suc j)) l (omega arith) (λ j m. h (suc j) (omega arith)))
+
+pub listing-at : (k : ℕ) (f : ℕ → ℕ) (j : ℕ) → j < k → getD (listing k f) j 0 ≡ f j
+unfolding listing
+listing-at zero f j l = absurd (omega arith)
+listing-at (suc k) f zero l = refl
+listing-at (suc k) f (suc j) l = listing-at k (λ i. f (suc i)) j (omega arith)
+
+pub listing-length : (k : ℕ) (f : ℕ → ℕ) → length (listing k f) ≡ k
+unfolding listing
+listing-length zero f = refl
+listing-length (suc k) f = ap suc (listing-length k (λ j. f (suc j)))
+
+pub listing-same : (k : ℕ) (f g : ℕ → ℕ) → ((j : ℕ) → j < k → f j ≡ g j) → listing k f ≡ listing k g
+listing-same k f g h = listed k g (listing k f) (listing-length k f) (λ j l. listing-at k f j l ∙ h j l)
+
+pub zeros-listed : (k : ℕ) (f : ℕ → ℕ) → ((j : ℕ) → j < k → f j ≡ 0) → replicate k 0 ≡ listing k f
+unfolding listing
+zeros-listed zero f h = refl
+zeros-listed (suc k) f h = ap₂ _∷_ (sym (h 0 (omega arith))) (zeros-listed k (λ j. f (suc j)) (λ j m. h (suc j) (omega arith)))

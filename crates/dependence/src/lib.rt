@@ -1,0 +1,1 @@
+// How a column depends on others modulo a prime: definitions and theorems alone, in specs/.

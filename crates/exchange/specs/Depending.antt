@@ -1,0 +1,37 @@
+-- What the call about dependence promises. Definitions only.
+use Prim.Native.Nat.{ℕ}
+use mathlib.Core.Path.{_≡_}
+use mathlib.Core.Bool.{Bool, true, false, _&&_}
+use mathlib.Core.List.{List, []}
+use lib.ListN.{replicate}
+use lib.Dec.{ltb}
+use Rattle.limits.specs.Limits.{most-columns}
+use Rattle.counting.specs.Sets.{Set}
+use Rattle.columns.specs.Columns.{members}
+use Rattle.columns.specs.ColumnSets.{whole}
+use Rattle.columns.specs.declared.ColumnSet.{ColumnSet}
+use Rattle.rank.specs.Modulus.{modulus, field-of}
+use Rattle.rank.specs.ListedModel.{constant-at}
+use Rattle.dependence.specs.Multipliers.{outcome, given, listing}
+use Rattle.exchange.specs.Solve.{admissible}
+use Rattle.exchange.specs.declared.Dependence.{Dependence}
+
+-- the call takes the constants: as the solver does without parameter rows, and column x is below n
+unfoldable pub askable : (p n a held x : ℕ) (cs : List ℕ) → Bool
+askable p n a held x cs = admissible p n a 0 held cs [] && ltb x n
+
+-- an outcome, and no multiplier
+pub record Without (number : ℕ) (r : Dependence) : Type 0 where
+  pub outcome-is : r .outcome ≡ number
+  pub none-given : r .multipliers ≡ replicate most-columns 0
+
+-- how column x depends on the columns in H, over the constants Q
+pub record Dependent (p n a : ℕ) (Q : ℕ → ℕ → field-of p .F) (H : Set) (x : ℕ) (r : Dependence) : Type 0 where
+  pub outcome-is : r .outcome ≡ outcome (modulus p .0) (modulus p .1) a n Q H x
+  pub multipliers-are : r .multipliers ≡ listing most-columns (given (modulus p .0) (modulus p .1) a n Q H x)
+
+-- what the call gives: whether it takes the constants; if not, nothing; if so, how x depends on the held columns
+pub record Depending (p n a : ℕ) (held : ColumnSet) (x : ℕ) (cs : List ℕ) (r : Dependence) : Type 0 where
+  pub is-valid : r .valid ≡ askable p n a (whole held) x cs
+  pub if-not : askable p n a (whole held) x cs ≡ false → Without 0 r
+  pub if-valid : askable p n a (whole held) x cs ≡ true → Dependent p n a (constant-at (modulus p .0) (modulus p .1) n cs) (members (whole held)) x r
