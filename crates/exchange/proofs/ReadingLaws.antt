@@ -111,7 +111,7 @@ module _ (p n a : ℕ) (prime : is-prime p ≡ true) (ws t o : List ℕ) (G : Gi
             ∙ held-all-placed M (G .E) below (independent-iff q P a n (G .Q) (G .E) .0 i) y l ∙ e),
       )))
 
-  pub held-columns-dependent : (y : ℕ) → y ∈ G .E → (y ∈ in-set → ⊥) → (r : Dependence) → Without 2 r → Dependent p n a (G .Q) (G .E) x r
+  pub held-columns-dependent : (y : ℕ) → y ∈ G .E → (y ∈ in-set → ⊥) → (r : Dependence) → Without 2 r → Dependent p n a (G .Q) (G .E) x (r .outcome) (r .multipliers)
   held-columns-dependent y e out r w =
       let i = held-dependent y e out in
       record {
@@ -134,7 +134,7 @@ module _ (p n a : ℕ) (prime : is-prime p ≡ true) (ws t o : List ℕ) (G : Gi
         (owned-columns-independent (G .Q) (d .held .good .P) (s .owner) (d .held .good .kernel) (d .held .good .tableau) (G .E) owns)
 
     -- the column is not zero in a free row
-    pub column-apart : Some a (λ h. (n ≤ owner-at o h) × (cell t h x ≢ 0)) → (r : Dependence) → Without 0 r → Dependent p n a (G .Q) (G .E) x r
+    pub column-apart : Some a (λ h. (n ≤ owner-at o h) × (cell t h x ≢ 0)) → (r : Dependence) → Without 0 r → Dependent p n a (G .Q) (G .E) x (r .outcome) (r .multipliers)
     column-apart f r w =
         let h : ℕ = f .0 in
         let no-dependence : depends q P a n (G .Q) (G .E) x ≡ false
@@ -171,8 +171,8 @@ module _ (p n a : ℕ) (prime : is-prime p ≡ true) (ws t o : List ℕ) (G : Gi
         | inr w ↦ w .0 ∙ sym (multiplier-given q P a n (G .Q) (G .E) x held-independent j ∙ multiplier-not-held q P a n (G .Q) (G .E) x j (no-owner j (w .1)))
       ]
 
-      pub column-depends : (r : Dependence) → r .outcome ≡ 1 → EntriesByOwner n a x t o (r .multipliers) → Dependent p n a (G .Q) (G .E) x r
-      column-depends r one w = record {
-        outcome-is = one ∙ sym (outcome-depends q P a n (G .Q) (G .E) x held-independent (shown .0));
-        multipliers-are = listed most-columns _ (r .multipliers) (w .full) (λ j l. entry-is j (getD (r .multipliers) j 0) (w .each j));
+      pub column-depends : (entries : List ℕ) → EntriesByOwner n a x t o entries → Dependent p n a (G .Q) (G .E) x 1 entries
+      column-depends entries w = record {
+        outcome-is = sym (outcome-depends q P a n (G .Q) (G .E) x held-independent (shown .0));
+        multipliers-are = listed most-columns _ entries (w .full) (λ j l. entry-is j (getD entries j 0) (w .each j));
       }

@@ -25,13 +25,18 @@ pub record Without (number : ℕ) (r : Dependence) : Type 0 where
   pub outcome-is : r .outcome ≡ number
   pub none-given : r .multipliers ≡ replicate most-columns 0
 
--- how column x depends on the columns in H, over the constants Q
-pub record Dependent (p n a : ℕ) (Q : ℕ → ℕ → field-of p .F) (H : Set) (x : ℕ) (r : Dependence) : Type 0 where
-  pub outcome-is : r .outcome ≡ outcome (modulus p .0) (modulus p .1) a n Q H x
-  pub multipliers-are : r .multipliers ≡ listing most-columns (given (modulus p .0) (modulus p .1) a n Q H x)
+-- these numbers say how column x depends on the columns in H, over the constants Q modulo p: the outcome, and a multiplier for each column that a model may
+-- have
+pub record Dependent (p n a : ℕ) (Q : ℕ → ℕ → field-of p .F) (H : Set) (x : ℕ) (the-outcome : ℕ) (the-multipliers : List ℕ) : Type 0 where
+  pub outcome-is : the-outcome ≡ outcome (modulus p .0) (modulus p .1) a n Q H x
+  pub multipliers-are : the-multipliers ≡ listing most-columns (given (modulus p .0) (modulus p .1) a n Q H x)
+
+-- the same over the constants in a list, row by row
+abbrev pub ListedDependent : (p n a : ℕ) (cs : List ℕ) (H : Set) (x : ℕ) (the-outcome : ℕ) (the-multipliers : List ℕ) → Type 0
+ListedDependent p n a cs = Dependent p n a (constant-at (modulus p .0) (modulus p .1) n cs)
 
 -- what the call gives: whether it takes the constants; if not, nothing; if so, how x depends on the held columns
 pub record Depending (p n a : ℕ) (held : ColumnSet) (x : ℕ) (cs : List ℕ) (r : Dependence) : Type 0 where
   pub is-valid : r .valid ≡ askable p n a (whole held) x cs
   pub if-not : askable p n a (whole held) x cs ≡ false → Without 0 r
-  pub if-valid : askable p n a (whole held) x cs ≡ true → Dependent p n a (constant-at (modulus p .0) (modulus p .1) n cs) (members (whole held)) x r
+  pub if-valid : askable p n a (whole held) x cs ≡ true → ListedDependent p n a cs (members (whole held)) x (r .outcome) (r .multipliers)

@@ -143,7 +143,7 @@ fn read_column(
     x: usize,
 ) -> Dependence
     requires { ⌜ TableauArray p (now t) × (n ≤ most-columns) × (a ≤ most-rows) × (within n (whole held) ≡ true) × (is-prime p ≡ true) × (x < n) ⌝ }
-    ensures { λ r. ⌜ (r .valid ≡ true) × ((Q : ℕ → ℕ → field-of p .F) → ShowsRows p n a Q (now (t .entry)) → Dependent p n a Q (members (whole held)) x r) ⌝ }
+    ensures { λ r. ⌜ (r .valid ≡ true) × ((Q : ℕ → ℕ → field-of p .F) → ShowsRows p n a Q (now (t .entry)) → Dependent p n a Q (members (whole held)) x (r .outcome) (r .multipliers)) ⌝ }
 {
     let mut owner = [n as u8; LINES];
     let placed = offering::offer_all(t, &mut owner, &[], &[], p, n, a, 0, held);

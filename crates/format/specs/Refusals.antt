@@ -1,4 +1,4 @@
--- Who causes which number: the refusals of document 01 and of document 02, E4, the test behind each, and the judgement of a model handed over.
+-- Who causes which number: the refusals of document 01 and of document 02, E1 and E4, the test behind each, and the judgement of a model handed over.
 -- A judgement is a list of tests in the order in which they are made; it gives the number of the first that fails, or 0.
 -- Definitions only; RefusalLaws says how they read.
 use Prim.Native.Nat.{ℕ, zero, suc, _+_, _-_, _*_}
@@ -30,6 +30,8 @@ pub data Cause : Type 0 where
   row-beyond : Cause
   -- the modeller with a mixed question
   not-mixed : Cause
+  -- whoever names columns
+  column-beyond : Cause
   -- whoever numbered the parameters
   number-twice : Cause
 
@@ -44,6 +46,7 @@ number-of trailing = 7
 number-of area-short = 8
 number-of row-beyond = 9
 number-of not-mixed = 10
+number-of column-beyond = 11
 number-of number-twice = 13
 
 -- ---- tests in their order
@@ -132,6 +135,10 @@ pub record PutRoom (bs before after : List ℕ) (refusal : ℕ) : Type 0 where
 -- 9: row i is one of a rows
 unfoldable pub row-test : ℕ → ℕ → Bool
 row-test i a = ltb i a
+
+-- 11: column x is one of n
+unfoldable pub column-test : ℕ → ℕ → Bool
+column-test x n = ltb x n
 
 -- 13: no number is met a second time in the parameter rows of an area
 unfoldable pub number-test : (n : ℕ) (ws : List ℕ) → Option (List ℕ) → Bool

@@ -17,7 +17,7 @@ use Rattle.counting.specs.Bools.{and-in, and-left, and-right}
 use Rattle.format.specs.Lists.{All}
 use Rattle.format.specs.ListLaws.{all-pass-all, all-at}
 use Rattle.limits.specs.Limits.{largest-prime, most-columns, most-rows}
-use Rattle.format.specs.Refusals.{head-bytes, said-length, head-test, body-test, due-test, prime-test, size-test, constant-test, parameter-test, end-test, area-test, row-test, numbers-room, number-test, model-tests, refusal}
+use Rattle.format.specs.Refusals.{head-bytes, said-length, head-test, body-test, due-test, prime-test, size-test, constant-test, parameter-test, end-test, area-test, row-test, column-test, numbers-room, number-test, model-tests, refusal}
 use Rattle.format.specs.RefusalLaws.{acceptance-reads}
 
 leb-reads : (x y : ℕ) → (leb x y ≡ true) ↔ (x ≤ y)
@@ -77,6 +77,11 @@ area-reads k len = leb-reads k len
 pub row-reads : (i a : ℕ) → (row-test i a ≡ true) ↔ (i < a)
 unfolding row-test
 row-reads i a = (ltb-true i a, lt-ltb i a)
+
+-- 11
+pub column-reads : (x n : ℕ) → (column-test x n ≡ true) ↔ (x < n)
+unfolding column-test
+column-reads x n = (ltb-true x n, lt-ltb x n)
 
 -- ---- a model handed over
 

@@ -23,5 +23,8 @@ pub const ROW_BEYOND: u32 = 9;
 // The modeller with a mixed question.
 pub const NOT_MIXED: u32 = 10;
 
+// Whoever names columns.
+pub const COLUMN_BEYOND: u32 = 11;
+
 // Whoever numbered the parameters.
 pub const NUMBER_TWICE: u32 = 13;

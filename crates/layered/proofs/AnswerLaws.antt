@@ -4,7 +4,7 @@ use Prim.Native.Nat.{ℕ, zero, suc, _+_, _*_, _≤_, _<_}
 use mathlib.Core.Path.{_≡_, refl, sym, ap, _∙_, fun-ext}
 use mathlib.Core.Bool.{true, _&&_}
 use mathlib.Core.List.{List, [], _∷_}
-use mathlib.Core.Option.{none}
+use mathlib.Core.Option.{Option, none}
 use native.Mathlib.Omega.{arith}
 use lib.ListN.{length, getD, take}
 use lib.Dec.{leb}
@@ -31,7 +31,7 @@ use Rattle.rank.specs.Demand.{demand3-reported}
 use Rattle.format.specs.Lists.{All}
 use Rattle.limits.specs.Limits.{largest-prime, most-columns, most-rows}
 use Rattle.format.specs.Refusals.{prime-test, parameter-test, numbers-room, number-test, refusal}
-use Rattle.format.specs.TestLaws.{prime-reads, parameter-reads, model-accepted, accepted-model, constant-below}
+use Rattle.format.specs.TestLaws.{prime-reads, parameter-reads, Accepted, model-accepted, accepted-model, constant-below}
 use Rattle.layered.specs.declared.Answer.{Answer}
 use Rattle.layered.specs.Answers.{Answered}
 use Rattle.layered.specs.Beforehand.{beforehand}
@@ -48,6 +48,20 @@ accepted-beforehand p n a b cs ws e =
     let h = model-accepted p n a b cs ws none e in
     and-in (and-in (le-leb p largest-prime (h .p-most)) (le-leb 1 n (h .n-least))) (parameter-reads n (take b ws) .1 (h .parameters-within))
 
+-- the solver takes it with any of its columns offered
+pub accepted-admissible : {p n a b : ℕ} {cs ws : List ℕ} {ns : Option (List ℕ)} → Accepted p n a b cs ws ns → (offered : ℕ) → within n offered ≡ true → admissible p n a b offered cs ws ≡ true
+unfolding admissible fitting
+accepted-admissible {p} {n} {a} {b} {cs} {ws} h offered inside =
+    and-in
+    (and-in
+    (and-in
+    (and-in
+    (and-in (and-in (and-in (and-in (le-leb n most-columns (h .n-most)) (le-leb a most-rows (h .a-most))) (le-leb b most-rows (h .b-most))) (le-leb (a * n) (length cs) (h .constants-lent))) (le-leb b (length ws) (h .parameters-lent)))
+    inside)
+    (lt-ltb p 65536 (omega (arith, h .p-most))))
+    (prime→test p (h .prime)))
+    (all-below-iff p (a * n) cs .1 (constant-below h))
+
 module _ (p n a b : ℕ) (cs ws : List ℕ) (offered : ℕ) (m : members offered ≡ upto n) where
   -- all columns below n are offered
   offered-inside : n ≤ width → within n offered ≡ true
@@ -61,18 +75,7 @@ module _ (p n a b : ℕ) (cs ws : List ℕ) (offered : ℕ) (m : members offered
   shows-model h = record { constants = λ i x li lx. refl; parameters = λ r x lr lx. refl; columns = offered-all h }
 
   pub accepted-taken : refusal p n a b cs ws none ≡ 0 → admissible p n a b offered cs ws ≡ true
-  unfolding admissible fitting
-  accepted-taken e =
-      let h = model-accepted p n a b cs ws none e in
-      and-in
-      (and-in
-      (and-in
-      (and-in
-      (and-in (and-in (and-in (and-in (le-leb n most-columns (h .n-most)) (le-leb a most-rows (h .a-most))) (le-leb b most-rows (h .b-most))) (le-leb (a * n) (length cs) (h .constants-lent))) (le-leb b (length ws) (h .parameters-lent)))
-      (offered-inside (omega (arith, h .n-most))))
-      (lt-ltb p 65536 (omega (arith, h .p-most))))
-      (prime→test p (h .prime)))
-      (all-below-iff p (a * n) cs .1 (constant-below h))
+  accepted-taken e = let h = model-accepted p n a b cs ws none e in accepted-admissible h offered (offered-inside (omega (arith, h .n-most)))
 
   pub taken-accepted : beforehand p n b ws ≡ true → admissible p n a b offered cs ws ≡ true → refusal p n a b cs ws none ≡ 0
   unfolding beforehand prime-test numbers-room number-test

@@ -12,7 +12,7 @@ ghost use Rattle.format.specs.Lists.{All, over, rows-of};
 ghost use Rattle.format.specs.Numbers.{lent, parameter-count, picked};
 ghost use Rattle.format.specs.NumberTable.{entry-at};
 ghost use Rattle.limits.specs.Limits.{most-columns, most-rows};
-ghost use Rattle.format.specs.Refusals.{head-bytes, numbers-room};
+ghost use Rattle.format.specs.Refusals.{head-bytes, numbers-room, PutRoom};
 ghost use Rattle.format.specs.TestLaws.{Accepted};
 ghost use Rattle.format.specs.File.Piece.{field-bytes};
 ghost use Rattle.format.specs.File.Format.{prime-tag, sizes-tag, parameter-size, number-fields-size, entry-bytes, encode, handed-over};
@@ -208,6 +208,17 @@ fn put_constant_row(out: &mut [u8], row: &[u16]) -> usize
     let size = (2 * row.len()) as u16;
     let at = put_head(out, CONSTANT_TAG, size);
     at + put_entries(&mut out[at..], row)
+}
+
+// Two bytes for each number, the low one first, over the front of an area that holds them all.
+pub fn put_each(out: &mut [u8], numbers: &[u16]) -> u32
+    ensures { λ r. ⌜ PutRoom (entry-bytes (now (numbers .entry))) (now (out .entry)) (now (out .exit)) r ⌝ }
+{
+    if out.len() / 2 < numbers.len() {
+        return refusals::AREA_SHORT;
+    }
+    put_entries(out, numbers);
+    0
 }
 
 // The rows one after the other: what is left of the constants, and the part after the last row.

@@ -135,7 +135,7 @@ returns-3 c =
     let a = k .args in (
       refl,
       λ Q sh. column-depends (a .p) (a .n) (a .a) (k .pre .4) no-rows _ _ (offering-held (a .p) (a .n) no-rows Q (held k)) (in-set o) (offered o Q sh) (o .offer-all .ensures .0 .below)
-          (held-below k) (a .x) (k .pre .5) (all-placed e) (z .is-zero-where-free .ensures .if-true (not-false _ (f .if2 .left))) _ refl (c .entries-by-owner .ensures),
+          (held-below k) (a .x) (k .pre .5) (all-placed e) (z .is-zero-where-free .ensures .if-true (not-false _ (f .if2 .left))) _ (c .entries-by-owner .ensures),
     )
 
 pub read-column-spec : {M : Type 1} → statement M

@@ -1,0 +1,3 @@
+-- What the calls about multipliers promise, and the bytes of their answers.
+pub mod Answers
+pub mod Bytes
