@@ -5,4 +5,6 @@ pub mod ConstantSide
 pub mod MultiplierLaws
 pub mod TableauLaws
 pub mod NumberLaws
+pub mod PlainNumbers
 pub mod Theorems
+pub mod Computed

@@ -5,24 +5,24 @@ use mathlib.Core.Bool.{true, false, cond, decide, decide-iff, true≢false}
 use mathlib.Core.Logic.{_≢_, _↔_, _⊎_, inl, inr}
 use mathlib.Core.List.{List, [], _∷_}
 use native.Mathlib.Omega.{arith}
-use native.Mathlib.Nat.{zero-mod}
+use native.Mathlib.Nat.{zero-mod, mod-eq-of-lt}
 use lib.ListN.{length, getD, replicate}
 use Rattle.residue.specs.Arithmetic.{Prime}
 use Rattle.residue.specs.Fields.{Field}
-use Rattle.residue.specs.Residues.{residues, res, num-of, num-of-below, num-of-res, res-num-of, res-zero}
-use Rattle.counting.specs.Bools.{true?, not-true}
+use Rattle.residue.specs.Residues.{residues, res, num-of, num-of-below, num-of-res, res-num-of, res-zero, res-one}
+use Rattle.counting.specs.Bools.{true?, not-true, iff-eq}
 use Rattle.counting.specs.Sets.{Set, _∈_, _⊆_, set}
 use Rattle.counting.specs.Counts.{all-iff}
 use Rattle.counting.specs.Choices.{largest}
 use Rattle.counting.specs.ChoiceLaws.{Chosen, largest-le, largest-at, some-iff, cond-true, cond-false}
 use Rattle.rank.specs.Linear.Independence.{dot, In, Indep}
 use Rattle.rank.specs.Linear.Sums.{dot-cong}
-use Rattle.rank.specs.Linear.Kernels.{Same}
+use Rattle.rank.specs.Linear.Kernels.{Same, same-indep, same-sym}
 use Rattle.rank.specs.Linear.Tableaus.{Tableau, owned}
 use Rattle.rank.specs.Independent.{independent}
-use Rattle.rank.specs.IndependentLaws.{cut, cut-below, last-choice, cut-chosen, chosen-in}
+use Rattle.rank.specs.IndependentLaws.{cut, cut-below, last-choice, cut-chosen, chosen-in, independent-iff}
 use Rattle.dependence.specs.Multipliers.{Depends, sums-to, last-multiplier, depends, multiplier, outcome, given, listing}
-use Rattle.dependence.specs.MultiplierLaws.{unique, depends-not}
+use Rattle.dependence.specs.MultiplierLaws.{unit, unique, depends-same, depends-not, entries-same, held-depends, zero-depends, unit-at, unit-other}
 use Rattle.dependence.specs.TableauLaws.{owned-columns-independent, tableau-shows-multipliers, tableau-shows-independence}
 
 module _ (q : ℕ) (P : Prime q) (a n : ℕ) (Q : ℕ → ℕ → residues q P .F) (H : Set) (x : ℕ) where
@@ -163,6 +163,9 @@ module _ (q : ℕ) (P : Prime q) (a n : ℕ) (Q T : ℕ → ℕ → residues q P
 -- ---- the outcome, and the multipliers given with it
 
 module _ (q : ℕ) (P : Prime q) (a n : ℕ) (Q : ℕ → ℕ → residues q P .F) (H : Set) (x : ℕ) where
+  num-of-zero : num-of q P (residues q P .𝟘) ≡ 0
+  num-of-zero = ap (num-of q P) (sym (res-zero q P)) ∙ num-of-res q P 0 ∙ zero-mod q
+
   -- where the held columns are dependent
   module _ (d : independent q P a n Q H ≡ false) where
     pub outcome-dependent : outcome q P a n Q H x ≡ 2
@@ -186,6 +189,87 @@ module _ (q : ℕ) (P : Prime q) (a n : ℕ) (Q : ℕ → ℕ → residues q P .
     pub multiplier-given : (j : ℕ) → given q P a n Q H x j ≡ multiplier q P a n Q H x j
     unfolding given
     multiplier-given j = rw i refl
+
+    -- a held column depends by itself, and a column that is zero in every row by nothing
+    pub outcome-held : x < n → x ∈ H → (outcome q P a n Q H x ≡ 1) × (given q P a n Q H x x ≡ 1) × ((j : ℕ) → j < n → j ≢ x → given q P a n Q H x j ≡ 0)
+    outcome-held l e =
+        let m = held-depends {K = residues q P} {a = a} {n = n} Q H x l e in
+        let are : (j : ℕ) → j < n → given q P a n Q H x j ≡ num-of q P (unit (residues q P) x j) = λ j lj. multiplier-given j ∙ multipliers-are q P a n Q H x (independent-iff q P a n Q H .0 i) _ m j lj in (
+          outcome-depends (depends-iff q P a n Q H x .1 (_, m)),
+          are x l ∙ ap (num-of q P) (unit-at (residues q P) x ∙ sym (res-one q P)) ∙ num-of-res q P 1 ∙ mod-eq-of-lt (P .least),
+          λ j lj ne. are j lj ∙ ap (num-of q P) (unit-other (residues q P) x j ne) ∙ num-of-zero,
+        )
+
+    pub outcome-zero : ((k : ℕ) → k < a → Q k x ≡ residues q P .𝟘) → (outcome q P a n Q H x ≡ 1) × ((j : ℕ) → j < n → given q P a n Q H x j ≡ 0)
+    outcome-zero z =
+        let m = zero-depends {K = residues q P} {a = a} {n = n} Q H x z in (
+          outcome-depends (depends-iff q P a n Q H x .1 (_, m)),
+          λ j lj. multiplier-given j ∙ multipliers-are q P a n Q H x (independent-iff q P a n Q H .0 i) _ m j lj ∙ num-of-zero,
+        )
+
+  -- what each outcome says
+  abbrev Reads : ℕ → Type 0
+  Reads k = ((k ≡ 2) × (independent q P a n Q H ≡ false)) ⊎ (((k ≡ 1) × (independent q P a n Q H ≡ true) × (depends q P a n Q H x ≡ true)) ⊎ ((k ≡ 0) × (independent q P a n Q H ≡ true) × (depends q P a n Q H x ≡ false)))
+
+  pub outcome-reads : Reads (outcome q P a n Q H x)
+  outcome-reads = elim (true? (independent q P a n Q H)) [
+    | no ni ↦ let e = not-true (independent q P a n Q H) ni in inl (outcome-dependent e, e)
+    | yes e ↦ elim (true? (depends q P a n Q H x)) [
+      | yes d ↦ inr (inl (outcome-depends e d, e, d))
+      | no nd ↦ let f = not-true (depends q P a n Q H x) nd in inr (inr (outcome-apart e f, e, f))
+    ]
+  ]
+
+  -- a multiplier that is given is below q, and 0 at a column that is not held
+  pub given-below : (j : ℕ) → given q P a n Q H x j < q
+  given-below j = elim (true? (independent q P a n Q H)) [
+    | yes e ↦ omega (arith, multiplier-given e j, multiplier-below q P a n Q H x j)
+    | no ne ↦ omega (arith, none-given (not-true (independent q P a n Q H) ne) j, multiplier-below q P a n Q H x j)
+  ]
+
+  pub given-not-held : (j : ℕ) → (j ∈ H → ⊥) → given q P a n Q H x j ≡ 0
+  given-not-held j nj = elim (true? (independent q P a n Q H)) [
+    | yes e ↦ multiplier-given e j ∙ multiplier-not-held q P a n Q H x j nj
+    | no ne ↦ none-given (not-true (independent q P a n Q H) ne) j
+  ]
+
+-- constants with the same entries in the rows and columns
+module _ (q : ℕ) (P : Prime q) (a n : ℕ) (Q R : ℕ → ℕ → residues q P .F) (agree : (i j : ℕ) → i < a → j < n → Q i j ≡ R i j) (H : Set) (x : ℕ) (l : x < n) where
+  same : Same (residues q P) a n R Q
+  same = entries-same {K = residues q P} Q R agree
+
+  independent-same : independent q P a n Q H ≡ independent q P a n R H
+  independent-same = iff-eq (independent q P a n Q H) (independent q P a n R H)
+      (λ e. independent-iff q P a n R H .1 (same-indep (same-sym same) (independent-iff q P a n Q H .0 e)))
+      (λ e. independent-iff q P a n Q H .1 (same-indep same (independent-iff q P a n R H .0 e)))
+
+  depends-there : (c : ℕ → residues q P .F) → Depends (residues q P) a n Q H x c → Depends (residues q P) a n R H x c
+  depends-there c = depends-same same H x c l
+
+  depends-both : depends q P a n Q H x ≡ depends q P a n R H x
+  depends-both = iff-eq (depends q P a n Q H x) (depends q P a n R H x)
+      (λ e. let m = depends-iff q P a n Q H x .0 e in depends-iff q P a n R H x .1 (m .0, depends-there (m .0) (m .1)))
+      (λ e. let m = depends-iff q P a n R H x .0 e in depends-iff q P a n Q H x .1 (m .0, depends-same (same-sym same) H x (m .0) l (m .1)))
+
+  -- have the same outcome,
+  pub outcome-same : outcome q P a n Q H x ≡ outcome q P a n R H x
+  unfolding outcome
+  outcome-same = rw (independent-same, depends-both) refl
+
+  -- and the same multipliers
+  pub given-same : (j : ℕ) → j < n → given q P a n Q H x j ≡ given q P a n R H x j
+  given-same j lj = elim (outcome-reads q P a n Q H x) [
+    | inl w ↦ none-given q P a n Q H x (w .1) j ∙ sym (none-given q P a n R H x (sym independent-same ∙ w .1) j)
+    | inr v ↦ elim v [
+      | inl w ↦
+          let m = depends-iff q P a n Q H x .0 (w .2) in
+          let i = sym independent-same ∙ w .1 in
+          multiplier-given q P a n Q H x (w .1) j ∙ multipliers-are q P a n Q H x (independent-iff q P a n Q H .0 (w .1)) (m .0) (m .1) j lj
+          ∙ sym (multiplier-given q P a n R H x i j ∙ multipliers-are q P a n R H x (independent-iff q P a n R H .0 i) (m .0) (depends-there (m .0) (m .1)) j lj)
+      | inr w ↦ multiplier-given q P a n Q H x (w .1) j ∙ multiplier-none q P a n Q H x (w .2) j
+          ∙ sym (multiplier-given q P a n R H x (sym independent-same ∙ w .1) j ∙ multiplier-none q P a n R H x (sym depends-both ∙ w .2) j)
+    ]
+  ]
 
 -- ---- numbers in a list
 

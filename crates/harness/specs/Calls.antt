@@ -1,15 +1,18 @@
--- The rank calls for a model handed over, their answers as the bytes of the calls on files; and the reading of a file into areas. Definitions only.
+-- The calls for a model handed over, their answers as the bytes of the calls on files; and the reading of a file into areas. Definitions only.
 use Prim.Native.Nat.{ℕ}
 use mathlib.Core.Path.{_≡_}
 use mathlib.Core.List.{List, []}
 use mathlib.Core.Option.{Option}
 use Rattle.rank.specs.ListedModel.{listed-model}
 use Rattle.mixed_models.specs.Mixed.{mixed}
-use Rattle.format.specs.Refusals.{model-tests, mixed-tests}
+use Rattle.columns.specs.Columns.{members}
+use Rattle.format.specs.Refusals.{_then_, model-tests, mixed-tests}
 use Rattle.loader.specs.declared.header.Sizes.{Sizes}
 use Rattle.loader.specs.FileRead.{FileRead}
-use Rattle.host.specs.AreaCall.{AreaCall}
+use Rattle.host.specs.AreaCall.{AreaCall, WrittenOver}
 use Rattle.host.specs.AnswerBytes.{answer-length, AnswerWritten, mixed-length, MixedWritten}
+use Rattle.multipliers.specs.Answers.{column-question, Answered}
+use Rattle.multipliers.specs.Bytes.{multipliers-length, multipliers-bytes}
 
 -- the layered call: as the model is judged, then 8 for the area
 abbrev pub LayeredBytes : (p n a b : ℕ) (cs ws : List ℕ) → Option (List ℕ) → (area : List ℕ) (number : ℕ) (area′ : List ℕ) → Type 0
@@ -18,6 +21,11 @@ LayeredBytes p n a b cs ws ns = AreaCall (model-tests p n a b cs ws ns) [] answe
 -- the mixed call: as the model and the question are judged, then 8 for the area
 abbrev pub MixedBytes : (p n a b : ℕ) (cs ws : List ℕ) → Option (List ℕ) → (area : List ℕ) (number : ℕ) (area′ : List ℕ) → Type 0
 MixedBytes p n a b cs ws ns = AreaCall (mixed-tests p n a b cs ws ns) [] mixed-length (MixedWritten (mixed p a n cs ws))
+
+-- the call about multipliers, with the held columns as a number: as the model and the columns are judged, then 8 for the area
+abbrev pub MultipliersBytes : (p n a b : ℕ) (cs ws : List ℕ) → Option (List ℕ) → (held x : ℕ) (area : List ℕ) (number : ℕ) (area′ : List ℕ) → Type 0
+MultipliersBytes p n a b cs ws ns held x =
+    AreaCall (model-tests p n a b cs ws ns then column-question n held x) [] multipliers-length (WrittenOver (Answered p n a cs (members held) x) multipliers-bytes)
 
 -- a reading: the refusal, and the areas afterwards; some sizes are those of the file
 pub record FileInAreas (s cs ws ks : List ℕ) (refusal : ℕ) (cs′ ws′ ks′ : List ℕ) : Type 0 where

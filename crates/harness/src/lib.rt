@@ -9,12 +9,14 @@ ghost use Rattle.columns.specs.ColumnSets.{row-numbers};
 ghost use Rattle.format.specs.Numbers.{lent};
 ghost use Rattle.format.specs.File.Format.{WriteCall};
 ghost use Rattle.touching.specs.RowCount.{touching-count};
-ghost use Rattle.harness.specs.Calls.{LayeredBytes, MixedBytes, FileInAreas};
+ghost use Rattle.harness.specs.Calls.{LayeredBytes, MixedBytes, MultipliersBytes, FileInAreas};
 use host::put_answer;
 use host::put_mixed;
 use layered::layered_rank;
 use loader::read_file;
 use mixed::mixed_rank;
+use multipliers::model_multipliers;
+use multipliers::put_multipliers;
 use touching::touching_rows;
 use writer::write_file;
 
@@ -60,6 +62,42 @@ pub extern "C" fn harness_mixed(
         return r.refusal;
     }
     put_mixed(answer, r)
+}
+
+// The bytes of the answer about multipliers; the bytes of the held set are handed over.
+#[no_mangle]
+pub extern "C" fn harness_multipliers(
+    p: u32,
+    n: usize,
+    a: usize,
+    b: usize,
+    constants: &[u16],
+    parameters: &[u64],
+    numbered: bool,
+    numbers: &[u16],
+    held: &[u8],
+    column: usize,
+    answer: &mut [u8],
+) -> u32
+    ensures { λ r. ⌜ MultipliersBytes p n a b (now (constants .entry)) (row-numbers (now (parameters .entry))) (lent numbered (now (numbers .entry))) (number (take room-bytes (now (held .entry)))) column (now (answer .entry)) r (now (answer .exit)) ⌝ }
+{
+    let set = columns::of_bytes(held);
+    let r = model_multipliers(
+        p,
+        n,
+        a,
+        b,
+        constants,
+        parameters,
+        numbered,
+        numbers,
+        set,
+        column,
+    );
+    if r.refusal != 0 {
+        return r.refusal;
+    }
+    put_multipliers(answer, r)
 }
 
 // The bytes of the model's file; what a C caller does not see is how many they are.

@@ -64,6 +64,15 @@ module _ (before after : Tests) (least : ℕ) (WrittenOver : List ℕ → List �
   pub refused-around : least ≤ length area → (r : ℕ) → r ≡ first-refusal (before then after) → r ≢ 0 → AreaCall before after least WrittenOver area r area
   refused-around l r e h = refused-as r (e ∙ sym (area-passes before after least area l)) h
 
+-- an area that is read beside it is too short, or not
+pub refused-beside : (before us : Tests) (t : Bool) (least : ℕ) (WrittenOver : List ℕ → List ℕ → Type 0) (area : List ℕ) → least ≤ length area → t ≡ false
+    → (r : ℕ) → r ≡ first-refusal (before then unless false area-short) → AreaCall before (unless t area-short then us) least WrittenOver area r area
+refused-beside before us t least WrittenOver area l e r h = rw e (refused-around before (unless false area-short then us) least WrittenOver area l r (h ∙ sym (failed-last before us area-short))
+    (λ z. false≢true (unless-zero false area-short (then-zero before (unless false area-short) (sym h ∙ z) .1))))
+
+pub passed-beside : (before us : Tests) (t : Bool) → t ≡ true → first-refusal (before then us) ≡ first-refusal (before then (unless t area-short then us))
+passed-beside before us t e = rw e (sym (passed-between before us area-short))
+
 -- ---- bytes put into an area
 
 module _ (least : ℕ) (bytes area : List ℕ) where

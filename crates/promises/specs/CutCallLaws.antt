@@ -8,6 +8,7 @@ use native.Mathlib.Omega.{arith}
 use native.Mathlib.Decide.{ℕ-discrete}
 use lib.ListN.{length, take}
 use lib.Seq.{take-all}
+use Rattle.columns.specs.Columns.{members}
 use Rattle.columns.specs.Words.Bytes.{AreBytes}
 use Rattle.format.specs.Lists.{over}
 use Rattle.limits.specs.Limits.{most-rows, longest-file}
@@ -21,9 +22,11 @@ use Rattle.format.specs.File.RowSizes.{parameter-rows-most}
 use Rattle.format.specs.File.WriteLaws.{file-length, numbers-size-most}
 use Rattle.layered.specs.FileModel.{file-model}
 use Rattle.mixed.specs.MixedAnswers.{MixedAnswered, file-mixed, mixed-question}
-use Rattle.host.specs.AreaCall.{area-refusal, AreaCall}
+use Rattle.host.specs.AreaCall.{area-refusal, AreaCall, WrittenOver}
 use Rattle.host.specs.AnswerBytes.{answer-length, AnswerWritten, mixed-length, MixedWritten}
-use Rattle.solvability.specs.Host.{HostAnswer, HostMixedAnswer}
+use Rattle.multipliers.specs.Answers.{FileAnswered}
+use Rattle.multipliers.specs.Bytes.{multipliers-length, multipliers-bytes}
+use Rattle.solvability.specs.Host.{HostAnswer, HostMixedAnswer, set-shown, multipliers-question, HostMultipliers}
 use Rattle.text.specs.Text.{refused-line, Prints}
 use Rattle.text.specs.declared.Printed.{Printed}
 use Rattle.report.specs.FileReport.{Reports, FileReport}
@@ -122,6 +125,9 @@ module _ (k : ℕ) (s : List ℕ) (bytes : AreBytes s) (h : longest-file < k) wh
 
   pub host-mixed-cut : (area : List ℕ) (number : ℕ) (area′ : List ℕ) → HostMixedAnswer (take k s) area number area′ → HostMixedAnswer s area number area′
   host-mixed-cut = area-cut mixed-question mixed-length (λ t. MixedWritten (file-mixed t))
+
+  pub host-multipliers-cut : (held : List ℕ) (x : ℕ) (area : List ℕ) (number : ℕ) (area′ : List ℕ) → HostMultipliers (take k s) held x area number area′ → HostMultipliers s held x area number area′
+  host-multipliers-cut held x = area-cut (λ t. multipliers-question t held x) multipliers-length (λ t. WrittenOver (FileAnswered t (members (set-shown held)) x) multipliers-bytes)
 
   -- ---- the reports
 

@@ -1,20 +1,23 @@
 -- What is proved over the promises of the calls, one theorem after another. Assumes nothing.
-use Prim.Native.Nat.{ℕ, _+_, _*_, _^_, _≤_, _<_}
+use Prim.Native.Nat.{ℕ, _+_, _*_, _%_, _^_, _≤_, _<_}
 use mathlib.Core.Path.{_≡_, refl, sym, _∙_, subst}
 use mathlib.Core.Bool.{Bool}
 use mathlib.Core.Option.{Option, none, some}
-use mathlib.Core.Logic.{_⊎_}
+use mathlib.Core.Logic.{_≢_, _↔_, _⊎_}
 use mathlib.Core.List.{List}
 use native.Mathlib.Omega.{arith}
 use lib.ListN.{length, getD, take}
 use lib.Seq.{take-take}
 use Rattle.counting.specs.Sets.{_∈_, #, Some}
 use Rattle.columns.specs.Columns.{word-width, width, members}
-use Rattle.columns.specs.ColumnSets.{whole, row-numbers}
+use Rattle.columns.specs.ColumnSets.{whole, Fits, row-numbers}
+use Rattle.columns.specs.declared.ColumnSet.{ColumnSet}
 use Rattle.columns.specs.Words.Rows.{rows-below}
 use Rattle.columns.specs.Words.Bytes.{AreBytes}
 use Rattle.rank.specs.Layered.Model.{Model}
 use Rattle.rank.specs.ListedModel.{listed-model}
+use Rattle.rank.specs.ListedModelLaws.{OnlyZero}
+use Rattle.dependence.specs.PlainNumbers.{SumsTo}
 use Rattle.mixed_models.specs.Mixed.{Mixed, mixed}
 use Rattle.mixed_models.specs.MixedRowUse.{UsesEveryRow, LeavesRow}
 use Rattle.mixed_models.specs.MixedVerdicts.{mixed-determined-uses-every-row, mixed-surplus-leaves-a-row}
@@ -38,17 +41,20 @@ use Rattle.layered.specs.FileModel.{file-model}
 use Rattle.mixed.specs.MixedAnswers.{MixedAnswered, MixedCall, file-mixed}
 use Rattle.mixed.specs.declared.MixedAnswer.{MixedAnswer}
 use Rattle.promises.specs.Fixed.{SameAnswer, SameMixed}
-use Rattle.solvability.specs.Host.{HostAnswer, HostMixedAnswer}
+use Rattle.multipliers.specs.Answers.{MultipliersCall}
+use Rattle.multipliers.specs.declared.Multipliers.{Multipliers}
+use Rattle.solvability.specs.Host.{HostAnswer, HostMixedAnswer, HostMultipliers}
 use Rattle.text.specs.declared.Printed.{Printed}
 use Rattle.report.specs.FileReport.{FileReport}
 use Rattle.mixed_report.specs.MixedReport.{MixedFileReport}
 use Rattle.promises.specs.TripLaws.{read-then-written, written-then-read}
 use Rattle.promises.specs.CutLaws.{judge-cut}
-use Rattle.promises.specs.CutCallLaws.{reading-cut, rows-reading-cut, host-cut, host-mixed-cut, report-cut, mixed-report-cut}
+use Rattle.promises.specs.CutCallLaws.{reading-cut, rows-reading-cut, host-cut, host-mixed-cut, host-multipliers-cut, report-cut, mixed-report-cut}
 use Rattle.promises.specs.AnswerLaws.{refusal-same, mixed-refusal-same, write-same, layered-same, mixed-same}
 use Rattle.promises.specs.NumberingLaws.{numbers-front, front-same, named, mixed-unnumbered, picked-same, without-numbers, file-unnumbered}
 use Rattle.promises.specs.RowLaws.{determined-rows, surplus-rows}
 use Rattle.promises.specs.ShownLaws.{ShownWhole, answer-shown-whole, mixed-shown-whole}
+use Rattle.promises.specs.MultiplierLaws.{says-dependent, says-apart, numbers-sum, numbers-only, number-below, number-not-held, held-itself, zero-itself, constants-decide}
 use Rattle.promises.specs.DocumentFile.{document-file, document-accepted, document-model}
 
 -- ---- read and written, written and read
@@ -106,6 +112,10 @@ cut-input-host = host-cut
 pub cut-input-host-mixed : (k : ℕ) (s : List ℕ) → AreBytes s → longest-file < k
     → (area : List ℕ) (number : ℕ) (area′ : List ℕ) → HostMixedAnswer (take k s) area number area′ → HostMixedAnswer s area number area′
 cut-input-host-mixed = host-mixed-cut
+
+pub cut-input-host-multipliers : (k : ℕ) (s : List ℕ) → AreBytes s → longest-file < k
+    → (held : List ℕ) (x : ℕ) (area : List ℕ) (number : ℕ) (area′ : List ℕ) → HostMultipliers (take k s) held x area number area′ → HostMultipliers s held x area number area′
+cut-input-host-multipliers = host-multipliers-cut
 
 -- and of the reports that the programs write.
 pub cut-input-report : (k : ℕ) (s : List ℕ) → AreBytes s → longest-file < k
@@ -192,6 +202,49 @@ module _ (p n a b : ℕ) (cs ws ks : List ℕ) where
 -- The file of a model without its numbers, made of a numbered one, is accepted and has the same layered and mixed model, of which the calls on files speak.
 pub unnumbered-file : (s : List ℕ) → AreBytes s → judge s ≡ 0 → let s′ = encode (without-numbers (decode s)) in (judge s′ ≡ 0) × (file-model s′ ≡ file-model s) × (file-mixed s′ ≡ file-mixed s)
 unnumbered-file = file-unnumbered
+
+-- ---- multipliers
+
+-- A call about multipliers that is accepted, of held columns and a named column x
+module _ (p n a b : ℕ) (cs ws : List ℕ) (ns : Option (List ℕ)) (held : ColumnSet) (fits : Fits held) (x : ℕ) (r : Multipliers)
+    (call : MultipliersCall p n a b cs ws ns held x r) (ok : r .refusal ≡ 0) where
+  -- The outcome 2 says that the held columns are dependent modulo p, and no other outcome does.
+  pub outcome-2-says-dependent : (r .outcome ≡ 2) ↔ (OnlyZero p n a cs (members (whole held)) → ⊥)
+  outcome-2-says-dependent = says-dependent p n a b cs ws ns held fits x r call ok
+
+  -- The outcome 0 says that no numbers are multipliers of the named column.
+  pub outcome-0-says-apart : r .outcome ≡ 0 → (c : ℕ → ℕ) → SumsTo p n a cs (members (whole held)) x c → ⊥
+  outcome-0-says-apart = says-apart p n a b cs ws ns held fits x r call ok
+
+  -- With the outcome 1 the multipliers given are its multipliers, in plain numbers,
+  pub multipliers-sum-to-the-column : r .outcome ≡ 1 → SumsTo p n a cs (members (whole held)) x (λ j. getD (r .multipliers) j 0)
+  multipliers-sum-to-the-column = numbers-sum p n a b cs ws ns held fits x r call ok
+
+  -- and the only ones modulo p.
+  pub multipliers-only-these : r .outcome ≡ 1 → (c : ℕ → ℕ) → SumsTo p n a cs (members (whole held)) x c → (j : ℕ) → j < n → getD (r .multipliers) j 0 ≡ c j % p
+  multipliers-only-these = numbers-only p n a b cs ws ns held fits x r call ok
+
+  -- Each is below p, and 0 at a column that is not held.
+  pub multipliers-below-p : (j : ℕ) → getD (r .multipliers) j 0 < p
+  multipliers-below-p = number-below p n a b cs ws ns held fits x r call ok
+
+  pub multipliers-of-held-columns : (j : ℕ) → (j ∈ members (whole held) → ⊥) → getD (r .multipliers) j 0 ≡ 0
+  multipliers-of-held-columns = number-not-held p n a b cs ws ns held fits x r call ok
+
+  -- A held column has the multiplier 1 for itself and 0 for the others; one that is zero in every constant row has 0 for all.
+  pub held-column-by-itself : OnlyZero p n a cs (members (whole held)) → x ∈ members (whole held)
+      → (r .outcome ≡ 1) × (getD (r .multipliers) x 0 ≡ 1) × ((j : ℕ) → j < n → j ≢ x → getD (r .multipliers) j 0 ≡ 0)
+  held-column-by-itself = held-itself p n a b cs ws ns held fits x r call ok
+
+  pub zero-column-by-nothing : OnlyZero p n a cs (members (whole held)) → ((k : ℕ) → k < a → getD cs (k * n + x) 0 ≡ 0)
+      → (r .outcome ≡ 1) × ((j : ℕ) → j < n → getD (r .multipliers) j 0 ≡ 0)
+  zero-column-by-nothing = zero-itself p n a b cs ws ns held fits x r call ok
+
+-- Two calls with the same constants say the same, whatever the parameter rows, their numbers, and what stands behind the constants.
+pub constants-alone-decide : (p n a : ℕ) (cs ds : List ℕ) → take (a * n) cs ≡ take (a * n) ds → (held : ColumnSet) → Fits held → (x b b′ : ℕ) (ws ws′ : List ℕ) (ns ns′ : Option (List ℕ))
+    (r s : Multipliers) → MultipliersCall p n a b cs ws ns held x r → MultipliersCall p n a b′ ds ws′ ns′ held x s → r .refusal ≡ 0 → s .refusal ≡ 0
+    → (r .outcome ≡ s .outcome) × ((j : ℕ) → getD (r .multipliers) j 0 ≡ getD (s .multipliers) j 0)
+constants-alone-decide = constants-decide
 
 -- ---- rows used and left over
 

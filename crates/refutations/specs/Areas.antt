@@ -1,20 +1,26 @@
 -- What a call does to lent areas, from its promise alone: a refused one changes nothing and gives zeros, an accepted one leaves the surplus.
 -- Assumes nothing.
-use Prim.Native.Nat.{ℕ, zero, suc}
+use Prim.Native.Nat.{ℕ, zero, suc, _<_}
 use mathlib.Core.Path.{_≡_, refl, sym, ap, _∙_}
-use mathlib.Core.Logic.{_≢_}
-use mathlib.Core.Bool.{Bool, false, false≢true}
+use mathlib.Core.Logic.{_≢_, _⊎_, inl, inr}
+use mathlib.Core.Bool.{Bool, true, false, true≢false, false≢true}
 use mathlib.Core.Option.{Option, none, some}
 use mathlib.Core.List.{List, [], _∷_, _++_, flatten}
 use lib.ListN.{length, drop}
+use lib.Dec.{leb}
+use borrow.Author.Tests.{lt-leb}
+use Rattle.limits.specs.Limits.{set-bytes}
 use Rattle.format.specs.Lists.{over}
 use Rattle.format.specs.Numbers.{number-entries, is-numbered}
-use Rattle.format.specs.Refusals.{Tests, where-accepted}
-use Rattle.format.specs.File.Format.{FileModel, decode, no-model, read-model, model-read, read-refusal, ReadCall, write-refusal, bytes-written, WriteCall, lookup-refusal, lookup-length, lookup-start}
+use Rattle.format.specs.Refusals.{Tests, unless, _then_, first-refusal, where-accepted, area-short, area-test}
+use Rattle.format.specs.RefusalLaws.{then-passed}
+use Rattle.format.specs.File.Piece.{closed}
+use Rattle.format.specs.File.Format.{FileModel, fields, judge, decode, no-model, read-model, model-read, read-refusal, ReadCall, write-refusal, bytes-written, WriteCall, lookup-refusal, lookup-length, lookup-start}
 use Rattle.text.specs.Text.{print-refusal, printed, Prints}
 use Rattle.text.specs.declared.Printed.{Printed}
-use Rattle.host.specs.AreaCall.{AreaCall, WrittenOver}
-use Rattle.solvability.specs.Host.{HostAnswer, HostMixedAnswer}
+use Rattle.host.specs.AreaCall.{area-refusal, AreaCall, WrittenOver}
+use Rattle.multipliers.specs.Bytes.{multipliers-length}
+use Rattle.solvability.specs.Host.{HostAnswer, HostMixedAnswer, HostMultipliers}
 
 where-refused : {A : Type 0} (k : ℕ) (x o : A) → k ≢ 0 → where-accepted k x o ≡ o
 where-refused zero x o h = absurd (h refl)
@@ -112,12 +118,32 @@ host-number file area = area-number _ _ _ _ area
 pub host-refused : (file area : List ℕ) (k : ℕ) (area′ : List ℕ) → HostAnswer file area k area′ → k ≢ 0 → area′ ≡ area
 host-refused file area = area-refused _ _ _ _ area
 
--- and the mixed one
+-- the mixed one,
 pub host-mixed-number : (file area : List ℕ) (k k′ : ℕ) (area′ area″ : List ℕ) → HostMixedAnswer file area k area′ → HostMixedAnswer file area k′ area″ → k ≡ k′
 host-mixed-number file area = area-number _ _ _ _ area
 
 pub host-mixed-refused : (file area : List ℕ) (k : ℕ) (area′ : List ℕ) → HostMixedAnswer file area k area′ → k ≢ 0 → area′ ≡ area
 host-mixed-refused file area = area-refused _ _ _ _ area
+
+-- and the one about multipliers
+pub host-multipliers-number : (file held : List ℕ) (x : ℕ) (area : List ℕ) (k k′ : ℕ) (area′ area″ : List ℕ) → HostMultipliers file held x area k area′ → HostMultipliers file held x area k′ area″ → k ≡ k′
+host-multipliers-number file held x area = area-number _ _ _ _ area
+
+pub host-multipliers-refused : (file held : List ℕ) (x : ℕ) (area : List ℕ) (k : ℕ) (area′ : List ℕ) → HostMultipliers file held x area k area′ → k ≢ 0 → area′ ≡ area
+host-multipliers-refused file held x area = area-refused _ _ _ _ area
+
+two-areas : (t u : Bool) (us : Tests) → (t ≡ false) ⊎ (u ≡ false) → first-refusal (unless t area-short then (unless u area-short then us)) ≡ 8
+unfolding first-refusal
+two-areas false u us e = refl
+two-areas true false us e = refl
+two-areas true true us e = absurd (elim e [ inl z ↦ true≢false z | inr z ↦ true≢false z ])
+
+-- which refuses too short an area, of either kind, before it looks at the columns
+pub areas-before-columns : (file held : List ℕ) (x : ℕ) (area : List ℕ) (k : ℕ) (area′ : List ℕ) → HostMultipliers file held x area k area′ → judge file ≡ 0
+    → (length area < multipliers-length) ⊎ (length held < set-bytes) → k ≡ 8
+unfolding area-refusal area-test judge
+areas-before-columns file held x area k area′ h ok short =
+    h .is-number ∙ sym (then-passed (closed fields file) _ 8 ok (sym (two-areas (leb multipliers-length (length area)) (leb set-bytes (length held)) _ (elim short [ inl l ↦ inl (lt-leb _ _ l) | inr l ↦ inr (lt-leb _ _ l) ]))))
 
 -- the bytes behind an answer are as they were
 pub written-surplus : {A : Type 0} (Holds : A → Type 0) (bytes : A → List ℕ) (area area′ : List ℕ) (w : WrittenOver Holds bytes area area′)

@@ -1,12 +1,19 @@
--- Document 01, "The host and the program": the calls for a host in C. Definitions only.
+-- Document 01, "The host and the program", and document 02, E1: the calls for a host in C. Definitions only.
 use Prim.Native.Nat.{ℕ}
 use mathlib.Core.List.{List, []}
+use lib.ListN.{length, take}
+use Rattle.limits.specs.Limits.{set-bytes}
+use Rattle.columns.specs.Bytes.{number}
+use Rattle.columns.specs.Columns.{members}
+use Rattle.format.specs.Refusals.{Tests, unless, _then_, area-short, area-test}
 use Rattle.format.specs.File.Piece.{closed}
-use Rattle.format.specs.File.Format.{fields}
+use Rattle.format.specs.File.Format.{fields, decode}
 use Rattle.layered.specs.FileModel.{file-model}
 use Rattle.mixed.specs.MixedAnswers.{file-mixed, mixed-question}
-use Rattle.host.specs.AreaCall.{AreaCall}
+use Rattle.host.specs.AreaCall.{AreaCall, WrittenOver}
 use Rattle.host.specs.AnswerBytes.{answer-length, AnswerWritten, mixed-length, MixedWritten}
+use Rattle.multipliers.specs.Answers.{column-question, FileAnswered}
+use Rattle.multipliers.specs.Bytes.{multipliers-length, multipliers-bytes}
 
 -- the layered call: 1 to 7 and 13 as the file is judged, then 8 for the area; where it refuses, the area is as it was
 abbrev pub HostAnswer : (file area : List ℕ) (number : ℕ) (area′ : List ℕ) → Type 0
@@ -15,3 +22,16 @@ HostAnswer file = AreaCall (closed fields file) [] answer-length (AnswerWritten 
 -- the mixed call: 1 to 7 and 13, then 8, then 10 for a file that holds no mixed question
 abbrev pub HostMixedAnswer : (file area : List ℕ) (number : ℕ) (area′ : List ℕ) → Type 0
 HostMixedAnswer file = AreaCall (closed fields file) (mixed-question file) mixed-length (MixedWritten (file-mixed file))
+
+-- the set that an area shows: its first bytes, as many as a set has
+abbrev pub set-shown : List ℕ → ℕ
+set-shown held = number (take set-bytes held)
+
+-- what the call about multipliers asks: 8 for too short an area of held columns, then 11
+abbrev pub multipliers-question : (file held : List ℕ) (x : ℕ) → Tests
+multipliers-question file held x = unless (area-test set-bytes (length held)) area-short then column-question (decode file .n) (set-shown held) x
+
+-- the call about multipliers: 1 to 7 and 13, then 8 for both areas, then 11
+abbrev pub HostMultipliers : (file held : List ℕ) (x : ℕ) (area : List ℕ) (number : ℕ) (area′ : List ℕ) → Type 0
+HostMultipliers file held x =
+    AreaCall (closed fields file) (multipliers-question file held x) multipliers-length (WrittenOver (FileAnswered file (members (set-shown held)) x) multipliers-bytes)

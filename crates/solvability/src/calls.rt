@@ -4,14 +4,18 @@ ghost use mathlib.Core.Bool.{false};
 ghost use Rattle.format.specs.Refusals.{unless, _then_, first-refusal, area-short};
 ghost use Rattle.format.specs.File.Piece.{closed};
 ghost use Rattle.format.specs.File.Format.{fields};
-ghost use Rattle.solvability.specs.Host.{HostAnswer, HostMixedAnswer};
+ghost use Rattle.solvability.specs.Host.{HostAnswer, HostMixedAnswer, HostMultipliers};
 use format::judge_file;
 use format::refusals;
 use host::MIXED_LENGTH;
 use host::put_answer;
 use host::put_mixed;
 use layered::layered_file;
+use limits::SET_BYTES;
 use mixed::mixed_file;
+use multipliers::MULTIPLIERS_LENGTH;
+use multipliers::file_multipliers;
+use multipliers::put_multipliers;
 
 // Judges the file, then the area; where both are accepted, writes the answer to the layered model over the front of the area.
 #[no_mangle]
@@ -50,4 +54,29 @@ pub extern "C" fn wundreska_mixed(file: &[u8], answer: &mut [u8]) -> u32
         return r.refusal;
     }
     put_mixed(answer, r)
+}
+
+// Judges the file, then both areas, then the columns that are named; where all are accepted, writes how the column depends on the held
+// ones over the front of the answer's area. Of the area of held columns the bytes of one set are read.
+#[no_mangle]
+pub extern "C" fn wundreska_multipliers(
+    file: &[u8],
+    held: &[u8],
+    column: usize,
+    answer: &mut [u8],
+) -> u32
+    ensures { λ r. ⌜ HostMultipliers (now (file .entry)) (now (held .entry)) column (now (answer .entry)) r (now (answer .exit)) ⌝ }
+{
+    if answer.len() < MULTIPLIERS_LENGTH {
+        return refuse_area(file);
+    }
+    if held.len() < SET_BYTES {
+        return refuse_area(file);
+    }
+    let set = columns::of_bytes(&held[..SET_BYTES]);
+    let r = file_multipliers(file, set, column);
+    if r.refusal != 0 {
+        return r.refusal;
+    }
+    put_multipliers(answer, r)
 }
