@@ -1,6 +1,7 @@
 -- Document 02, E1: how a column depends on held columns, and what is proved of it.
 pub mod Constants
 pub mod Multipliers
+pub mod Listing
 pub mod ConstantSide
 pub mod MultiplierLaws
 pub mod TableauLaws

@@ -1,14 +1,14 @@
 -- Multipliers over any field: they are known by the kernel of the constants. Assumes nothing.
 use Prim.Native.Nat.{ℕ, _<_}
-use mathlib.Core.Path.{_≡_, refl, sym, _∙_}
+use mathlib.Core.Path.{_≡_, refl, sym, ap, _∙_}
 use mathlib.Core.Bool.{true}
 use mathlib.Core.Logic.{_≢_, by-cases}
 use native.Mathlib.Decide.{ℕ-discrete}
-use Rattle.residue.specs.Fields.{Field, ring, mul-zero, unadd}
+use Rattle.residue.specs.Fields.{Field, ring, mul-zero, one-mul, unadd}
 use Rattle.counting.specs.Sets.{Set, _∈_, set}
 use Rattle.counting.specs.Counts.{set-same, set-other}
 use Rattle.rank.specs.Linear.Independence.{dot, In, InKernel, Indep}
-use Rattle.rank.specs.Linear.Sums.{Σ-cong, dot-cong, dot-zero, dot-one, dot-plus}
+use Rattle.rank.specs.Linear.Sums.{Σ-cong, dot-zero, dot-unit, dot-mix}
 use Rattle.rank.specs.Linear.Kernels.{Same}
 use Rattle.dependence.specs.Multipliers.{Depends}
 
@@ -27,46 +27,56 @@ module _ (K : Field) where
   unfolding unit
   unit-other x j ne = set-other (λ k. 𝟘) x 𝟙 j ne
 
+  -- rows that agree
+  dot-rows : (n : ℕ) (r t c : ℕ → F) → ((j : ℕ) → j < n → r j ≡ t j) → dot K n r c ≡ dot K n t c
+  unfolding dot
+  dot-rows n r t c e = Σ-cong K n _ _ (λ j l. ap (λ z. z · c j) (e j l))
+
   -- c less d
   less : (ℕ → F) → (ℕ → F) → ℕ → F
-  less c d j = c j + neg 𝟙 · d j
+  less c d j = 𝟙 · c j + neg 𝟙 · d j
 
-  pub dot-unit : (n : ℕ) (r : ℕ → F) (x : ℕ) → x < n → dot K n r (unit x) ≡ r x
+  dot-at : (n : ℕ) (r : ℕ → F) (x : ℕ) → x < n → dot K n r (unit x) ≡ r x
   unfolding unit
-  dot-unit n r x l = dot-one K n r (set (λ j. 𝟘) x 𝟙) x l (λ k lk ne. rw (set-other (λ j. 𝟘) x 𝟙 k ne) (mul-zero K (r k))) ∙ rw set-same (K .mul-one (r x))
-
-  dot-comm : (n : ℕ) (r c : ℕ → F) → dot K n r c ≡ dot K n c r
-  unfolding dot
-  dot-comm n r c = Σ-cong K n _ _ (λ j l. K .mul-comm (r j) (c j))
+  dot-at n r x l = dot-unit K n r x 𝟙 l ∙ K .mul-one (r x)
 
   dot-less : (n : ℕ) (r c d : ℕ → F) → dot K n r (less c d) ≡ dot K n r c + neg 𝟙 · dot K n r d
   unfolding less
-  dot-less n r c d = cc (dot-comm n r (λ j. c j + neg 𝟙 · d j), dot-plus K n c (neg 𝟙) d r, dot-comm n r c, dot-comm n r d)
+  dot-less n r c d = dot-mix K n r 𝟙 (neg 𝟙) c d ∙ rw (one-mul K (dot K n r c)) refl
 
+  -- a difference is zero exactly where both are equal
   equal : (x y : F) → x + neg 𝟙 · y ≡ 𝟘 → x ≡ y
   equal x y e = unadd K (neg 𝟙 · y) x y (K .add-comm _ _ ∙ e ∙ sym (simp ring))
 
   equal-back : (x y : F) → x ≡ y → x + neg 𝟙 · y ≡ 𝟘
   equal-back x y e = rw e (simp ring)
 
+  -- the difference of two coefficients
+  less-zero : (c d : ℕ → F) (j : ℕ) → less c d j ≡ 𝟘 → c j ≡ d j
+  unfolding less
+  less-zero c d j e = equal (c j) (d j) (ap (λ z. z + neg 𝟙 · d j) (sym (one-mul K (c j))) ∙ e)
+
+  zero-less : (c d : ℕ → F) (j : ℕ) → c j ≡ d j → less c d j ≡ 𝟘
+  unfolding less
+  zero-less c d j e = ap (λ z. z + neg 𝟙 · d j) (one-mul K (c j)) ∙ equal-back (c j) (d j) e
+
 module _ {K : Field} {a n : ℕ} where
   open Field K using (F, 𝟘, 𝟙)
 
   -- independent columns have only one
   pub unique : (Q : ℕ → ℕ → F) (H : Set) (x : ℕ) (c d : ℕ → F) → Indep K a n Q H → Depends K a n Q H x c → Depends K a n Q H x d → (j : ℕ) → j < n → c j ≡ d j
-  unfolding less
-  unique Q H x c d i m m′ j l = equal K (c j) (d j) (i .only-zero (less K c d)
-      (λ k nk. equal-back K (c k) (d k) (m .only-held k nk ∙ sym (m′ .only-held k nk)))
+  unique Q H x c d i m m′ j l = less-zero K c d j (i .only-zero (less K c d)
+      (λ k nk. zero-less K c d k (m .only-held k nk ∙ sym (m′ .only-held k nk)))
       (λ k lk. dot-less K n (Q k) c d ∙ equal-back K _ _ (m .sums k lk ∙ sym (m′ .sums k lk))) j l)
 
   -- c are multipliers of x exactly if c less 1 at x is in the kernel
   depends-kernel : (Q : ℕ → ℕ → F) (H : Set) (x : ℕ) (c : ℕ → F) → x < n → Depends K a n Q H x c → InKernel K a n Q (less K c (unit K x))
-  depends-kernel Q H x c l m k lk = dot-less K n (Q k) c (unit K x) ∙ equal-back K _ _ (m .sums k lk ∙ sym (dot-unit K n (Q k) x l))
+  depends-kernel Q H x c l m k lk = dot-less K n (Q k) c (unit K x) ∙ equal-back K _ _ (m .sums k lk ∙ sym (dot-at K n (Q k) x l))
 
   kernel-depends : (Q : ℕ → ℕ → F) (H : Set) (x : ℕ) (c : ℕ → F) → x < n → In K H c → InKernel K a n Q (less K c (unit K x)) → Depends K a n Q H x c
   kernel-depends Q H x c l s z = record {
     only-held = s;
-    sums = λ k lk. equal K _ _ (sym (dot-less K n (Q k) c (unit K x)) ∙ z k lk) ∙ dot-unit K n (Q k) x l;
+    sums = λ k lk. equal K _ _ (sym (dot-less K n (Q k) c (unit K x)) ∙ z k lk) ∙ dot-at K n (Q k) x l;
   }
 
   -- so matrices with the same kernel have the same multipliers
@@ -74,21 +84,21 @@ module _ {K : Field} {a n : ℕ} where
   depends-same {P} {Q} e H x c l m = kernel-depends Q H x c l (m .only-held) (e .kernel (less K c (unit K x)) .1 (depends-kernel P H x c l m))
 
   -- no independent set has x and all that x depends on
-  pub clash : (Q : ℕ → ℕ → F) (H S : Set) (x : ℕ) (c : ℕ → F) → x < n → Depends K a n Q H x c → Indep K a n Q S → x ∈ S → In K S c → c x ≡ 𝟘 → ⊥
-  unfolding less unit
-  clash Q H S x c l m i sx s z = K .one-ne (sym (set-same (λ j. 𝟘) x 𝟙) ∙ sym (equal K (c x) (unit K x x) (i .only-zero (less K c (unit K x))
-      (λ j nj. equal-back K (c j) (unit K x j) (s j nj ∙ sym (set-other (λ k. 𝟘) x 𝟙 j (λ d. nj (rw d sx)))))
+  pub lacks-one : (Q : ℕ → ℕ → F) (H S : Set) (x : ℕ) (c : ℕ → F) → x < n → Depends K a n Q H x c → Indep K a n Q S → x ∈ S → In K S c → c x ≡ 𝟘 → ⊥
+  unfolding unit
+  lacks-one Q H S x c l m i sx s z = K .one-ne (sym (set-same (λ j. 𝟘) x 𝟙) ∙ sym (less-zero K c (unit K x) x (i .only-zero (less K c (unit K x))
+      (λ j nj. zero-less K c (unit K x) j (s j nj ∙ sym (set-other (λ k. 𝟘) x 𝟙 j (λ d. nj (rw d sx)))))
       (depends-kernel Q H x c l m) x l)) ∙ z)
 
   -- a column that depends on others is not independent of them
   pub depends-not : (Q : ℕ → ℕ → F) (H : Set) (x : ℕ) (c : ℕ → F) → x < n → (x ∈ H → ⊥) → Depends K a n Q H x c → Indep K a n Q (set H x true) → ⊥
-  depends-not Q H x c l nx m i = clash Q H (set H x true) x c l m i (set-same H x true)
+  depends-not Q H x c l nx m i = lacks-one Q H (set H x true) x c l m i (set-same H x true)
       (λ j nj. m .only-held j (λ e. by-cases (ℕ-discrete j x) (λ d. nx (rw d at e)) (λ nd. nj (set-other H x true j nd ∙ e)))) (m .only-held x nx)
 
   -- a held column depends on the held ones by itself,
   pub held-depends : (Q : ℕ → ℕ → F) (H : Set) (x : ℕ) → x < n → x ∈ H → Depends K a n Q H x (unit K x)
   unfolding unit
-  held-depends Q H x l e = record { only-held = λ j nj. set-other (λ k. 𝟘) x 𝟙 j (λ d. nj (rw d e)); sums = λ i li. dot-unit K n (Q i) x l }
+  held-depends Q H x l e = record { only-held = λ j nj. set-other (λ k. 𝟘) x 𝟙 j (λ d. nj (rw d e)); sums = λ i li. dot-at K n (Q i) x l }
 
   -- and a column that is zero in every row by nothing
   pub zero-depends : (Q : ℕ → ℕ → F) (H : Set) (x : ℕ) → ((i : ℕ) → i < a → Q i x ≡ 𝟘) → Depends K a n Q H x (λ j. 𝟘)
@@ -101,4 +111,4 @@ module _ {K : Field} {a n : ℕ} where
   }
     where
       at : (c : ℕ → F) (i : ℕ) → i < a → dot K n (Q i) c ≡ dot K n (P i) c
-      at c i l = dot-comm K n (Q i) c ∙ dot-cong K n c (Q i) (P i) (λ j lj. sym (e i j l lj)) ∙ dot-comm K n c (P i)
+      at c i l = dot-rows K n (Q i) (P i) c (λ j lj. sym (e i j l lj))

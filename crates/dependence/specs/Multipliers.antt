@@ -1,16 +1,15 @@
 -- Document 02, E1: how a column depends on held columns, over any field; and modulo a prime the outcome and the multipliers as numbers that compute.
 -- Definitions only; assumes nothing.
-use Prim.Native.Nat.{ℕ, zero, suc, _-_, _<_}
+use Prim.Native.Nat.{ℕ, _<_}
 use mathlib.Core.Path.{_≡_}
 use mathlib.Core.Bool.{Bool, cond, decide}
-use mathlib.Core.List.{List, [], _∷_}
 use Rattle.residue.specs.Arithmetic.{Prime}
 use Rattle.residue.specs.Fields.{Field}
 use Rattle.residue.specs.Residues.{residues, res, num-of}
 use Rattle.counting.specs.Sets.{Set, all}
 use Rattle.counting.specs.Choices.{largest, some}
 use Rattle.rank.specs.Linear.Independence.{dot, In}
-use Rattle.rank.specs.Independent.{independent}
+use Rattle.rank.specs.Independent.{last-coefficient, independent}
 
 module _ (K : Field) (a n : ℕ) (Q : ℕ → ℕ → K .F) where
   open Field K using (F)
@@ -29,18 +28,14 @@ module _ (q : ℕ) (P : Prime q) (a n : ℕ) (Q : ℕ → ℕ → residues q P .
   unfoldable pub sums-to : ℕ → (ℕ → F) → Bool
   sums-to x c = all a (λ i. decide (residues q P .decide (dot (residues q P) n (Q i) c) (Q i x)))
 
-  -- the last multiplier that is tried: those of a held column are 0 .. q - 1, that of any other column is 0
-  unfoldable pub last-multiplier : Set → ℕ → ℕ
-  last-multiplier H j = cond (H j) (q - 1) 0
-
-  -- x depends on the columns in H
+  -- x depends on the columns in H: some multipliers do, tried as the coefficients of `independent` are
   unfoldable pub depends : Set → ℕ → Bool
-  depends H x = some (res q P) (last-multiplier H) n (sums-to x)
+  depends H x = some (res q P) (last-coefficient q H) n (sums-to x)
 
   -- the multiplier of column j, a number below q: the largest, should there be more than one, and 0, should there be none. `multipliers-are` says that
   -- it is the only one where the held columns are independent.
   unfoldable pub multiplier : Set → ℕ → ℕ → ℕ
-  multiplier H x j = largest (res q P) (last-multiplier H) n (λ c. cond (sums-to x c) (num-of q P (c j)) 0)
+  multiplier H x j = largest (res q P) (last-coefficient q H) n (λ c. cond (sums-to x c) (num-of q P (c j)) 0)
 
   -- the outcome: 2, the held columns are dependent; 1, x depends on them; 0, it does not
   unfoldable pub outcome : Set → ℕ → ℕ
@@ -49,8 +44,3 @@ module _ (q : ℕ) (P : Prime q) (a n : ℕ) (Q : ℕ → ℕ → residues q P .
   -- the multiplier of column j that is given: none, which is 0, where the held columns are dependent
   unfoldable pub given : Set → ℕ → ℕ → ℕ
   given H x j = cond (independent q P a n Q H) (multiplier H x j) 0
-
--- f 0, f 1 .. f (k - 1)
-unfoldable pub listing : ℕ → (ℕ → ℕ) → List ℕ
-listing zero f = []
-listing (suc k) f = f 0 ∷ listing k (λ j. f (suc j))

@@ -1,12 +1,10 @@
 -- What the test and the numbers of `Multipliers` say modulo a prime, and which outcome they make. Assumes nothing.
-use Prim.Native.Nat.{ℕ, zero, suc, _≤_, _<_}
-use mathlib.Core.Path.{_≡_, refl, sym, _∙_, ap, ap₂}
+use Prim.Native.Nat.{ℕ, _≤_, _<_}
+use mathlib.Core.Path.{_≡_, refl, sym, _∙_, ap}
 use mathlib.Core.Bool.{true, false, cond, decide, decide-iff, true≢false}
 use mathlib.Core.Logic.{_≢_, _↔_, _⊎_, inl, inr}
-use mathlib.Core.List.{List, [], _∷_}
 use native.Mathlib.Omega.{arith}
 use native.Mathlib.Nat.{zero-mod, mod-eq-of-lt}
-use lib.ListN.{length, getD, replicate}
 use Rattle.residue.specs.Arithmetic.{Prime}
 use Rattle.residue.specs.Fields.{Field}
 use Rattle.residue.specs.Residues.{residues, res, num-of, num-of-below, num-of-res, res-num-of, res-zero, res-one}
@@ -15,13 +13,13 @@ use Rattle.counting.specs.Sets.{Set, _∈_, _⊆_, set}
 use Rattle.counting.specs.Counts.{all-iff}
 use Rattle.counting.specs.Choices.{largest}
 use Rattle.counting.specs.ChoiceLaws.{Chosen, largest-le, largest-at, some-iff, cond-true, cond-false}
-use Rattle.rank.specs.Linear.Independence.{dot, In, Indep}
+use Rattle.rank.specs.Linear.Independence.{dot, Indep}
 use Rattle.rank.specs.Linear.Sums.{dot-cong}
 use Rattle.rank.specs.Linear.Kernels.{Same, same-indep, same-sym}
 use Rattle.rank.specs.Linear.Tableaus.{Tableau, owned}
-use Rattle.rank.specs.Independent.{independent}
-use Rattle.rank.specs.IndependentLaws.{cut, cut-below, last-choice, cut-chosen, chosen-in, independent-iff}
-use Rattle.dependence.specs.Multipliers.{Depends, sums-to, last-multiplier, depends, multiplier, outcome, given, listing}
+use Rattle.rank.specs.Independent.{last-coefficient, independent}
+use Rattle.rank.specs.IndependentLaws.{cut, cut-below, cut-chosen, chosen-in, independent-iff}
+use Rattle.dependence.specs.Multipliers.{Depends, sums-to, depends, multiplier, outcome, given}
 use Rattle.dependence.specs.MultiplierLaws.{unit, unique, depends-same, depends-not, entries-same, held-depends, zero-depends, unit-at, unit-other}
 use Rattle.dependence.specs.TableauLaws.{owned-columns-independent, tableau-shows-multipliers, tableau-shows-independence}
 
@@ -37,17 +35,8 @@ module _ (q : ℕ) (P : Prime q) (a n : ℕ) (Q : ℕ → ℕ → residues q P .
         (λ i l. decide-iff (residues q P .decide (dot (residues q P) n (Q i) c) (Q i x)) .1 (h i l)),
   )
 
-  -- what is tried are the coefficients that are 0 where nothing is held; past the last column they do not count
-  tried-held : (c : ℕ → F) → Chosen (res q P) (last-multiplier q P a n Q H) n c → In (residues q P) H c
-  unfolding last-multiplier last-choice
-  tried-held c h = chosen-in q P a n Q H c h
-
-  tried-depends : (c : ℕ → F) → Chosen (res q P) (last-multiplier q P a n Q H) n c → sums-to q P a n Q x c ≡ true → Depends (residues q P) a n Q H x c
-  tried-depends c h e = record { only-held = tried-held c h; sums = sums-iff c .0 e }
-
-  cut-tried : (c : ℕ → F) → In (residues q P) H c → Chosen (res q P) (last-multiplier q P a n Q H) n (cut q P n c)
-  unfolding last-multiplier last-choice
-  cut-tried c h = cut-chosen q P a n Q H c h
+  tried-depends : (c : ℕ → F) → Chosen (res q P) (last-coefficient q H) n c → sums-to q P a n Q x c ≡ true → Depends (residues q P) a n Q H x c
+  tried-depends c h e = record { only-held = chosen-in q P a n Q H c h; sums = sums-iff c .0 e }
 
   cut-sums : (c : ℕ → F) → Depends (residues q P) a n Q H x c → sums-to q P a n Q x (cut q P n c) ≡ true
   cut-sums c m = sums-iff (cut q P n c) .1 (λ i l. dot-cong (residues q P) n (Q i) (cut q P n c) c (cut-below q P n c) ∙ m .sums i l)
@@ -56,11 +45,11 @@ module _ (q : ℕ) (P : Prime q) (a n : ℕ) (Q : ℕ → ℕ → residues q P .
   unfolding depends
   depends-iff = (
     λ e.
-        let w : (c : ℕ → F) × Chosen (res q P) (last-multiplier q P a n Q H) n c × (sums-to q P a n Q x c ≡ true)
-        = some-iff (res q P) (last-multiplier q P a n Q H) n (sums-to q P a n Q x) .0 e in
+        let w : (c : ℕ → F) × Chosen (res q P) (last-coefficient q H) n c × (sums-to q P a n Q x c ≡ true)
+        = some-iff (res q P) (last-coefficient q H) n (sums-to q P a n Q x) .0 e in
         (w .0, tried-depends (w .0) (w .1) (w .2)),
-    λ w. some-iff (res q P) (last-multiplier q P a n Q H) n (sums-to q P a n Q x) .1
-        (cut q P n (w .0), cut-tried (w .0) (w .1 .only-held), cut-sums (w .0) (w .1)),
+    λ w. some-iff (res q P) (last-coefficient q H) n (sums-to q P a n Q x) .1
+        (cut q P n (w .0), cut-chosen q P a n Q H (w .0) (w .1 .only-held), cut-sums (w .0) (w .1)),
   )
 
   -- where x depends on the held columns the number at j is that of some multipliers, and else it is 0
@@ -76,12 +65,12 @@ module _ (q : ℕ) (P : Prime q) (a n : ℕ) (Q : ℕ → ℕ → residues q P .
           let c : ℕ → F = cut q P n (m .0) in
           inl (
             c,
-            tried-depends c (cut-tried (m .0) (m .1 .only-held)) (cut-sums (m .0) (m .1)),
+            tried-depends c (cut-chosen q P a n Q H (m .0) (m .1 .only-held)) (cut-sums (m .0) (m .1)),
             omega (
               arith,
               none ne,
               cond-true (sums-to q P a n Q x c) (num-of q P (c j)) 0 (cut-sums (m .0) (m .1)),
-              largest-le (res q P) (last-multiplier q P a n Q H) n value c (cut-tried (m .0) (m .1 .only-held)),
+              largest-le (res q P) (last-coefficient q H) n value c (cut-chosen q P a n Q H (m .0) (m .1 .only-held)),
             ),
           )
     ]
@@ -90,10 +79,10 @@ module _ (q : ℕ) (P : Prime q) (a n : ℕ) (Q : ℕ → ℕ → residues q P .
       value : (ℕ → F) → ℕ
       value c = cond (sums-to q P a n Q x c) (num-of q P (c j)) 0
 
-      w : (c : ℕ → F) × Chosen (res q P) (last-multiplier q P a n Q H) n c × (value c ≡ largest (res q P) (last-multiplier q P a n Q H) n value)
-      w = largest-at (res q P) (last-multiplier q P a n Q H) n value
+      w : (c : ℕ → F) × Chosen (res q P) (last-coefficient q H) n c × (value c ≡ largest (res q P) (last-coefficient q H) n value)
+      w = largest-at (res q P) (last-coefficient q H) n value
 
-      none : (sums-to q P a n Q x (w .0) ≡ true → ⊥) → largest (res q P) (last-multiplier q P a n Q H) n value ≡ 0
+      none : (sums-to q P a n Q x (w .0) ≡ true → ⊥) → largest (res q P) (last-coefficient q H) n value ≡ 0
       none ne = sym (w .2) ∙ cond-false (sums-to q P a n Q x (w .0)) (num-of q P (w .0 j)) 0 ne
 
   -- it is below q,
@@ -182,9 +171,9 @@ module _ (q : ℕ) (P : Prime q) (a n : ℕ) (Q : ℕ → ℕ → residues q P .
     unfolding outcome
     outcome-depends e = rw (i, e) refl
 
-    pub outcome-apart : depends q P a n Q H x ≡ false → outcome q P a n Q H x ≡ 0
+    pub outcome-independent : depends q P a n Q H x ≡ false → outcome q P a n Q H x ≡ 0
     unfolding outcome
-    outcome-apart e = rw (i, e) refl
+    outcome-independent e = rw (i, e) refl
 
     pub multiplier-given : (j : ℕ) → given q P a n Q H x j ≡ multiplier q P a n Q H x j
     unfolding given
@@ -216,7 +205,7 @@ module _ (q : ℕ) (P : Prime q) (a n : ℕ) (Q : ℕ → ℕ → residues q P .
     | no ni ↦ let e = not-true (independent q P a n Q H) ni in inl (outcome-dependent e, e)
     | yes e ↦ elim (true? (depends q P a n Q H x)) [
       | yes d ↦ inr (inl (outcome-depends e d, e, d))
-      | no nd ↦ let f = not-true (depends q P a n Q H x) nd in inr (inr (outcome-apart e f, e, f))
+      | no nd ↦ let f = not-true (depends q P a n Q H x) nd in inr (inr (outcome-independent e f, e, f))
     ]
   ]
 
@@ -270,31 +259,3 @@ module _ (q : ℕ) (P : Prime q) (a n : ℕ) (Q R : ℕ → ℕ → residues q P
           ∙ sym (multiplier-given q P a n R H x (sym independent-same ∙ w .1) j ∙ multiplier-none q P a n R H x (sym depends-both ∙ w .2) j)
     ]
   ]
-
--- ---- numbers in a list
-
-pub listed : (k : ℕ) (f : ℕ → ℕ) (l : List ℕ) → length l ≡ k → ((j : ℕ) → j < k → getD l j 0 ≡ f j) → l ≡ listing k f
-unfolding listing
-listed zero f [] e h = refl
-listed zero f (v ∷ l) e h = absurd (omega arith)
-listed (suc k) f [] e h = absurd (omega arith)
-listed (suc k) f (v ∷ l) e h = ap₂ _∷_ (h 0 (omega arith)) (listed k (λ j. f (suc j)) l (omega arith) (λ j m. h (suc j) (omega arith)))
-
-pub listing-at : (k : ℕ) (f : ℕ → ℕ) (j : ℕ) → j < k → getD (listing k f) j 0 ≡ f j
-unfolding listing
-listing-at zero f j l = absurd (omega arith)
-listing-at (suc k) f zero l = refl
-listing-at (suc k) f (suc j) l = listing-at k (λ i. f (suc i)) j (omega arith)
-
-pub listing-length : (k : ℕ) (f : ℕ → ℕ) → length (listing k f) ≡ k
-unfolding listing
-listing-length zero f = refl
-listing-length (suc k) f = ap suc (listing-length k (λ j. f (suc j)))
-
-pub listing-same : (k : ℕ) (f g : ℕ → ℕ) → ((j : ℕ) → j < k → f j ≡ g j) → listing k f ≡ listing k g
-listing-same k f g h = listed k g (listing k f) (listing-length k f) (λ j l. listing-at k f j l ∙ h j l)
-
-pub zeros-listed : (k : ℕ) (f : ℕ → ℕ) → ((j : ℕ) → j < k → f j ≡ 0) → replicate k 0 ≡ listing k f
-unfolding listing
-zeros-listed zero f h = refl
-zeros-listed (suc k) f h = ap₂ _∷_ (sym (h 0 (omega arith))) (zeros-listed k (λ j. f (suc j)) (λ j m. h (suc j) (omega arith)))

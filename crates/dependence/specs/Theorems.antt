@@ -48,8 +48,8 @@ module _ (M : Model) (H : Set) (below : (j : ℕ) → j ∈ H → j < M .n) wher
   depends-or-independent = Tableau.depends-or-independent M H below
 
   -- not both.
-  pub not-both-of-them : (x : ℕ) → x < n → (x ∈ H → ⊥) → (c : ℕ → K .F) → Depends K a n Q H x c → Indep K a n Q (set H x true) → ⊥
-  not-both-of-them x l nx c = depends-not Q H x c l nx
+  pub not-both : (x : ℕ) → x < n → (x ∈ H → ⊥) → (c : ℕ → K .F) → Depends K a n Q H x c → Indep K a n Q (set H x true) → ⊥
+  not-both x l nx c = depends-not Q H x c l nx
 
 -- Modulo a prime
 module _ (q : ℕ) (P : Prime q) (a n : ℕ) (Q : ℕ → ℕ → residues q P .F) (H : Set) (x : ℕ) where
@@ -105,8 +105,18 @@ module _ (q : ℕ) (P : Prime q) (a n : ℕ) (Q : ℕ → ℕ → residues q P .
         | inr w ↦ (independent-iff q P a n Q H .0 (w .1), λ c m. true≢false (sym (depends-reads .1 (c, m)) ∙ w .2))
       ]
     ],
-    λ w. Numbers.outcome-apart q P a n Q H x (independent-iff q P a n Q H .1 (w .0)) (not-true (depends q P a n Q H x) (λ e. let m = depends-reads .0 e in w .1 (m .0) (m .1))),
+    λ w. Numbers.outcome-independent q P a n Q H x (independent-iff q P a n Q H .1 (w .0)) (not-true (depends q P a n Q H x) (λ e. let m = depends-reads .0 e in w .1 (m .0) (m .1))),
   )
+
+  -- Multipliers are given with the outcome 1 alone.
+  pub given-with-1-alone : outcome q P a n Q H x ≢ 1 → (j : ℕ) → given q P a n Q H x j ≡ 0
+  given-with-1-alone ne j = elim (Numbers.outcome-reads q P a n Q H x) [
+    | inl w ↦ Numbers.none-given q P a n Q H x (w .1) j
+    | inr v ↦ elim v [
+      | inl w ↦ absurd (ne (w .0))
+      | inr w ↦ Numbers.multiplier-given q P a n Q H x (w .1) j ∙ multiplier-none (w .2) j
+    ]
+  ]
 
   -- A held column depends on independent held ones, with the multiplier 1 for itself and 0 for the others;
   pub held-column : Indep (residues q P) a n Q H → x < n → x ∈ H

@@ -1,13 +1,13 @@
 -- A column read off the tableau when the held columns have been placed on the constant rows. Assumes nothing.
 use Prim.Native.Nat.{ℕ, _+_, _*_, _≤_, _<_}
-use mathlib.Core.Path.{_≡_, refl, sym, ap, _∙_}
+use mathlib.Core.Path.{_≡_, sym, ap, _∙_}
 use mathlib.Core.Logic.{_≢_, inl, inr}
-use mathlib.Core.Bool.{Bool, true, false, not}
+use mathlib.Core.Bool.{true, false, not}
 use mathlib.Core.List.{List}
 use native.Mathlib.Omega.{arith}
 use native.Mathlib.Nat.{mod-eq-of-lt}
 use native.Mathlib.Decide.{ℕ-discrete, decLt}
-use lib.ListN.{length, getD, set, replicate, getD-replicate, length-replicate, length-set, List·getD-eq-default}
+use lib.ListN.{getD, set, replicate, getD-replicate, length-replicate, length-set, List·getD-eq-default}
 use lib.Seq.{getD-set-same, getD-set-other}
 use Rattle.limits.specs.Limits.{most-columns}
 use Rattle.residue.specs.Arithmetic.{Prime, is-prime}
@@ -16,7 +16,7 @@ use Rattle.counting.specs.Bools.{true?, not-true, iff-eq, and-in, and-left, and
 use Rattle.counting.specs.Sets.{Set, _∈_, _⊆_, _∩_, ∁, Some, #}
 use Rattle.columns.specs.Columns.{width, least}
 use Rattle.columns.specs.Words.SetLaws.{least-there, nothing-in}
-use Rattle.rank.specs.Modulus.{modulus, field-of, residue-of}
+use Rattle.rank.specs.Modulus.{modulus, field-of}
 use Rattle.rank.specs.ModulusLaws.{modulus-is, residue-zero}
 use Rattle.rank.specs.Independent.{independent}
 use Rattle.rank.specs.IndependentLaws.{independent-iff}
@@ -25,12 +25,13 @@ use Rattle.rank.specs.Graph.States.{State, Placed, placed-of, placed-iff}
 use Rattle.rank.specs.Layered.Model.{Model}
 use Rattle.rank.specs.Layered.Assignments.{offered-owner}
 use Rattle.rank.specs.Layered.Offers.{state-answers}
-use Rattle.dependence.specs.Multipliers.{depends, multiplier, outcome, given, listing}
+use Rattle.dependence.specs.Multipliers.{depends, multiplier, outcome, given}
 use Rattle.dependence.specs.TableauLaws.{owned-columns-independent, state-owns}
-use Rattle.dependence.specs.NumberLaws.{multiplier-not-held, multiplier-none, outcome-dependent, none-given, outcome-depends, outcome-apart, multiplier-given, listed, zeros-listed}
+use Rattle.dependence.specs.NumberLaws.{multiplier-not-held, multiplier-none, outcome-dependent, none-given, outcome-depends, outcome-independent, multiplier-given}
+use Rattle.dependence.specs.Listing.{listed, zeros-listed}
 use Rattle.dependence.specs.Theorems.{held-all-placed, state-shows-multipliers, state-shows-independence}
 use Rattle.exchange.specs.Sizes.{stride}
-use Rattle.exchange.specs.Depending.{Without, Dependent}
+use Rattle.exchange.specs.DependenceCall.{NoMultipliers, DependenceShown}
 use Rattle.exchange.specs.Code.Cells.{cell, Below}
 use Rattle.exchange.specs.Code.Scanning.{owner-at}
 use Rattle.exchange.specs.Code.Held.{Given, model-of}
@@ -55,12 +56,12 @@ module _ (n x : ℕ) (t o : List ℕ) where
       | inr w ↦ inr (w .0, λ q l lo. elim (ℕ-discrete q k) [ yes z ↦ rw z (apart (rw z at lo)) | no nz ↦ w .1 q (omega arith) lo ])
     ]
 
-    pub entries-more : n ≤ most-columns → owner-at o k < n → EntriesByOwner n (k + 1) x t o (set entries (owner-at o k) (cell t k x))
-    entries-more hn l = record {
-      full = length-set entries (owner-at o k) (cell t k x) ∙ h .full;
-      each = λ j. elim (ℕ-discrete j (owner-at o k)) [
-        | yes z ↦ inl (k, omega arith, (l, sym z, rw z (getD-set-same entries (owner-at o k) (cell t k x) 0 (omega (arith, h .full)))))
-        | no nz ↦ rw (getD-set-other entries (owner-at o k) j (cell t k x) 0 nz) (kept j (getD entries j 0) (λ lo z. nz (sym z)) (h .each j))
+    pub entries-more : (y : ℕ) → y ≡ owner-at o k → n ≤ most-columns → y < n → EntriesByOwner n (k + 1) x t o (set entries y (cell t k x))
+    entries-more y ey hn l = record {
+      full = length-set entries y (cell t k x) ∙ h .full;
+      each = λ j. elim (ℕ-discrete j y) [
+        | yes z ↦ inl (k, omega arith, (rw (sym ey) l, sym ey ∙ sym z, rw z (getD-set-same entries y (cell t k x) 0 (omega (arith, h .full)))))
+        | no nz ↦ rw (getD-set-other entries y j (cell t k x) 0 nz) (kept j (getD entries j 0) (λ lo z. nz (sym z ∙ sym ey)) (h .each j))
       ];
     }
 
@@ -111,7 +112,7 @@ module _ (p n a : ℕ) (prime : is-prime p ≡ true) (ws t o : List ℕ) (G : Gi
             ∙ held-all-placed M (G .E) below (independent-iff q P a n (G .Q) (G .E) .0 i) y l ∙ e),
       )))
 
-  pub held-columns-dependent : (y : ℕ) → y ∈ G .E → (y ∈ in-set → ⊥) → (r : Dependence) → Without 2 r → Dependent p n a (G .Q) (G .E) x (r .outcome) (r .multipliers)
+  pub held-columns-dependent : (y : ℕ) → y ∈ G .E → (y ∈ in-set → ⊥) → (r : Dependence) → NoMultipliers 2 r → DependenceShown p n a (G .Q) (G .E) x (r .outcome) (r .multipliers)
   held-columns-dependent y e out r w =
       let i = held-dependent y e out in
       record {
@@ -134,14 +135,14 @@ module _ (p n a : ℕ) (prime : is-prime p ≡ true) (ws t o : List ℕ) (G : Gi
         (owned-columns-independent (G .Q) (d .held .good .P) (s .owner) (d .held .good .kernel) (d .held .good .tableau) (G .E) owns)
 
     -- the column is not zero in a free row
-    pub column-apart : Some a (λ h. (n ≤ owner-at o h) × (cell t h x ≢ 0)) → (r : Dependence) → Without 0 r → Dependent p n a (G .Q) (G .E) x (r .outcome) (r .multipliers)
-    column-apart f r w =
+    pub column-independent : Some a (λ h. (n ≤ owner-at o h) × (cell t h x ≢ 0)) → (r : Dependence) → NoMultipliers 0 r → DependenceShown p n a (G .Q) (G .E) x (r .outcome) (r .multipliers)
+    column-independent f r w =
         let h : ℕ = f .0 in
         let no-dependence : depends q P a n (G .Q) (G .E) x ≡ false
         = state-shows-independence q P n a (G .Q) (G .T) (G .E) below s (d .held .good) places x lx h (f .1) (omega (arith, owner-is h (f .1), f .2 .0))
         (λ z. f .2 .1 (residue-zero p prime (cell t h x) (bt _) .0 (d .held .cells h x (f .1) lx ∙ z))) in
         record {
-          outcome-is = w .outcome-is ∙ sym (outcome-apart q P a n (G .Q) (G .E) x held-independent no-dependence);
+          outcome-is = w .outcome-is ∙ sym (outcome-independent q P a n (G .Q) (G .E) x held-independent no-dependence);
           multipliers-are = w .none-given ∙ zeros-listed most-columns _
               (λ j l. multiplier-given q P a n (G .Q) (G .E) x held-independent j ∙ multiplier-none q P a n (G .Q) (G .E) x no-dependence j);
         }
@@ -171,7 +172,7 @@ module _ (p n a : ℕ) (prime : is-prime p ≡ true) (ws t o : List ℕ) (G : Gi
         | inr w ↦ w .0 ∙ sym (multiplier-given q P a n (G .Q) (G .E) x held-independent j ∙ multiplier-not-held q P a n (G .Q) (G .E) x j (no-owner j (w .1)))
       ]
 
-      pub column-depends : (entries : List ℕ) → EntriesByOwner n a x t o entries → Dependent p n a (G .Q) (G .E) x 1 entries
+      pub column-depends : (entries : List ℕ) → EntriesByOwner n a x t o entries → DependenceShown p n a (G .Q) (G .E) x 1 entries
       column-depends entries w = record {
         outcome-is = sym (outcome-depends q P a n (G .Q) (G .E) x held-independent (shown .0));
         multipliers-are = listed most-columns _ entries (w .full) (λ j l. entry-is j (getD entries j 0) (w .each j));

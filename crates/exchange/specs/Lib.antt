@@ -3,5 +3,5 @@ pub mod Sizes
 pub mod Solution
 pub mod Solve
 pub mod SolveLaws
-pub mod Depending
+pub mod DependenceCall
 pub mod Code

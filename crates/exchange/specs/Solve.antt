@@ -1,4 +1,4 @@
--- What the call of this crate promises. Definitions only.
+-- What the call `solve` promises. Definitions only.
 use Prim.Native.Nat.{ℕ, _+_, _*_, _<_}
 use mathlib.Core.Path.{_≡_}
 use mathlib.Core.Bool.{Bool, true, false, _&&_}

@@ -12,10 +12,9 @@ ghost use Rattle.counting.specs.Sets.{_∈_};
 ghost use Rattle.columns.specs.Columns.{members, within};
 ghost use Rattle.columns.specs.ColumnSets.{whole, row-numbers};
 ghost use Rattle.exchange.specs.Solve.{Nothing, SolvedBy, Solves};
-ghost use Rattle.exchange.specs.Depending.{Without, Dependent, Depending};
+ghost use Rattle.exchange.specs.DependenceCall.{NoMultipliers, DependenceShown, DependenceCall};
 ghost use Rattle.exchange.specs.Code.Cells.{TableauArray};
-ghost use Rattle.exchange.specs.Code.Held.{Given, model-of, ShowsConstants};
-ghost use Rattle.exchange.specs.Code.Reading.{ShowsRows};
+ghost use Rattle.exchange.specs.Code.Held.{Given, model-of, ShowsRows, ShowsConstants};
 
 mod admission;
 mod offering;
@@ -113,8 +112,9 @@ pub fn solve(
     answer(&mut t, parameters, &[], p as u16, n, a, b, offered)
 }
 
-// How a column depends on held columns: 2, these are dependent themselves; 1, the column depends on them; 0, it does not. And the
-// multiplier of each column, 0 where none is given. Where the constants are not taken, nothing.
+// How a column depends on held columns: 2, these are dependent themselves, whatever the column; 1, the column depends on them; 0, it
+// does not. And the multiplier of each column, 0 where none is given. Where the call is not taken, the outcome is 0 and so is each
+// multiplier.
 pub struct Dependence {
     pub valid: bool,
     pub outcome: u8,
@@ -123,7 +123,7 @@ pub struct Dependence {
 
 // An outcome that gives no multipliers.
 fn without_multipliers(valid: bool, outcome: u8) -> Dependence
-    ensures { λ r. ⌜ (r .valid ≡ valid) × Without outcome r ⌝ }
+    ensures { λ r. ⌜ (r .valid ≡ valid) × NoMultipliers outcome r ⌝ }
 {
     Dependence {
         valid,
@@ -143,7 +143,7 @@ fn read_column(
     x: usize,
 ) -> Dependence
     requires { ⌜ TableauArray p (now t) × (n ≤ most-columns) × (a ≤ most-rows) × (within n (whole held) ≡ true) × (is-prime p ≡ true) × (x < n) ⌝ }
-    ensures { λ r. ⌜ (r .valid ≡ true) × ((Q : ℕ → ℕ → field-of p .F) → ShowsRows p n a Q (now (t .entry)) → Dependent p n a Q (members (whole held)) x (r .outcome) (r .multipliers)) ⌝ }
+    ensures { λ r. ⌜ (r .valid ≡ true) × ((Q : ℕ → ℕ → field-of p .F) → ShowsRows p n a Q (now (t .entry)) → DependenceShown p n a Q (members (whole held)) x (r .outcome) (r .multipliers)) ⌝ }
 {
     let mut owner = [n as u8; LINES];
     let placed = offering::offer_all(t, &mut owner, &[], &[], p, n, a, 0, held);
@@ -171,7 +171,7 @@ pub fn column_dependence(
     x: usize,
     constants: &[u16],
 ) -> Dependence
-    ensures { λ r. ⌜ Depending p n a held x (now (constants .entry)) r ⌝ }
+    ensures { λ r. ⌜ DependenceCall p n a held x (now (constants .entry)) r ⌝ }
 {
     if !admission::is_admissible(p, n, a, 0, held, constants, &[]) {
         return without_multipliers(false, 0);

@@ -1,5 +1,4 @@
 // A column read off a tableau whose rows have owners: each owner is a unit column, so the entry in its row is its multiplier.
-ghost use mathlib.Core.Path.{_≡_};
 ghost use Prim.Native.Nat.{_<_};
 ghost use Rattle.exchange.specs.Code.Scanning.{Lengths};
 ghost use Rattle.exchange.specs.Code.Reading.{ZeroWhereFree, EntriesByOwner};

@@ -140,6 +140,13 @@ row-test i a = ltb i a
 unfoldable pub column-test : ℕ → ℕ → Bool
 column-test x n = ltb x n
 
+-- what is asked where column x of n is named, and where the columns of the set with this number are held
+abbrev pub named-column : (n x : ℕ) → Tests
+named-column n x = unless (column-test x n) column-beyond
+
+abbrev pub held-columns : (n held : ℕ) → Tests
+held-columns n held = unless (within n held) column-beyond
+
 -- 13: no number is met a second time in the parameter rows of an area
 unfoldable pub number-test : (n : ℕ) (ws : List ℕ) → Option (List ℕ) → Bool
 number-test n ws none = true

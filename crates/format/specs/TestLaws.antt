@@ -1,9 +1,9 @@
--- What each test of a model, a file, an area or a row says, and what holds of a model handed over that is accepted. Assumes nothing.
+-- What each test of a model, a file, an area, a row or a column says, and what holds of a model handed over that is accepted. Assumes nothing.
 use Prim.Native.Nat.{ℕ, _-_, _*_, _≤_, _<_}
 use mathlib.Core.Path.{_≡_, refl}
 use mathlib.Core.Logic.{_↔_}
 use mathlib.Core.Bool.{Bool, true, _&&_}
-use mathlib.Core.List.{List}
+use mathlib.Core.List.{List, []}
 use mathlib.Core.Option.{Option, none}
 use native.Mathlib.Omega.{arith}
 use lib.ListN.{length, getD, take}
@@ -166,3 +166,21 @@ module _ {p n a b : ℕ} {cs ws : List ℕ} {ns : Option (List ℕ)} (h : Accept
   constant-below k l =
       let len = length-take-le (a * n) cs (h .constants-lent) in
       rw (getD-take (a * n) cs k 0 l) at (all-at (λ c. c < p) (take (a * n) cs) 0 (h .constants-below) k (omega arith))
+
+-- the constants of an accepted model, without its parameter rows
+pub constants-accepted : {p n a b : ℕ} {cs ws : List ℕ} {ns : Option (List ℕ)} → Accepted p n a b cs ws ns → Accepted p n a 0 cs [] none
+unfolding numbers-room number-test
+constants-accepted h = record {
+  prime = h .prime;
+  p-most = h .p-most;
+  n-least = h .n-least;
+  n-most = h .n-most;
+  a-most = h .a-most;
+  b-most = omega arith;
+  constants-lent = h .constants-lent;
+  parameters-lent = omega arith;
+  numbers-lent = refl;
+  constants-below = h .constants-below;
+  parameters-within = tt;
+  numbers-once = refl;
+}

@@ -64,7 +64,7 @@ module _ (before after : Tests) (least : ℕ) (WrittenOver : List ℕ → List �
   pub refused-around : least ≤ length area → (r : ℕ) → r ≡ first-refusal (before then after) → r ≢ 0 → AreaCall before after least WrittenOver area r area
   refused-around l r e h = refused-as r (e ∙ sym (area-passes before after least area l)) h
 
--- an area that is read beside it is too short, or not
+-- a second area, which is read, is too short; or it is long enough
 pub refused-beside : (before us : Tests) (t : Bool) (least : ℕ) (WrittenOver : List ℕ → List ℕ → Type 0) (area : List ℕ) → least ≤ length area → t ≡ false
     → (r : ℕ) → r ≡ first-refusal (before then unless false area-short) → AreaCall before (unless t area-short then us) least WrittenOver area r area
 refused-beside before us t least WrittenOver area l e r h = rw e (refused-around before (unless false area-short then us) least WrittenOver area l r (h ∙ sym (failed-last before us area-short))

@@ -17,7 +17,7 @@ use Rattle.rank.specs.Verdict.{verdict-number}
 use Rattle.rank.specs.Linear.Independence.{Σ, dot}
 use Rattle.rank.specs.Layered.Model.{Seat, out, constant, row, same-row, has-parameter, legal}
 use Rattle.rank.specs.Layered.Rank.{seat, constant-rank, sum, last-seat, largest-assignment, some-assignment, row-outside, matching, rank, placeable, taken, placed, short, verdict}
-use Rattle.rank.specs.Independent.{is-zero, in-kernel, independent}
+use Rattle.rank.specs.Independent.{is-zero, last-coefficient, in-kernel, independent}
 use Rattle.rank.specs.Steps.{Step, place, remove, move, named, accepted, done, after, after-list, result}
 use Rattle.mixed_models.specs.Mixed.{mixed-at, rows-in, unit, mixed-sum, mixed-rank, layered-form}
 use Rattle.mixed_models.specs.Starred.Models.{S1, S2, S5}
@@ -26,7 +26,7 @@ use Rattle.mixed_models.specs.Starred.Models.{S1, S2, S5}
 
 -- all that has to be opened to run the definitions
 unfoldable run : ℕ
-unfolding residues res mk plus times Σ dot members indicator # all any choose set touching beside greatest largest some every membership largest-part every-part same-row has-parameter legal seat constant-rank sum last-seat largest-assignment some-assignment row-outside matching rank placeable taken placed short verdict verdict-number is-zero in-kernel independent decide ℕ-discrete decLe decLt
+unfolding residues res mk plus times Σ dot members indicator # all any choose set touching beside greatest largest some every membership largest-part every-part same-row has-parameter legal seat constant-rank sum last-seat largest-assignment some-assignment row-outside matching rank placeable taken placed short verdict verdict-number is-zero last-coefficient in-kernel independent decide ℕ-discrete decLe decLt
 run = 0
 
 -- S1, at its prime 1,021

@@ -1,12 +1,9 @@
 -- The question about a model that is judged: what it asks of columns, and that the solver takes the constants. Assumes nothing.
 use Prim.Native.Nat.{ℕ, _+_, _*_, _≤_, _<_}
-use mathlib.Core.Path.{_≡_, refl, sym, ap, _∙_, subst}
+use mathlib.Core.Path.{_≡_, subst}
 use mathlib.Core.Bool.{Bool, true, false}
 use mathlib.Core.List.{List, [], flatten}
-use mathlib.Core.Option.{Option, none}
-use native.Mathlib.Omega.{arith}
-use lib.Dec.{ltb}
-use lib.ListN.{getD}
+use mathlib.Core.Option.{none}
 use borrow.Author.Tests.{lt-ltb, le-ltb}
 use Rattle.residue.specs.Residues.{res}
 use Rattle.counting.specs.Bools.{and-in}
@@ -14,15 +11,14 @@ use Rattle.counting.specs.Sets.{Set}
 use Rattle.columns.specs.Columns.{within}
 use Rattle.columns.specs.Words.Bytes.{AreBytes}
 use Rattle.rank.specs.Modulus.{modulus}
-use Rattle.exchange.specs.Depending.{askable, Dependent}
-use Rattle.format.specs.Refusals.{first-refusal, column-beyond, column-test, numbers-room, number-test}
+use Rattle.exchange.specs.DependenceCall.{askable, DependenceShown, ListedDependenceShown}
+use Rattle.format.specs.Refusals.{first-refusal, column-beyond, column-test}
 use Rattle.format.specs.RefusalLaws.{first-fails, first-passes, first-none}
-use Rattle.format.specs.TestLaws.{Accepted, model-accepted, column-reads}
+use Rattle.format.specs.TestLaws.{Accepted, column-reads}
 use Rattle.format.specs.File.Format.{decode, RowsCall}
 use Rattle.layered.proofs.AnswerLaws.{accepted-admissible}
 use Rattle.layered.proofs.FileLaws.{own-constants, own-parameters, own-made}
-use Rattle.multipliers.specs.declared.Multipliers.{Multipliers}
-use Rattle.multipliers.specs.Answers.{column-question, Answered, FileAnswered}
+use Rattle.multipliers.specs.Answers.{column-question}
 
 -- ---- what is asked of columns
 
@@ -40,33 +36,16 @@ module _ (n held x : ℕ) where
 
 -- ---- what the solver takes
 
--- the constants of an accepted model, without its parameter rows
-pub constants-accepted : {p n a b : ℕ} {cs ws : List ℕ} {ns : Option (List ℕ)} → Accepted p n a b cs ws ns → Accepted p n a 0 cs [] none
-unfolding numbers-room number-test
-constants-accepted h = record {
-  prime = h .prime;
-  p-most = h .p-most;
-  n-least = h .n-least;
-  n-most = h .n-most;
-  a-most = h .a-most;
-  b-most = omega arith;
-  constants-lent = h .constants-lent;
-  parameters-lent = omega arith;
-  numbers-lent = refl;
-  constants-below = h .constants-below;
-  parameters-within = tt;
-  numbers-once = refl;
-}
-
 pub accepted-askable : {p n a : ℕ} {cs : List ℕ} → Accepted p n a 0 cs [] none → (held x : ℕ) → within n held ≡ true → x < n → askable p n a held x cs ≡ true
 unfolding askable
 accepted-askable {p} {n} h held x inside l = and-in (accepted-admissible h held inside) (lt-ltb x n l)
 
 -- ---- the file's constants, as they were read
 
-pub own-answered : {s : List ℕ} (bytes : AreBytes s) {k p n a b : ℕ} {t : Bool} {cs′ ws′ : List ℕ} → RowsCall s own-constants own-parameters k p n a b t cs′ ws′ → k ≡ 0
-    → (H : Set) (x : ℕ) (r : Multipliers) → Answered p n a cs′ H x r → FileAnswered s H x r
-own-answered bytes call ok H x r = subst (λ (X : Type 0). X) (own-made bytes call ok by-elements)
+pub own-shown : {s : List ℕ} (bytes : AreBytes s) {k p n a b : ℕ} {t : Bool} {cs′ ws′ : List ℕ} → RowsCall s own-constants own-parameters k p n a b t cs′ ws′ → k ≡ 0
+    → (H : Set) (x the-outcome : ℕ) (the-multipliers : List ℕ) → ListedDependenceShown p n a cs′ H x the-outcome the-multipliers
+    → ListedDependenceShown (decode s .p) (decode s .n) (decode s .a) (flatten (decode s .constants)) H x the-outcome the-multipliers
+own-shown bytes call ok H x the-outcome the-multipliers = subst (λ (X : Type 0). X) (own-made bytes call ok by-elements)
   where
     by-elements : (p n a b : ℕ) (c w : ℕ → ℕ) → Type 0
-    by-elements p n a b c w = Dependent p n a (λ i y. res (modulus p .0) (modulus p .1) (c (i * n + y))) H x (r .outcome) (r .multipliers)
+    by-elements p n a b c w = DependenceShown p n a (λ i y. res (modulus p .0) (modulus p .1) (c (i * n + y))) H x the-outcome the-multipliers

@@ -6,11 +6,11 @@ use mathlib.Core.Option.{Option}
 use lib.ListN.{replicate}
 use Rattle.limits.specs.Limits.{most-columns}
 use Rattle.counting.specs.Sets.{Set}
-use Rattle.columns.specs.Columns.{members, within}
+use Rattle.columns.specs.Columns.{members}
 use Rattle.columns.specs.ColumnSets.{whole}
 use Rattle.columns.specs.declared.ColumnSet.{ColumnSet}
-use Rattle.exchange.specs.Depending.{ListedDependent}
-use Rattle.format.specs.Refusals.{Tests, unless, _then_, first-refusal, column-beyond, column-test, model-tests}
+use Rattle.exchange.specs.DependenceCall.{ListedDependenceShown}
+use Rattle.format.specs.Refusals.{Tests, _then_, first-refusal, named-column, held-columns, model-tests}
 use Rattle.format.specs.File.Piece.{closed}
 use Rattle.format.specs.File.Format.{fields, decode}
 use Rattle.layered.specs.Answers.{RankCall}
@@ -18,7 +18,7 @@ use Rattle.multipliers.specs.declared.Multipliers.{Multipliers}
 
 -- what the question asks of n columns: 11 where the named column x, or one of the set with the number held, is n or more
 abbrev pub column-question : (n held x : ℕ) → Tests
-column-question n held x = unless (column-test x n) column-beyond then unless (within n held) column-beyond
+column-question n held x = named-column n x then held-columns n held
 
 -- a refusal has the outcome 0, and 0 for each multiplier
 pub record Unanswered (r : Multipliers) : Type 0 where
@@ -28,7 +28,7 @@ pub record Unanswered (r : Multipliers) : Type 0 where
 -- the answer: how column x depends on the columns in H, over the constants cs of a rows and n columns modulo p. `outcome` and `given` of the crate
 -- dependence say what its numbers are.
 abbrev pub Answered : (p n a : ℕ) (cs : List ℕ) (H : Set) (x : ℕ) (r : Multipliers) → Type 0
-Answered p n a cs H x r = ListedDependent p n a cs H x (r .outcome) (r .multipliers)
+Answered p n a cs H x r = ListedDependenceShown p n a cs H x (r .outcome) (r .multipliers)
 
 -- the question about a model that is judged
 abbrev pub Asked : (p n a : ℕ) (cs : List ℕ) (held : ColumnSet) (x : ℕ) → Multipliers → Type 0

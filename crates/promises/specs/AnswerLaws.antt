@@ -55,6 +55,13 @@ module _ (k : ℕ) (xs ys : List ℕ) (e : take k xs ≡ take k ys) where
       (λ t. area-reads k (length ys) .1 (g .1 (let m = f .0 (area-reads k (length xs) .0 t) in omega arith)))
       (λ t. area-reads k (length xs) .1 (f .1 (let m = g .0 (area-reads k (length ys) .0 t) in omega arith)))
 
+-- constants with the same front, row by row
+pub constant-same : (n a : ℕ) (cs ds : List ℕ) → take (a * n) cs ≡ take (a * n) ds → (i x : ℕ) → i < a → x < n → getD cs (i * n + x) 0 ≡ getD ds (i * n + x) 0
+constant-same n a cs ds e i x l m =
+    let h : suc i * n ≤ a * n = mul-le-mul-right n l in
+    let k : suc i * n ≡ i * n + n = suc-mul i n in
+    front-at (a * n) cs ds e (i * n + x) (omega arith)
+
 -- two areas of numbers, or none, from which the parameters of b rows have the same numbers
 pub record SameNumbers (n b : ℕ) (ws : List ℕ) (ns ms : Option (List ℕ)) : Type 0 where
   pub room-same : numbers-room (b * n) ns ≡ numbers-room (b * n) ms
@@ -104,15 +111,9 @@ module _ (p n a b : ℕ) (cs ds ws vs : List ℕ) (ec : take (a * n) cs ≡ take
 
   -- ---- the layered answer
 
-  constant-same : (i x : ℕ) → i < a → x < n → getD cs (i * n + x) 0 ≡ getD ds (i * n + x) 0
-  constant-same i x l m =
-      let h : suc i * n ≤ a * n = mul-le-mul-right n l in
-      let k : suc i * n ≡ i * n + n = suc-mul i n in
-      front-at (a * n) cs ds ec (i * n + x) (omega arith)
-
   agree : Agree (modulus p .0) (modulus p .1) n a b (listed-model p n a b cs ws .Q) (listed-model p n a b ds vs .Q) (listed-model p n a b cs ws .T) (listed-model p n a b ds vs .T)
   agree = record {
-    constants = λ i x l m. ap (res (modulus p .0) (modulus p .1)) (constant-same i x l m);
+    constants = λ i x l m. ap (res (modulus p .0) (modulus p .1)) (constant-same n a cs ds ec i x l m);
     parameters = λ r x l m. ap (λ (w : ℕ). members w x) (front-at b ws vs ew r l);
   }
 
@@ -163,7 +164,7 @@ module _ (p n a b : ℕ) (cs ds ws vs : List ℕ) (ec : take (a * n) cs ≡ take
       constants = λ i x l m. low-or-high a x
           (λ j. beside-low a (unit (X .K) i) (X .Q i) x j ∙ sym (beside-low a (unit (Y .K) i) (Y .Q i) x j))
           (λ y f. let my : y < n = omega arith in
-          rw f (beside-high a (unit (X .K) i) (X .Q i) y ∙ ap (res (modulus p .0) (modulus p .1)) (constant-same i y l my)
+          rw f (beside-high a (unit (X .K) i) (X .Q i) y ∙ ap (res (modulus p .0) (modulus p .1)) (constant-same n a cs ds ec i y l my)
           ∙ sym (beside-high a (unit (Y .K) i) (Y .Q i) y)));
       parameters = λ r x l m. low-or-high a x
           (λ j. beside-low a (λ j. decide (ℕ-discrete r j)) (X .T r) x j ∙ sym (beside-low a (λ j. decide (ℕ-discrete r j)) (Y .T r) x j))

@@ -1,18 +1,16 @@
 -- What the promise of the call about multipliers says in plain numbers, and that nothing but the constants counts. Assumes nothing.
-use Prim.Native.Nat.{ℕ, _+_, _*_, _%_, _≤_, _<_}
-use mathlib.Core.Path.{_≡_, refl, sym, ap, _∙_, subst, fun-ext}
-use mathlib.Core.Logic.{_≢_, _↔_, inl, inr}
-use mathlib.Core.Bool.{true, false}
+use Prim.Native.Nat.{ℕ, _+_, _*_, _%_, _<_}
+use mathlib.Core.Path.{_≡_, sym, ap, _∙_, subst, fun-ext}
+use mathlib.Core.Logic.{_≢_, _↔_}
 use mathlib.Core.List.{List}
 use mathlib.Core.Option.{Option}
 use native.Mathlib.Omega.{arith}
-use native.Mathlib.Nat.{suc-mul, mul-le-mul-right}
 use native.Mathlib.Decide.{decLt}
 use lib.ListN.{length, getD, take, List·getD-eq-default}
 use Rattle.limits.specs.Limits.{most-columns}
 use Rattle.residue.specs.Arithmetic.{Prime}
 use Rattle.residue.specs.Primes.{prime→test}
-use Rattle.residue.specs.Residues.{residues, res, num-of, num-of-res, res-zero}
+use Rattle.residue.specs.Residues.{residues, res, num-of, num-of-res, res-num-of, res-zero}
 use Rattle.counting.specs.Sets.{Set, _∈_}
 use Rattle.columns.specs.Columns.{members, within}
 use Rattle.columns.specs.ColumnSets.{whole, Fits}
@@ -22,21 +20,21 @@ use Rattle.columns.specs.Words.Sets.{columns-below}
 use Rattle.rank.specs.Modulus.{modulus}
 use Rattle.rank.specs.ModulusLaws.{modulus-is}
 use Rattle.rank.specs.Linear.Independence.{Indep}
-use Rattle.rank.specs.Independent.{independent}
 use Rattle.rank.specs.IndependentLaws.{cut, cut-below, independent-iff}
 use Rattle.rank.specs.ListedModel.{constant-at}
 use Rattle.rank.specs.ListedModelLaws.{OnlyZero, independent-reads}
-use Rattle.dependence.specs.Multipliers.{Depends, given, listing}
+use Rattle.dependence.specs.Multipliers.{Depends, given}
 use Rattle.dependence.specs.PlainNumbers.{SumsTo, plain-multipliers, residue-multipliers}
-use Rattle.dependence.specs.NumberLaws.{given-below, given-not-held, multiplier-given, listing-at, listing-length, listing-same, outcome-same, given-same}
+use Rattle.dependence.specs.NumberLaws.{given-below, given-not-held, multiplier-given, outcome-same, given-same}
+use Rattle.dependence.specs.Listing.{listing-at, listing-length, listing-same}
 use Rattle.dependence.specs.Theorems as Theory
-use Rattle.exchange.specs.Depending.{ListedDependent}
+use Rattle.exchange.specs.DependenceCall.{ListedDependenceShown}
 use Rattle.format.specs.Refusals.{unless, first-refusal, column-beyond, column-test, model-tests, refusal}
 use Rattle.format.specs.RefusalLaws.{then-zero, unless-zero}
 use Rattle.format.specs.TestLaws.{Accepted, model-accepted, column-reads}
 use Rattle.multipliers.specs.Answers.{column-question, MultipliersCall}
 use Rattle.multipliers.specs.declared.Multipliers.{Multipliers}
-use Rattle.promises.specs.AnswerLaws.{front-at}
+use Rattle.promises.specs.AnswerLaws.{constant-same}
 
 -- a call that is accepted
 module _ (p n a b : ℕ) (cs ws : List ℕ) (ns : Option (List ℕ)) (held : ColumnSet) (fits : Fits held) (x : ℕ) (r : Multipliers)
@@ -69,7 +67,7 @@ module _ (p n a b : ℕ) (cs ws : List ℕ) (ns : Option (List ℕ)) (held : Col
   pub held-below : (j : ℕ) → j ∈ H → j < n
   held-below j e = within-iff n (whole held) .0 (unless-zero (within n (whole held)) column-beyond (columns .1)) j (columns-below held j fits e) e
 
-  answer : ListedDependent p n a cs H x (r .outcome) (r .multipliers)
+  answer : ListedDependenceShown p n a cs H x (r .outcome) (r .multipliers)
   answer = call .if-accepted (sym (call .is-refusal) ∙ ok)
 
   q-is : q ≡ p
@@ -105,8 +103,26 @@ module _ (p n a b : ℕ) (cs ws : List ℕ) (ns : Option (List ℕ)) (held : Col
   as-residues : (c : ℕ → ℕ) → SumsTo p n a cs H x c → Depends (residues q P) a n Q H x (cut q P n (λ j. res q P (c j)))
   as-residues c s = residue-multipliers q P n a cs H x c (subst (λ (k : ℕ). SumsTo k n a cs H x c) (sym q-is) s)
 
-  pub says-apart : r .outcome ≡ 0 → (c : ℕ → ℕ) → SumsTo p n a cs H x c → ⊥
-  says-apart e c s = Theory.outcome-0 q P a n Q H x .0 (sym (answer .outcome-is) ∙ e) .1 _ (as-residues c s)
+  -- and back
+  as-numbers : (c : ℕ → residues q P .F) → Depends (residues q P) a n Q H x c → SumsTo p n a cs H x (λ j. num-of q P (c j))
+  as-numbers c m =
+      subst (λ (k : ℕ). SumsTo k n a cs H x (λ j. num-of q P (c j))) q-is
+      (plain-multipliers q P n a cs H x (λ j. num-of q P (c j)) (subst (Depends (residues q P) a n Q H x) (sym (fun-ext (λ j. res-num-of q P (c j)))) m))
+
+  pub says-independent : (r .outcome ≡ 0) ↔ (OnlyZero p n a cs H × ((c : ℕ → ℕ) → SumsTo p n a cs H x c → ⊥))
+  says-independent = (
+    λ e. let w = Theory.outcome-0 q P a n Q H x .0 (sym (answer .outcome-is) ∙ e) in (plain-independent .0 (w .0), λ c s. w .1 _ (as-residues c s)),
+    λ w. answer .outcome-is ∙ Theory.outcome-0 q P a n Q H x .1 (plain-independent .1 (w .0), λ c m. w .1 _ (as-numbers c m)),
+  )
+
+  pub says-depends : (r .outcome ≡ 1) ↔ (OnlyZero p n a cs H × ((c : ℕ → ℕ) × SumsTo p n a cs H x c))
+  says-depends = (
+    λ e. let w = Theory.outcome-1 q P a n Q H x .0 (sym (answer .outcome-is) ∙ e) in (plain-independent .0 (w .0), (_, as-numbers (w .1 .0) (w .1 .1))),
+    λ w. answer .outcome-is ∙ Theory.outcome-1 q P a n Q H x .1 (plain-independent .1 (w .0), (_, as-residues (w .1 .0) (w .1 .1))),
+  )
+
+  pub none-given-otherwise : r .outcome ≢ 1 → (j : ℕ) → getD (r .multipliers) j 0 ≡ 0
+  none-given-otherwise ne j = at j ∙ Theory.given-with-1-alone q P a n Q H x (λ e. ne (answer .outcome-is ∙ e)) j
 
   module _ (e : r .outcome ≡ 1) where
     depends : Indep (residues q P) a n Q H × ((c : ℕ → residues q P .F) × Depends (residues q P) a n Q H x c)
@@ -138,22 +154,22 @@ module _ (p n a b : ℕ) (cs ws : List ℕ) (ns : Option (List ℕ)) (held : Col
 -- two calls with the same constants, whatever the parameter rows, their numbers, and what stands behind the constants
 module _ (p n a : ℕ) (cs ds : List ℕ) (same : take (a * n) cs ≡ take (a * n) ds) (held : ColumnSet) (fits : Fits held) (x : ℕ) (b b′ : ℕ) (ws ws′ : List ℕ) (ns ns′ : Option (List ℕ))
     (r s : Multipliers) (call : MultipliersCall p n a b cs ws ns held x r) (other : MultipliersCall p n a b′ ds ws′ ns′ held x s) (ok : r .refusal ≡ 0) (ok′ : s .refusal ≡ 0) where
-  row-below : (i j : ℕ) → i < a → j < n → i * n + j < a * n
-  row-below i j li lj = omega (arith, suc-mul i n, mul-le-mul-right n li)
-
   agree : (i j : ℕ) → i < a → j < n → constant-at (modulus p .0) (modulus p .1) n cs i j ≡ constant-at (modulus p .0) (modulus p .1) n ds i j
-  agree i j li lj = ap (res (modulus p .0) (modulus p .1)) (front-at (a * n) cs ds same (i * n + j) (row-below i j li lj))
+  agree i j li lj = ap (res (modulus p .0) (modulus p .1)) (constant-same n a cs ds same i j li lj)
 
-  pub constants-decide : (r .outcome ≡ s .outcome) × ((j : ℕ) → getD (r .multipliers) j 0 ≡ getD (s .multipliers) j 0)
+  same-given : (j : ℕ) → given (modulus p .0) (modulus p .1) a n (constant-at (modulus p .0) (modulus p .1) n cs) (members (whole held)) x j
+      ≡ given (modulus p .0) (modulus p .1) a n (constant-at (modulus p .0) (modulus p .1) n ds) (members (whole held)) x j
+  same-given j = elim (decLt j n) [
+    | yes l ↦ given-same (modulus p .0) (modulus p .1) a n _ _ agree (members (whole held)) x (column-below p n a b cs ws ns held fits x r call ok) j l
+    | no nl ↦
+        let out : j ∈ members (whole held) → ⊥ = λ e. nl (held-below p n a b cs ws ns held fits x r call ok j e) in
+        given-not-held (modulus p .0) (modulus p .1) a n _ (members (whole held)) x j out ∙ sym (given-not-held (modulus p .0) (modulus p .1) a n _ (members (whole held)) x j out)
+  ]
+
+  pub constants-decide : (r .outcome ≡ s .outcome) × (r .multipliers ≡ s .multipliers)
   constants-decide =
-      let lx = column-below p n a b cs ws ns held fits x r call ok in (
-        answer p n a b cs ws ns held fits x r call ok .outcome-is
-            ∙ outcome-same (modulus p .0) (modulus p .1) a n _ _ agree (members (whole held)) x lx
-            ∙ sym (answer p n a b′ ds ws′ ns′ held fits x s other ok′ .outcome-is),
-        λ j. at p n a b cs ws ns held fits x r call ok j ∙ elim (decLt j n) [
-          | yes l ↦ given-same (modulus p .0) (modulus p .1) a n _ _ agree (members (whole held)) x lx j l
-          | no nl ↦
-              let out : j ∈ members (whole held) → ⊥ = λ e. nl (held-below p n a b cs ws ns held fits x r call ok j e) in
-              given-not-held (modulus p .0) (modulus p .1) a n _ (members (whole held)) x j out ∙ sym (given-not-held (modulus p .0) (modulus p .1) a n _ (members (whole held)) x j out)
-        ] ∙ sym (at p n a b′ ds ws′ ns′ held fits x s other ok′ j),
+      let first = answer p n a b cs ws ns held fits x r call ok in
+      let second = answer p n a b′ ds ws′ ns′ held fits x s other ok′ in (
+        first .outcome-is ∙ outcome-same (modulus p .0) (modulus p .1) a n _ _ agree (members (whole held)) x (column-below p n a b cs ws ns held fits x r call ok) ∙ sym (second .outcome-is),
+        first .multipliers-are ∙ listing-same most-columns _ _ (λ j l. same-given j) ∙ sym (second .multipliers-are),
       )

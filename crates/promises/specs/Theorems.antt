@@ -54,7 +54,7 @@ use Rattle.promises.specs.AnswerLaws.{refusal-same, mixed-refusal-same, 
 use Rattle.promises.specs.NumberingLaws.{numbers-front, front-same, named, mixed-unnumbered, picked-same, without-numbers, file-unnumbered}
 use Rattle.promises.specs.RowLaws.{determined-rows, surplus-rows}
 use Rattle.promises.specs.ShownLaws.{ShownWhole, answer-shown-whole, mixed-shown-whole}
-use Rattle.promises.specs.MultiplierLaws.{says-dependent, says-apart, numbers-sum, numbers-only, number-below, number-not-held, held-itself, zero-itself, constants-decide}
+use Rattle.promises.specs.MultiplierLaws.{says-dependent, says-depends, says-independent, none-given-otherwise, numbers-sum, numbers-only, number-below, number-not-held, held-itself, zero-itself, constants-decide}
 use Rattle.promises.specs.DocumentFile.{document-file, document-accepted, document-model}
 
 -- ---- read and written, written and read
@@ -208,15 +208,22 @@ unnumbered-file = file-unnumbered
 -- A call about multipliers that is accepted, of held columns and a named column x
 module _ (p n a b : ℕ) (cs ws : List ℕ) (ns : Option (List ℕ)) (held : ColumnSet) (fits : Fits held) (x : ℕ) (r : Multipliers)
     (call : MultipliersCall p n a b cs ws ns held x r) (ok : r .refusal ≡ 0) where
-  -- The outcome 2 says that the held columns are dependent modulo p, and no other outcome does.
-  pub outcome-2-says-dependent : (r .outcome ≡ 2) ↔ (OnlyZero p n a cs (members (whole held)) → ⊥)
-  outcome-2-says-dependent = says-dependent p n a b cs ws ns held fits x r call ok
+  -- What each outcome says, in plain numbers: 2, the held columns are dependent modulo p; 1, they are not, and some numbers are multipliers of the named
+  -- column; 0, they are not, and no numbers are.
+  pub outcome-2-says : (r .outcome ≡ 2) ↔ (OnlyZero p n a cs (members (whole held)) → ⊥)
+  outcome-2-says = says-dependent p n a b cs ws ns held fits x r call ok
 
-  -- The outcome 0 says that no numbers are multipliers of the named column.
-  pub outcome-0-says-apart : r .outcome ≡ 0 → (c : ℕ → ℕ) → SumsTo p n a cs (members (whole held)) x c → ⊥
-  outcome-0-says-apart = says-apart p n a b cs ws ns held fits x r call ok
+  pub outcome-1-says : (r .outcome ≡ 1) ↔ (OnlyZero p n a cs (members (whole held)) × ((c : ℕ → ℕ) × SumsTo p n a cs (members (whole held)) x c))
+  outcome-1-says = says-depends p n a b cs ws ns held fits x r call ok
 
-  -- With the outcome 1 the multipliers given are its multipliers, in plain numbers,
+  pub outcome-0-says : (r .outcome ≡ 0) ↔ (OnlyZero p n a cs (members (whole held)) × ((c : ℕ → ℕ) → SumsTo p n a cs (members (whole held)) x c → ⊥))
+  outcome-0-says = says-independent p n a b cs ws ns held fits x r call ok
+
+  -- Multipliers are given with the outcome 1 alone.
+  pub multipliers-with-1-alone : r .outcome ≢ 1 → (j : ℕ) → getD (r .multipliers) j 0 ≡ 0
+  multipliers-with-1-alone = none-given-otherwise p n a b cs ws ns held fits x r call ok
+
+  -- Those given are the multipliers of the named column, in plain numbers,
   pub multipliers-sum-to-the-column : r .outcome ≡ 1 → SumsTo p n a cs (members (whole held)) x (λ j. getD (r .multipliers) j 0)
   multipliers-sum-to-the-column = numbers-sum p n a b cs ws ns held fits x r call ok
 
@@ -243,7 +250,7 @@ module _ (p n a b : ℕ) (cs ws : List ℕ) (ns : Option (List ℕ)) (held : Col
 -- Two calls with the same constants say the same, whatever the parameter rows, their numbers, and what stands behind the constants.
 pub constants-alone-decide : (p n a : ℕ) (cs ds : List ℕ) → take (a * n) cs ≡ take (a * n) ds → (held : ColumnSet) → Fits held → (x b b′ : ℕ) (ws ws′ : List ℕ) (ns ns′ : Option (List ℕ))
     (r s : Multipliers) → MultipliersCall p n a b cs ws ns held x r → MultipliersCall p n a b′ ds ws′ ns′ held x s → r .refusal ≡ 0 → s .refusal ≡ 0
-    → (r .outcome ≡ s .outcome) × ((j : ℕ) → getD (r .multipliers) j 0 ≡ getD (s .multipliers) j 0)
+    → (r .outcome ≡ s .outcome) × (r .multipliers ≡ s .multipliers)
 constants-alone-decide = constants-decide
 
 -- ---- rows used and left over

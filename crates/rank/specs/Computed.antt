@@ -15,7 +15,7 @@ use Rattle.rank.specs.Linear.Independence.{Σ, dot}
 use Rattle.rank.specs.Verdict.{verdict-number}
 use Rattle.rank.specs.Layered.Model.{Model, same-row, has-parameter, legal}
 use Rattle.rank.specs.Layered.Rank.{seat, constant-rank, sum, last-seat, largest-assignment, some-assignment, row-outside, matching, rank, placeable, taken, placed, short, verdict}
-use Rattle.rank.specs.Independent.{is-zero, in-kernel, independent}
+use Rattle.rank.specs.Independent.{is-zero, last-coefficient, in-kernel, independent}
 use Rattle.rank.specs.ModelModulo.{model-modulo}
 
 -- ---- independence
@@ -28,7 +28,7 @@ both q P cs = independent q P 2 2 (λ i x. res q P (getD cs (i * 2 + x) 0)) (λ 
 -- 1 2 and 2 1 are dependent modulo 3 and independent modulo 5
 independence : (P : Prime 3) (R : Prime 5) → (both 3 P (1 ∷ 0 ∷ 0 ∷ 1 ∷ []) ≡ true) × (both 3 P (0 ∷ 1 ∷ 1 ∷ 0 ∷ []) ≡ true)
     × (both 3 P (1 ∷ 1 ∷ 1 ∷ 1 ∷ []) ≡ false) × (both 3 P (1 ∷ 2 ∷ 2 ∷ 1 ∷ []) ≡ false) × (both 5 R (1 ∷ 2 ∷ 2 ∷ 1 ∷ []) ≡ true)
-unfolding residues res mk plus times Σ dot indicator all choose set greatest largest some every is-zero in-kernel independent decide ℕ-discrete decLt
+unfolding residues res mk plus times Σ dot indicator all choose set greatest largest some every is-zero last-coefficient in-kernel independent decide ℕ-discrete decLt
 independence P R = (refl, refl, refl, refl, refl)
 
 -- ---- layered models, modulo 2
@@ -51,7 +51,7 @@ module _ (P : Prime 2) where
 
   -- all that has to be opened to run the definitions
   unfoldable run : ℕ
-  unfolding residues res mk plus times Σ dot members indicator # all any choose set touching greatest largest some every membership largest-part every-part is-zero in-kernel independent same-row has-parameter legal seat constant-rank sum last-seat largest-assignment some-assignment row-outside matching rank placeable taken placed short verdict verdict-number decide ℕ-discrete decLe decLt
+  unfolding residues res mk plus times Σ dot members indicator # all any choose set touching greatest largest some every membership largest-part every-part is-zero last-coefficient in-kernel independent same-row has-parameter legal seat constant-rank sum last-seat largest-assignment some-assignment row-outside matching rank placeable taken placed short verdict verdict-number decide ℕ-discrete decLe decLt
   run = 0
 
   -- two equal constant columns and no parameter: one is placed, both are short

@@ -12,6 +12,10 @@ use Rattle.rank.specs.Linear.Independence.{dot}
 unfoldable pub is-zero : (q : ℕ) (P : Prime q) → residues q P .F → Bool
 is-zero q P x = decide (residues q P .decide x (residues q P .𝟘))
 
+-- the last coefficient that is tried: those of a column in S are 0 .. q - 1, that of any other column is 0
+unfoldable pub last-coefficient : ℕ → Set → ℕ → ℕ
+last-coefficient q S x = cond (S x) (q - 1) 0
+
 -- a constant rows and n columns of residues modulo the prime q
 module _ (q : ℕ) (P : Prime q) (a n : ℕ) (Q : ℕ → ℕ → residues q P .F) where
   open Field (residues q P) using (F)
@@ -20,7 +24,6 @@ module _ (q : ℕ) (P : Prime q) (a n : ℕ) (Q : ℕ → ℕ → residues q P .
   unfoldable pub in-kernel : (ℕ → F) → Bool
   in-kernel c = all a (λ i. is-zero q P (dot (residues q P) n (Q i) c))
 
-  -- every combination of the columns in S that is zero in each constant row has only zero coefficients. The coefficient of a column in S is one of
-  -- 0 .. q - 1, that of any other column is 0.
+  -- every combination of the columns in S that is zero in each constant row has only zero coefficients
   unfoldable pub independent : Set → Bool
-  independent S = every (res q P) (λ x. cond (S x) (q - 1) 0) n (λ c. not (in-kernel c) || all n (λ j. is-zero q P (c j)))
+  independent S = every (res q P) (last-coefficient q S) n (λ c. not (in-kernel c) || all n (λ j. is-zero q P (c j)))

@@ -2,7 +2,7 @@
 use Prim.Native.Nat.{ℕ, _-_, _≤_, _<_}
 use mathlib.Core.Path.{_≡_, refl, sym, ap, _∙_}
 use mathlib.Core.Logic.{_↔_}
-use mathlib.Core.Bool.{true, not, _||_, cond, decide-iff}
+use mathlib.Core.Bool.{true, not, _||_, decide-iff}
 use native.Mathlib.Omega.{arith}
 use native.Mathlib.Decide.{decLt}
 use Rattle.residue.specs.Arithmetic.{Prime}
@@ -14,7 +14,7 @@ use Rattle.counting.specs.Counts.{all-iff}
 use Rattle.counting.specs.ChoiceLaws.{Chosen, every-iff, cond-true, cond-false}
 use Rattle.rank.specs.Linear.Independence.{dot, In, InKernel, Indep}
 use Rattle.rank.specs.Linear.Sums.{dot-cong}
-use Rattle.rank.specs.Independent.{is-zero, in-kernel, independent}
+use Rattle.rank.specs.Independent.{is-zero, last-coefficient, in-kernel, independent}
 
 module _ (q : ℕ) (P : Prime q) (n : ℕ) where
   open Field (residues q P) using (F)
@@ -47,11 +47,8 @@ module _ (q : ℕ) (P : Prime q) (a n : ℕ) (Q : ℕ → ℕ → residues q P .
 
   module _ (S : Set) where
     -- the coefficients that the test runs over are those that are zero outside S
-    unfoldable pub last-choice : ℕ → ℕ
-    last-choice x = cond (S x) (q - 1) 0
-
-    pub cut-chosen : (c : ℕ → F) → In (residues q P) S c → Chosen (res q P) last-choice n (cut q P n c)
-    unfolding last-choice
+    pub cut-chosen : (c : ℕ → F) → In (residues q P) S c → Chosen (res q P) (last-coefficient q S) n (cut q P n c)
+    unfolding last-coefficient
     cut-chosen c h = record {
       inside = λ x l. elim (true? (S x)) [
         | yes s ↦ (
@@ -64,28 +61,28 @@ module _ (q : ℕ) (P : Prime q) (a n : ℕ) (Q : ℕ → ℕ → residues q P .
       beyond = λ x l. cut-beyond q P n c x l;
     }
 
-    pub chosen-in : (c : ℕ → F) → Chosen (res q P) last-choice n c → In (residues q P) S c
-    unfolding last-choice
+    pub chosen-in : (c : ℕ → F) → Chosen (res q P) (last-coefficient q S) n c → In (residues q P) S c
+    unfolding last-coefficient
     chosen-in c h x ns = elim (decLt x n) [
       | no nl ↦ h .beyond x (omega arith) ∙ res-zero _ P
       | yes l ↦
-          let w : (i : ℕ) × (i ≤ last-choice x) × (c x ≡ res q P i) = h .inside x l in
+          let w : (i : ℕ) × (i ≤ last-coefficient q S x) × (c x ≡ res q P i) = h .inside x l in
           let z : w .0 ≡ 0 = omega (arith, cond-false (S x) (q - 1) 0 ns) in
           w .2 ∙ ap (res q P) z ∙ res-zero _ P
     ]
 
     pub independent-iff : (independent q P a n Q S ≡ true) ↔ Indep (residues q P) a n Q S
-    unfolding independent last-choice
+    unfolding independent
     independent-iff = (
       λ e. record {
         only-zero = λ c h k j l.
             let t : (not (in-kernel q P a n Q (cut q P n c)) || all n (λ j. is-zero q P (cut q P n c j))) ≡ true
-            = every-iff (res q P) last-choice n (λ c. not (in-kernel q P a n Q c) || all n (λ j. is-zero q P (c j))) .0 e (cut q P n c) (cut-chosen c h) in
+            = every-iff (res q P) (last-coefficient q S) n (λ c. not (in-kernel q P a n Q c) || all n (λ j. is-zero q P (c j))) .0 e (cut q P n c) (cut-chosen c h) in
             let kc : in-kernel q P a n Q (cut q P n c) ≡ true = kernel-iff (cut q P n c) .1 (λ i li. dot-cong (residues q P) n (Q i) (cut q P n c) c (cut-below q P n c) ∙ k i li) in
             sym (cut-below q P n c j l) ∙ zero-iff _ .0 (all-iff n (λ j. is-zero q P (cut q P n c j)) .0
             (implied (in-kernel q P a n Q (cut q P n c)) (all n (λ j. is-zero q P (cut q P n c j))) t kc) j l);
       },
-      λ i. every-iff (res q P) last-choice n (λ c. not (in-kernel q P a n Q c) || all n (λ j. is-zero q P (c j))) .1 (λ c h.
+      λ i. every-iff (res q P) (last-coefficient q S) n (λ c. not (in-kernel q P a n Q c) || all n (λ j. is-zero q P (c j))) .1 (λ c h.
           implies (in-kernel q P a n Q c) (all n (λ j. is-zero q P (c j)))
           (λ k. all-iff n (λ j. is-zero q P (c j)) .1 (λ j l. zero-iff _ .1 (i .only-zero c (chosen-in c h) (kernel-iff c .0 k) j l)))),
     )

@@ -13,8 +13,8 @@ use Rattle.rank.specs.Verdict.{verdict-number}
 use Rattle.rank.specs.Linear.Independence.{Σ, dot}
 use Rattle.rank.specs.Layered.Model.{same-row, has-parameter, legal}
 use Rattle.rank.specs.Layered.Rank.{seat, constant-rank, sum, last-seat, largest-assignment, some-assignment, row-outside, matching, rank, placeable, taken, placed, short, verdict}
-use Rattle.rank.specs.Independent.{is-zero, in-kernel, independent}
+use Rattle.rank.specs.Independent.{is-zero, last-coefficient, in-kernel, independent}
 
 unfoldable pub computing : ℕ
-unfolding residues res mk plus times Σ dot members word-of indicator # all any choose set touching greatest largest some every membership largest-part every-part same-row has-parameter legal seat constant-rank sum last-seat largest-assignment some-assignment row-outside matching rank placeable taken placed short verdict verdict-number is-zero in-kernel independent decide ℕ-discrete decLe decLt modulus modulus-at true? is-prime undivided
+unfolding residues res mk plus times Σ dot members word-of indicator # all any choose set touching greatest largest some every membership largest-part every-part same-row has-parameter legal seat constant-rank sum last-seat largest-assignment some-assignment row-outside matching rank placeable taken placed short verdict verdict-number is-zero last-coefficient in-kernel independent decide ℕ-discrete decLe decLt modulus modulus-at true? is-prime undivided
 computing = 0

@@ -1,21 +1,22 @@
 -- What the promise of the call about multipliers rules out, on models of two constant rows modulo 3, and its order of refusals. Assumes nothing.
 use Prim.Native.Nat.{ℕ, _<_}
-use mathlib.Core.Path.{_≡_, refl, sym, ap, _∙_}
+use mathlib.Core.Path.{_≡_, refl, ap, _∙_}
 use mathlib.Core.Logic.{_≢_}
-use mathlib.Core.Option.{none}
-use mathlib.Core.List.{List, [], _∷_}
+use mathlib.Core.Option.{none, some}
+use mathlib.Core.List.{List, [], _∷_, flatten}
 use native.Mathlib.Omega.{arith}
-use lib.ListN.{length, getD, replicate}
+use lib.ListN.{getD, replicate}
 use Rattle.residue.specs.Residues.{num-of}
 use Rattle.limits.specs.Limits.{most-columns}
-use Rattle.counting.specs.Sets.{Set}
+use Rattle.counting.specs.Sets.{#}
 use Rattle.columns.specs.Columns.{members}
 use Rattle.columns.specs.ColumnSets.{whole}
 use Rattle.columns.specs.declared.ColumnSet.{ColumnSet}
 use Rattle.rank.specs.Modulus.{modulus}
 use Rattle.rank.specs.ListedModel.{constant-at}
-use Rattle.dependence.specs.Multipliers.{last-multiplier, sums-to, depends, multiplier, outcome, given, listing}
-use Rattle.dependence.specs.NumberLaws.{listing-at}
+use Rattle.dependence.specs.Multipliers.{sums-to, depends, multiplier, outcome, given}
+use Rattle.dependence.specs.Listing.{listing-at}
+use Rattle.format.specs.Numbers.{once, stands-in, parameter-count, picked, numbers-in}
 use Rattle.format.specs.Refusals.{_then_, first-refusal, column-test, model-tests}
 use Rattle.multipliers.specs.Answers.{column-question, MultipliersCall}
 use Rattle.multipliers.specs.declared.Multipliers.{Multipliers}
@@ -23,7 +24,7 @@ use Rattle.refutations.specs.Computing.{computing}
 use Rattle.refutations.specs.Accepted.{judging}
 
 unfoldable run : ℕ
-unfolding computing num-of whole last-multiplier sums-to depends multiplier outcome given
+unfolding computing num-of whole sums-to depends multiplier outcome given
 run = 0
 
 unfoldable asking : ℕ
@@ -69,8 +70,8 @@ pub sign-turned : (r : Multipliers) → Says (1 ∷ 0 ∷ 2 ∷ 0 ∷ 1 ∷ 1 �
 sign-turned r s e = omega (arith, shown (1 ∷ 0 ∷ 2 ∷ 0 ∷ 1 ∷ 1 ∷ []) 2 r s twice-asked 0 (omega arith), twice)
 
 -- it is said not to depend, or the held columns are called dependent
-pub depending-called-apart : (r : Multipliers) → Says (1 ∷ 0 ∷ 2 ∷ 0 ∷ 1 ∷ 1 ∷ []) 2 r → r .outcome ≢ 1 → ⊥
-depending-called-apart r s ne = ne (s .if-accepted twice-asked .outcome-is ∙ twice-depends)
+pub depending-called-independent : (r : Multipliers) → Says (1 ∷ 0 ∷ 2 ∷ 0 ∷ 1 ∷ 1 ∷ []) 2 r → r .outcome ≢ 1 → ⊥
+depending-called-independent r s ne = ne (s .if-accepted twice-asked .outcome-is ∙ twice-depends)
 
 -- the columns 0 and 1 are equal, and column 2 is twice either
 equal-asked : due (1 ∷ 1 ∷ 2 ∷ 1 ∷ 1 ∷ 2 ∷ []) 2 ≡ 0
@@ -103,10 +104,10 @@ unfolding run
 zero-outcome = refl
 
 -- it is said not to depend, since all its multipliers are 0
-pub zero-column-apart : (r : Multipliers) → Says (1 ∷ 0 ∷ 0 ∷ 0 ∷ 1 ∷ 0 ∷ []) 2 r → r .outcome ≡ 0 → ⊥
-zero-column-apart r s e = omega (arith, s .if-accepted zero-asked .outcome-is, zero-outcome)
+pub zero-column-called-independent : (r : Multipliers) → Says (1 ∷ 0 ∷ 0 ∷ 0 ∷ 1 ∷ 0 ∷ []) 2 r → r .outcome ≡ 0 → ⊥
+zero-column-called-independent r s e = omega (arith, s .if-accepted zero-asked .outcome-is, zero-outcome)
 
--- column 1, which is held, has itself for a multiplier
+-- column 1, which is held, has the multiplier 1 for itself
 held-asked : due (1 ∷ 0 ∷ 0 ∷ 0 ∷ 1 ∷ 0 ∷ []) 1 ≡ 0
 unfolding asking
 held-asked = refl
@@ -128,6 +129,11 @@ named-column-not-refused r s ne = ne (s .is-refusal)
 pub held-column-not-refused : (r : Multipliers) → MultipliersCall 3 1 0 0 [] [] none (record { low = 2; high = 0 }) 0 r → r .refusal ≢ 11 → ⊥
 unfolding asking
 held-column-not-refused r s ne = ne (s .is-refusal)
+
+-- the numbers of the parameters are not judged: both parameters of the row have the number 5
+pub numbers-not-judged : (r : Multipliers) → MultipliersCall 3 2 0 1 [] (3 ∷ []) (some (5 ∷ 5 ∷ [])) (record { low = 0; high = 0 }) 0 r → r .refusal ≢ 13 → ⊥
+unfolding asking # flatten once stands-in parameter-count picked numbers-in
+numbers-not-judged r s ne = ne (s .is-refusal)
 
 -- 11 is given before 3: p is 4
 pub column-before-prime : (r : Multipliers) → MultipliersCall 4 1 0 0 [] [] none (record { low = 2; high = 0 }) 1 r → r .refusal ≡ 11 → ⊥

@@ -1,13 +1,15 @@
 -- How little the promises leave open: two results of one call agree but in the two results that document 01 leaves open, and what holds of those.
 -- Assumes nothing.
 use Prim.Native.Nat.{ℕ, _<_}
-use mathlib.Core.Path.{_≡_, refl, sym, ap, _∙_}
-use mathlib.Core.Logic.{_≢_, _⊎_, inl, inr}
+use mathlib.Core.Path.{_≡_, refl, sym, ap, ap₂, _∙_}
+use mathlib.Core.Logic.{_≢_, inl, inr}
 use mathlib.Core.Bool.{true, false, false≢true}
-use mathlib.Core.List.{List}
+use mathlib.Core.List.{List, _∷_}
 use mathlib.Core.Option.{Option}
+use native.Mathlib.Decide.{ℕ-discrete}
 use lib.ListN.{getD}
 use Rattle.counting.specs.Sets.{Set, _∈_}
+use Rattle.columns.specs.declared.ColumnSet.{ColumnSet}
 use Rattle.rank.specs.Layered.Model.{Model, Seat, out, constant, row, is-placed, is-constant, constants}
 use Rattle.exchange.specs.Solution.{shown, Solved}
 use Rattle.limits.specs.Limits.{no-column}
@@ -18,13 +20,15 @@ use Rattle.format.specs.Refusals.{refusal, mixed-refusal}
 use Rattle.mixed_models.specs.Mixed.{Mixed}
 use Rattle.mixed.specs.MixedAnswers.{MixedAnswered, MixedCall, file-mixed}
 use Rattle.host.specs.AnswerBytes.{answer-bytes, mixed-bytes}
-use Rattle.solvability.specs.Host.{HostAnswer, HostMixedAnswer}
+use Rattle.multipliers.specs.Answers.{MultipliersCall}
+use Rattle.multipliers.specs.declared.Multipliers.{Multipliers}
+use Rattle.solvability.specs.Host.{HostAnswer, HostMixedAnswer, HostMultipliers}
 use Rattle.text.specs.Text.{Prints}
 use Rattle.text.specs.declared.Printed.{Printed}
 use Rattle.report.specs.Report.{answer-text}
 use Rattle.report.specs.FileReport.{FileReport}
 use Rattle.format.specs.Lists.{over}
-use Rattle.format.specs.File.Format.{judge}
+use Rattle.format.specs.File.Format.{entry-bytes, judge}
 use Rattle.mixed.specs.declared.MixedAnswer.{MixedAnswer}
 use Rattle.promises.specs.Fixed.{SameAnswer, SameShown, SameMixed, SameMixedShown, TwoShown}
 use Rattle.promises.specs.AnswerLaws.{layered-same, mixed-same}
@@ -50,6 +54,23 @@ module _ (p n a b : ℕ) (cs ws : List ℕ) (ns : Option (List ℕ)) where
   pub mixed-refused-fixed : {r s : MixedAnswer} → MixedCall p n a b cs ws ns r → MixedCall p n a b cs ws ns s → mixed-refusal p n a b cs ws ns ≢ 0
       → (r .rows ≡ s .rows) × (r .columns ≡ s .columns)
   mixed-refused-fixed x y ne = (x .if-refused ne .no-rows ∙ sym (y .if-refused ne .no-rows), x .if-refused ne .no-columns ∙ sym (y .if-refused ne .no-columns))
+
+-- of the call about multipliers agree in everything
+pub multipliers-fixed : (p n a b : ℕ) (cs ws : List ℕ) (ns : Option (List ℕ)) (held : ColumnSet) (x : ℕ) {r s : Multipliers} → MultipliersCall p n a b cs ws ns held x r → MultipliersCall p n a b cs ws ns held x s
+    → (r .refusal ≡ s .refusal) × (r .outcome ≡ s .outcome) × (r .multipliers ≡ s .multipliers)
+multipliers-fixed p n a b cs ws ns held x {r} {s} f g = elim (ℕ-discrete (r .refusal) 0) [
+  | yes z ↦
+      let u = f .if-accepted (sym (f .is-refusal) ∙ z) in
+      let v = g .if-accepted (sym (f .is-refusal) ∙ z) in
+      (same, u .outcome-is ∙ sym (v .outcome-is), u .multipliers-are ∙ sym (v .multipliers-are))
+  | no nz ↦
+      let u = f .if-refused (λ z. nz (f .is-refusal ∙ z)) in
+      let v = g .if-refused (λ z. nz (f .is-refusal ∙ z)) in
+      (same, u .no-outcome ∙ sym (v .no-outcome), u .no-multipliers ∙ sym (v .no-multipliers))
+]
+  where
+    same : r .refusal ≡ s .refusal
+    same = f .is-refusal ∙ sym (g .is-refusal)
 
 -- ---- two results of one call on a file
 
@@ -89,6 +110,16 @@ module _ (file area : List ℕ) where
       → TwoShown SameMixedShown (λ r. area′ ≡ over (mixed-bytes r) area) (λ r. area″ ≡ over (mixed-bytes r) area)
   host-mixed-fixed k j area′ area″ x y z =
       let e = sym (x .is-number) ∙ z in two-shown (λ r s. mixed-answered-fixed (file-mixed file)) (x .if-accepted e) (y .if-accepted e)
+
+  -- of the call about multipliers they are the same,
+  pub host-multipliers-fixed : (held : List ℕ) (x k j : ℕ) (area′ area″ : List ℕ) → HostMultipliers file held x area k area′ → HostMultipliers file held x area j area″ → area′ ≡ area″
+  host-multipliers-fixed held x k j area′ area″ f g = elim (ℕ-discrete k 0) [
+    | no nk ↦ f .if-refused (λ z. nk (f .is-number ∙ z)) ∙ sym (g .if-refused (λ z. nk (f .is-number ∙ z)))
+    | yes z ↦
+        let u = f .if-accepted (sym (f .is-number) ∙ z) in
+        let v = g .if-accepted (sym (f .is-number) ∙ z) in
+        u .is-shown ∙ ap₂ (λ (o : ℕ) (ms : List ℕ). over (o ∷ entry-bytes ms) area) (u .is-answer .outcome-is ∙ sym (v .is-answer .outcome-is)) (u .is-answer .multipliers-are ∙ sym (v .is-answer .multipliers-are)) ∙ sym (v .is-shown)
+  ]
 
   -- and so is the text of a report
   pub report-fixed : (r s : Printed) (area′ area″ : List ℕ) → FileReport file area r area′ → FileReport file area s area″ → judge file ≡ 0

@@ -1,5 +1,5 @@
 // A model handed over, written as a file: each field into what is left of the lent area. Each function gives back how many bytes it put
-// there, and the next field goes behind them.
+// there, and the next field goes behind them. And numbers, put into an area of their own.
 ghost use mathlib.Core.Path.{_≡_};
 ghost use mathlib.Core.Bool.{true, cond};
 ghost use mathlib.Core.List.{[], _∷_, flatMap};
@@ -210,17 +210,6 @@ fn put_constant_row(out: &mut [u8], row: &[u16]) -> usize
     at + put_entries(&mut out[at..], row)
 }
 
-// Two bytes for each number, the low one first, over the front of an area that holds them all.
-pub fn put_each(out: &mut [u8], numbers: &[u16]) -> u32
-    ensures { λ r. ⌜ PutRoom (entry-bytes (now (numbers .entry))) (now (out .entry)) (now (out .exit)) r ⌝ }
-{
-    if out.len() / 2 < numbers.len() {
-        return refusals::AREA_SHORT;
-    }
-    put_entries(out, numbers);
-    0
-}
-
 // The rows one after the other: what is left of the constants, and the part after the last row.
 fn put_constant_rows(out: &mut [u8], constants: &[u16], n: usize, a: usize) -> usize
     requires { ⌜ (n ≤ most-columns) × (a * n ≤ length (now constants)) × (length (flatMap (constant-bytes n) (rows-of n a (now constants))) ≤ length (now out)) ⌝ }
@@ -341,4 +330,15 @@ fn put_entry(out: &mut [u8], set: ColumnSet, row: &[u16], c: usize) -> usize
         return 0;
     }
     put_two(out, row[c])
+}
+
+// Two bytes for each number, the low one first, over the front of an area; or 8, and the area as it was.
+pub fn put_each(out: &mut [u8], numbers: &[u16]) -> u32
+    ensures { λ r. ⌜ PutRoom (entry-bytes (now (numbers .entry))) (now (out .entry)) (now (out .exit)) r ⌝ }
+{
+    if out.len() / 2 < numbers.len() {
+        return refusals::AREA_SHORT;
+    }
+    put_entries(out, numbers);
+    0
 }

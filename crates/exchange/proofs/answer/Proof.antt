@@ -1,6 +1,6 @@
 -- `exchange::answer` meets its contract, by what its callees ensure. Assumes nothing.
-use Prim.Native.Nat.{ℕ, _+_, _-_, _<_, _≤_}
-use mathlib.Core.Path.{_≡_, refl}
+use Prim.Native.Nat.{ℕ, _+_, _-_, _<_}
+use mathlib.Core.Path.{refl}
 use lib.ListN.{replicate}
 use Rattle.counting.specs.Sets.{_∈_}
 use Rattle.columns.specs.Columns.{members}

@@ -1,5 +1,4 @@
 -- `exchange::column_dependence` meets its contract: the tableau shows the constants, and `read_column` does the rest. Assumes nothing.
-use Prim.Native.Nat.{ℕ}
 use mathlib.Core.Path.{_≡_, refl, sym, ap, _∙_}
 use mathlib.Core.Bool.{Bool, true, false, _&&_, true≢false}
 use mathlib.Core.List.{[]}
@@ -10,7 +9,7 @@ use Rattle.rank.specs.Modulus.{modulus, residue-of}
 use Rattle.rank.specs.ListedModel.{constant-at}
 use Rattle.exchange.specs.Solve.{admissible}
 use Rattle.exchange.specs.SolveLaws.{Admissible, admissible-reads}
-use Rattle.exchange.specs.Depending.{askable, Without, Depending}
+use Rattle.exchange.specs.DependenceCall.{askable, NoMultipliers, DependenceCall}
 use Rattle.exchange.specs.declared.Dependence.{Dependence}
 use Rattle.exchange.proofs.AdmissionLaws.{filled-tableau}
 use borrow.Author.Needs.{needs}
@@ -39,7 +38,7 @@ unfolding row-numbers
 tested c = c .is-admissible .ensures
 
 -- a call that is not taken gives nothing
-refused : (k : tie.Start) (r : Dependence) → asked k ≡ false → (r .valid ≡ false) × Without 0 r → Depending (k .args .p) (k .args .n) (k .args .a) (k .args .held) (k .args .x) (k .args .constants .now) r
+refused : (k : tie.Start) (r : Dependence) → asked k ≡ false → (r .valid ≡ false) × NoMultipliers 0 r → DependenceCall (k .args .p) (k .args .n) (k .args .a) (k .args .held) (k .args .x) (k .args .constants .now) r
 refused k r e w = record { is-valid = w .0 ∙ sym e; if-not = λ z. w .1; if-valid = λ z. absurd (true≢false (sym z ∙ e)) }
 
 -- what holds where the first test is passed

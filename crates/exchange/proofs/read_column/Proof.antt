@@ -1,5 +1,5 @@
 -- `exchange::read_column` meets its contract, by what its callees ensure. Assumes nothing.
-use Prim.Native.Nat.{ℕ, _+_, _-_, _<_, _≤_}
+use Prim.Native.Nat.{ℕ, _+_, _-_, _<_}
 use mathlib.Core.Path.{_≡_, refl, sym, _∙_, ap}
 use mathlib.Core.Logic.{_≢_}
 use mathlib.Core.List.{List, []}
@@ -13,9 +13,9 @@ use Rattle.columns.specs.Words.Sets.{columns-below}
 use Rattle.rank.specs.Modulus.{field-of}
 use Rattle.exchange.specs.Sizes.{lines}
 use Rattle.exchange.specs.Code.Offering.{Offered-all}
-use Rattle.exchange.specs.Code.Reading.{ShowsRows}
+use Rattle.exchange.specs.Code.Held.{ShowsRows}
 use Rattle.exchange.proofs.OfferingLaws.{none-owned, offers-start, offers-some}
-use Rattle.exchange.proofs.ReadingLaws.{one-missing, none-missing, offering-held, held-columns-dependent, column-apart, column-depends}
+use Rattle.exchange.proofs.ReadingLaws.{one-missing, none-missing, offering-held, held-columns-dependent, column-independent, column-depends}
 use borrow.Author.Needs.{needs}
 use native.Mathlib.Omega.{arith}
 use Rattle.exchange.proofs.read_column.Statement.{statement}
@@ -117,7 +117,7 @@ returns-2 c =
     let k = start o in
     let a = k .args in (
       c .without-multipliers2 .ensures .0,
-      λ Q sh. column-apart (a .p) (a .n) (a .a) (k .pre .4) no-rows _ _ (offering-held (a .p) (a .n) no-rows Q (held k)) (in-set o) (offered o Q sh) (o .offer-all .ensures .0 .below)
+      λ Q sh. column-independent (a .p) (a .n) (a .a) (k .pre .4) no-rows _ _ (offering-held (a .p) (a .n) no-rows Q (held k)) (in-set o) (offered o Q sh) (o .offer-all .ensures .0 .below)
           (held-below k) (a .x) (k .pre .5) (all-placed e) (z .is-zero-where-free .ensures .if-false (not-true _ (c .before .if2 .taken))) (c .without-multipliers2 .result)
           (c .without-multipliers2 .ensures .1),
     )

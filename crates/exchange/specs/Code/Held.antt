@@ -48,9 +48,13 @@ pub record Given (p n b : ℕ) (ws : List ℕ) : Type 0 where
 abbrev pub model-of : (p n a b : ℕ) (ws : List ℕ) → Given p n b ws → Model
 model-of p n a b ws G = model-modulo (modulus p .0) (modulus p .1) n a b (G .Q) (G .T) (G .E)
 
--- the tableau shows the constants
+-- the tableau shows the constants Q
+abbrev pub ShowsRows : (p n a : ℕ) (Q : ℕ → ℕ → field-of p .F) → List ℕ → Type 0
+ShowsRows p n a Q t = (i x : ℕ) → i < a → x < n → residue-of p (cell t i x) ≡ Q i x
+
+-- those of a model
 abbrev pub ShowsConstants : (p n a b : ℕ) (ws : List ℕ) → Given p n b ws → List ℕ → Type 0
-ShowsConstants p n a b ws G t = (i x : ℕ) → i < a → x < n → residue-of p (cell t i x) ≡ G .Q i x
+ShowsConstants p n a b ws G = ShowsRows p n a (G .Q)
 
 -- the tableau t and the owners o hold the valid state s
 pub record Held (p n a b : ℕ) (ws : List ℕ) (G : Given p n b ws) (t o : List ℕ) : Type 0 where

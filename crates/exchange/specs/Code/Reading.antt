@@ -7,13 +7,8 @@ use mathlib.Core.List.{List}
 use lib.ListN.{length, getD}
 use Rattle.limits.specs.Limits.{most-columns}
 use Rattle.counting.specs.Sets.{Some}
-use Rattle.rank.specs.Modulus.{field-of, residue-of}
 use Rattle.exchange.specs.Code.Cells.{cell}
 use Rattle.exchange.specs.Code.Scanning.{owner-at}
-
--- the tableau shows the constants Q
-abbrev pub ShowsRows : (p n a : ℕ) (Q : ℕ → ℕ → field-of p .F) → List ℕ → Type 0
-ShowsRows p n a Q t = (i x : ℕ) → i < a → x < n → residue-of p (cell t i x) ≡ Q i x
 
 -- of the first k rows those that are free are zero in column x
 abbrev pub FreeZero : (n k x : ℕ) (t o : List ℕ) → Type 0

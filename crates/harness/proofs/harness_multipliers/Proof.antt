@@ -1,7 +1,7 @@
 -- `harness::harness_multipliers` meets its contract, by what the call and the writing of its answer ensure. Assumes nothing.
 use Prim.Native.Nat.{ℕ}
 use mathlib.Core.Path.{refl, sym, _∙_, subst}
-use mathlib.Core.List.{List, []}
+use mathlib.Core.List.{[]}
 use borrow.Author.Needs.{needs}
 use lib.ListN.{take}
 use Rattle.columns.specs.Bytes.{number}

@@ -1,17 +1,17 @@
 -- `multipliers::file_multipliers` meets its contract, by what the reading and the question ensure. Assumes nothing.
-use mathlib.Core.Path.{_≡_, refl, sym, ap, _∙_}
+use mathlib.Core.Path.{refl, sym, ap, _∙_}
 use Prim.Native.Nat.{ℕ}
 use mathlib.Core.Logic.{_≢_}
 use Rattle.columns.specs.ColumnSets.{whole}
 use Rattle.columns.specs.Words.Bytes.{AreBytes}
 use Rattle.format.specs.Refusals.{first-refusal}
 use Rattle.format.specs.RefusalLaws.{then-refused, then-passed}
-use Rattle.format.specs.TestLaws.{model-accepted}
+use Rattle.format.specs.TestLaws.{model-accepted, constants-accepted}
 use Rattle.format.specs.File.Piece.{closed}
 use Rattle.format.specs.File.Format.{fields, judge, decode}
 use Rattle.layered.proofs.FileLaws.{own-refusal, own-accepted, own-sizes, judged, call-refused, call-as}
 use Rattle.multipliers.specs.Answers.{column-question}
-use Rattle.multipliers.proofs.AskLaws.{constants-accepted, own-answered}
+use Rattle.multipliers.proofs.AskLaws.{own-shown}
 use borrow.Author.Needs.{needs}
 use Rattle.multipliers.proofs.file_multipliers.Statement.{statement}
 use Rattle.multipliers.proofs.file_multipliers.Tie as tie
@@ -66,7 +66,7 @@ returns-2 c =
     let ok = accepted .if1 .left in
     call-as
     (ap (λ (k : ℕ). first-refusal (column-question k (whole (a .held)) (a .column))) (own-sizes bytes call ok .0) ∙ then-passed (closed fields (a .file .now)) (column-question (decode (a .file .now) .n) (whole (a .held)) (a .column)) _ (judged bytes call ok) refl)
-    (own-answered bytes call ok _ (a .column) (c .ask .result)) (c .ask .ensures)
+    (own-shown bytes call ok _ (a .column) (c .ask .result .outcome) (c .ask .result .multipliers)) (c .ask .ensures)
 
 pub file-multipliers-spec : {M : Type 1} → statement M
 file-multipliers-spec =

@@ -1,15 +1,14 @@
 -- `multipliers::model_multipliers` meets its contract, by what the judgement and the question ensure. Assumes nothing.
 use borrow.Author.Needs.{needs}
-use mathlib.Core.Path.{_≡_, refl, sym, _∙_}
+use mathlib.Core.Path.{refl, sym, _∙_}
 use mathlib.Core.Logic.{_≢_}
 use Rattle.columns.specs.ColumnSets.{whole, row-numbers}
 use Rattle.format.specs.Numbers.{lent}
 use Rattle.format.specs.Refusals.{Tests, model-tests, refusal}
 use Rattle.format.specs.RefusalLaws.{then-refused, then-passed}
-use Rattle.format.specs.TestLaws.{model-accepted}
+use Rattle.format.specs.TestLaws.{model-accepted, constants-accepted}
 use Rattle.layered.proofs.FileLaws.{call-refused, call-as}
 use Rattle.multipliers.specs.Answers.{column-question}
-use Rattle.multipliers.proofs.AskLaws.{constants-accepted}
 use Rattle.multipliers.proofs.model_multipliers.Statement.{statement}
 use Rattle.multipliers.proofs.model_multipliers.Tie as tie
 

@@ -56,11 +56,13 @@ loop-less c = search needs
 loop-again : tie.Need-loop-again Inv-loop μ-loop
 loop-again c =
     let l = turn (c .before) .loop in
-    let a = turn (c .before) .before .args in
-    let ey : c .before .widened .result ≡ owner-at (a .owner .now) (l .q) = c .before .widened .ensures .0 in (
+    let k = turn (c .before) .before in
+    let a = k .args in
+    let y = c .before .widened .result in
+    let ey : y ≡ owner-at (a .owner .now) (l .q) = c .before .widened .ensures .0 in (
       search needs,
       ⊎-elim
-          (λ w. rw (w .2, ey) (entries-more (a .n) (a .x) (a .t .now) (a .owner .now) (l .q) (l .entries) (l .inv .1) (turn (c .before) .before .pre .0 .columns) (rw ey at (w .0 .taken))))
+          (λ w. rw (w .2) (entries-more (a .n) (a .x) (a .t .now) (a .owner .now) (l .q) (l .entries) (l .inv .1) y ey (k .pre .0 .columns) (w .0 .taken)))
           (λ w. rw (w .1) (entries-skip (a .n) (a .x) (a .t .now) (a .owner .now) (l .q) (l .entries) (l .inv .1) (rw ey at (w .0 .left))))
           (c .if1 .came),
     )

@@ -6,7 +6,7 @@ use mathlib.Core.Bool.{true≢false, false≢true}
 use borrow.Author.Count.{below-more}
 use Rattle.exchange.specs.Code.Cells.{cell}
 use Rattle.exchange.specs.Code.Scanning.{owner-at}
-use Rattle.exchange.specs.Code.Reading.{FreeZero, ZeroWhereFree}
+use Rattle.exchange.specs.Code.Reading.{FreeZero}
 use borrow.Author.Needs.{needs}
 use native.Mathlib.Omega.{arith}
 use Rattle.exchange.proofs.reading.is_zero_where_free.Statement.{statement}
