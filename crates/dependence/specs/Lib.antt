@@ -2,6 +2,7 @@
 pub mod Constants
 pub mod Multipliers
 pub mod Listing
+pub mod ListingLaws
 pub mod ConstantSide
 pub mod MultiplierLaws
 pub mod TableauLaws

@@ -85,9 +85,8 @@ module _ {K : Field} {a n : ℕ} where
 
   -- no independent set has x and all that x depends on
   pub lacks-one : (Q : ℕ → ℕ → F) (H S : Set) (x : ℕ) (c : ℕ → F) → x < n → Depends K a n Q H x c → Indep K a n Q S → x ∈ S → In K S c → c x ≡ 𝟘 → ⊥
-  unfolding unit
-  lacks-one Q H S x c l m i sx s z = K .one-ne (sym (set-same (λ j. 𝟘) x 𝟙) ∙ sym (less-zero K c (unit K x) x (i .only-zero (less K c (unit K x))
-      (λ j nj. zero-less K c (unit K x) j (s j nj ∙ sym (set-other (λ k. 𝟘) x 𝟙 j (λ d. nj (rw d sx)))))
+  lacks-one Q H S x c l m i sx s z = K .one-ne (sym (unit-at K x) ∙ sym (less-zero K c (unit K x) x (i .only-zero (less K c (unit K x))
+      (λ j nj. zero-less K c (unit K x) j (s j nj ∙ sym (unit-other K x j (λ d. nj (rw d sx)))))
       (depends-kernel Q H x c l m) x l)) ∙ z)
 
   -- a column that depends on others is not independent of them
@@ -97,8 +96,7 @@ module _ {K : Field} {a n : ℕ} where
 
   -- a held column depends on the held ones by itself,
   pub held-depends : (Q : ℕ → ℕ → F) (H : Set) (x : ℕ) → x < n → x ∈ H → Depends K a n Q H x (unit K x)
-  unfolding unit
-  held-depends Q H x l e = record { only-held = λ j nj. set-other (λ k. 𝟘) x 𝟙 j (λ d. nj (rw d e)); sums = λ i li. dot-at K n (Q i) x l }
+  held-depends Q H x l e = record { only-held = λ j nj. unit-other K x j (λ d. nj (rw d e)); sums = λ i li. dot-at K n (Q i) x l }
 
   -- and a column that is zero in every row by nothing
   pub zero-depends : (Q : ℕ → ℕ → F) (H : Set) (x : ℕ) → ((i : ℕ) → i < a → Q i x ≡ 𝟘) → Depends K a n Q H x (λ j. 𝟘)

@@ -23,6 +23,9 @@ use Rattle.dependence.specs.Multipliers.{Depends, sums-to, depends, mult
 use Rattle.dependence.specs.MultiplierLaws.{unit, unique, depends-same, depends-not, entries-same, held-depends, zero-depends, unit-at, unit-other}
 use Rattle.dependence.specs.TableauLaws.{owned-columns-independent, tableau-shows-multipliers, tableau-shows-independence}
 
+num-of-zero : (q : ℕ) (P : Prime q) → num-of q P (residues q P .𝟘) ≡ 0
+num-of-zero q P = ap (num-of q P) (sym (res-zero q P)) ∙ num-of-res q P 0 ∙ zero-mod q
+
 module _ (q : ℕ) (P : Prime q) (a n : ℕ) (Q : ℕ → ℕ → residues q P .F) (H : Set) (x : ℕ) where
   open Field (residues q P) using (F, 𝟘)
 
@@ -95,7 +98,7 @@ module _ (q : ℕ) (P : Prime q) (a n : ℕ) (Q : ℕ → ℕ → residues q P .
   -- 0 at a column that is not held,
   pub multiplier-not-held : (j : ℕ) → (j ∈ H → ⊥) → multiplier q P a n Q H x j ≡ 0
   multiplier-not-held j nj = elim (multiplier-cases j) [
-    | inl w ↦ w .2 ∙ ap (num-of q P) (w .1 .only-held j nj ∙ sym (res-zero q P)) ∙ num-of-res q P 0 ∙ zero-mod q
+    | inl w ↦ w .2 ∙ ap (num-of q P) (w .1 .only-held j nj) ∙ num-of-zero q P
     | inr w ↦ w .1
   ]
 
@@ -152,9 +155,6 @@ module _ (q : ℕ) (P : Prime q) (a n : ℕ) (Q T : ℕ → ℕ → residues q P
 -- ---- the outcome, and the multipliers given with it
 
 module _ (q : ℕ) (P : Prime q) (a n : ℕ) (Q : ℕ → ℕ → residues q P .F) (H : Set) (x : ℕ) where
-  num-of-zero : num-of q P (residues q P .𝟘) ≡ 0
-  num-of-zero = ap (num-of q P) (sym (res-zero q P)) ∙ num-of-res q P 0 ∙ zero-mod q
-
   -- where the held columns are dependent
   module _ (d : independent q P a n Q H ≡ false) where
     pub outcome-dependent : outcome q P a n Q H x ≡ 2
@@ -186,14 +186,14 @@ module _ (q : ℕ) (P : Prime q) (a n : ℕ) (Q : ℕ → ℕ → residues q P .
         let are : (j : ℕ) → j < n → given q P a n Q H x j ≡ num-of q P (unit (residues q P) x j) = λ j lj. multiplier-given j ∙ multipliers-are q P a n Q H x (independent-iff q P a n Q H .0 i) _ m j lj in (
           outcome-depends (depends-iff q P a n Q H x .1 (_, m)),
           are x l ∙ ap (num-of q P) (unit-at (residues q P) x ∙ sym (res-one q P)) ∙ num-of-res q P 1 ∙ mod-eq-of-lt (P .least),
-          λ j lj ne. are j lj ∙ ap (num-of q P) (unit-other (residues q P) x j ne) ∙ num-of-zero,
+          λ j lj ne. are j lj ∙ ap (num-of q P) (unit-other (residues q P) x j ne) ∙ num-of-zero q P,
         )
 
     pub outcome-zero : ((k : ℕ) → k < a → Q k x ≡ residues q P .𝟘) → (outcome q P a n Q H x ≡ 1) × ((j : ℕ) → j < n → given q P a n Q H x j ≡ 0)
     outcome-zero z =
         let m = zero-depends {K = residues q P} {a = a} {n = n} Q H x z in (
           outcome-depends (depends-iff q P a n Q H x .1 (_, m)),
-          λ j lj. multiplier-given j ∙ multipliers-are q P a n Q H x (independent-iff q P a n Q H .0 i) _ m j lj ∙ num-of-zero,
+          λ j lj. multiplier-given j ∙ multipliers-are q P a n Q H x (independent-iff q P a n Q H .0 i) _ m j lj ∙ num-of-zero q P,
         )
 
   -- what each outcome says

@@ -53,17 +53,11 @@ module _ (M : Model) (H : Set) (below : (j : ℕ) → j ∈ H → j < M .n) wher
 
 -- Modulo a prime
 module _ (q : ℕ) (P : Prime q) (a n : ℕ) (Q : ℕ → ℕ → residues q P .F) (H : Set) (x : ℕ) where
-  -- the test says whether a column depends on the held ones;
+  -- the test says whether a column depends on the held ones,
   pub depends-reads : (depends q P a n Q H x ≡ true) ↔ ((c : ℕ → residues q P .F) × Depends (residues q P) a n Q H x c)
   depends-reads = Numbers.depends-iff q P a n Q H x
 
-  -- a multiplier is below q, it is 0 at a column that is not held, and everywhere where the column does not depend on the held ones.
-  pub multiplier-below : (j : ℕ) → multiplier q P a n Q H x j < q
-  multiplier-below = Numbers.multiplier-below q P a n Q H x
-
-  pub multiplier-not-held : (j : ℕ) → (j ∈ H → ⊥) → multiplier q P a n Q H x j ≡ 0
-  multiplier-not-held = Numbers.multiplier-not-held q P a n Q H x
-
+  -- and where it does not every multiplier is 0.
   pub multiplier-none : depends q P a n Q H x ≡ false → (j : ℕ) → multiplier q P a n Q H x j ≡ 0
   multiplier-none = Numbers.multiplier-none q P a n Q H x
 

@@ -28,7 +28,7 @@ use Rattle.rank.specs.Layered.Offers.{state-answers}
 use Rattle.dependence.specs.Multipliers.{depends, multiplier, outcome, given}
 use Rattle.dependence.specs.TableauLaws.{owned-columns-independent, state-owns}
 use Rattle.dependence.specs.NumberLaws.{multiplier-not-held, multiplier-none, outcome-dependent, none-given, outcome-depends, outcome-independent, multiplier-given}
-use Rattle.dependence.specs.Listing.{listed, zeros-listed}
+use Rattle.dependence.specs.ListingLaws.{listed, zeros-listed}
 use Rattle.dependence.specs.Theorems.{held-all-placed, state-shows-multipliers, state-shows-independence}
 use Rattle.exchange.specs.Sizes.{stride}
 use Rattle.exchange.specs.DependenceCall.{NoMultipliers, DependenceShown}

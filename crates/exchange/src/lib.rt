@@ -132,21 +132,22 @@ fn without_multipliers(valid: bool, outcome: u8) -> Dependence
     }
 }
 
-// How the column x depends on the held columns, over a filled tableau: these are placed on the constant rows alone, and what the
-// tableau then has in the column is read off.
+// How the column x depends on the held columns, over a filled tableau, with a table of inverses, which may be empty: these columns are
+// placed on the constant rows alone, and what the tableau then has in the column is read off.
 fn read_column(
     t: &mut [u16; CELLS],
+    inverses: &[u16],
     p: u16,
     n: usize,
     a: usize,
     held: ColumnSet,
     x: usize,
 ) -> Dependence
-    requires { ⌜ TableauArray p (now t) × (n ≤ most-columns) × (a ≤ most-rows) × (within n (whole held) ≡ true) × (is-prime p ≡ true) × (x < n) ⌝ }
+    requires { ⌜ TableauArray p (now t) × InverseTable p (now inverses) × (n ≤ most-columns) × (a ≤ most-rows) × (within n (whole held) ≡ true) × (is-prime p ≡ true) × (x < n) ⌝ }
     ensures { λ r. ⌜ (r .valid ≡ true) × ((Q : ℕ → ℕ → field-of p .F) → ShowsRows p n a Q (now (t .entry)) → DependenceShown p n a Q (members (whole held)) x (r .outcome) (r .multipliers)) ⌝ }
 {
     let mut owner = [n as u8; LINES];
-    let placed = offering::offer_all(t, &mut owner, &[], &[], p, n, a, 0, held);
+    let placed = offering::offer_all(t, &mut owner, &[], inverses, p, n, a, 0, held);
     let missing = columns::difference(held, placed);
     if !columns::is_empty(missing) {
         return without_multipliers(true, 2);
@@ -181,5 +182,9 @@ pub fn column_dependence(
     }
     let mut t = [0u16; CELLS];
     tableau::fill(&mut t, constants, n, a);
-    read_column(&mut t, p as u16, n, a, held, x)
+    if p == LISTED_PRIME {
+        let inverses = residue::listed_inverses();
+        return read_column(&mut t, &inverses, p as u16, n, a, held, x);
+    }
+    read_column(&mut t, &[], p as u16, n, a, held, x)
 }

@@ -11,7 +11,7 @@ use Rattle.loader.specs.declared.header.Sizes.{Sizes}
 use Rattle.loader.specs.FileRead.{FileRead}
 use Rattle.host.specs.AreaCall.{AreaCall, WrittenOver}
 use Rattle.host.specs.AnswerBytes.{answer-length, AnswerWritten, mixed-length, MixedWritten}
-use Rattle.multipliers.specs.Answers.{column-question, Answered}
+use Rattle.multipliers.specs.Answers.{column-question, MultipliersAnswered}
 use Rattle.multipliers.specs.Bytes.{multipliers-length, multipliers-bytes}
 
 -- the layered call: as the model is judged, then 8 for the area
@@ -25,7 +25,7 @@ MixedBytes p n a b cs ws ns = AreaCall (mixed-tests p n a b cs ws ns) [] mixed-l
 -- the call about multipliers, with the held columns as a number: as the model and the columns are judged, then 8 for the area
 abbrev pub MultipliersBytes : (p n a b : ℕ) (cs ws : List ℕ) → Option (List ℕ) → (held x : ℕ) (area : List ℕ) (number : ℕ) (area′ : List ℕ) → Type 0
 MultipliersBytes p n a b cs ws ns held x =
-    AreaCall (model-tests p n a b cs ws ns then column-question n held x) [] multipliers-length (WrittenOver (Answered p n a cs (members held) x) multipliers-bytes)
+    AreaCall (model-tests p n a b cs ws ns then column-question n held x) [] multipliers-length (WrittenOver (MultipliersAnswered p n a cs (members held) x) multipliers-bytes)
 
 -- a reading: the refusal, and the areas afterwards; some sizes are those of the file
 pub record FileInAreas (s cs ws ks : List ℕ) (refusal : ℕ) (cs′ ws′ ks′ : List ℕ) : Type 0 where

@@ -6,7 +6,7 @@ ghost use Rattle.columns.specs.ColumnSets.{row-numbers};
 ghost use Rattle.format.specs.Numbers.{lent};
 ghost use Rattle.format.specs.TestLaws.{Accepted};
 ghost use Rattle.host.specs.AreaCall.{PutOver};
-ghost use Rattle.multipliers.specs.Answers.{Unanswered, Asked, MultipliersCall, MultipliersFileCall};
+ghost use Rattle.multipliers.specs.Answers.{MultipliersRefused, Asked, MultipliersCall, MultipliersFileCall};
 ghost use Rattle.multipliers.specs.Bytes.{multipliers-length, multipliers-bytes};
 use columns::ColumnSet;
 use columns::MOST_WORDS;
@@ -30,7 +30,7 @@ pub struct Multipliers {
 pub const MULTIPLIERS_LENGTH: usize = 1 + 2 * MOST_COLUMNS;
 
 fn refuse(number: u32) -> Multipliers
-    ensures { λ r. ⌜ (r .refusal ≡ number) × Unanswered r ⌝ }
+    ensures { λ r. ⌜ (r .refusal ≡ number) × MultipliersRefused r ⌝ }
 {
     Multipliers {
         refusal: number,

@@ -26,7 +26,7 @@ use Rattle.rank.specs.ListedModelLaws.{OnlyZero, independent-reads}
 use Rattle.dependence.specs.Multipliers.{Depends, given}
 use Rattle.dependence.specs.PlainNumbers.{SumsTo, plain-multipliers, residue-multipliers}
 use Rattle.dependence.specs.NumberLaws.{given-below, given-not-held, multiplier-given, outcome-same, given-same}
-use Rattle.dependence.specs.Listing.{listing-at, listing-length, listing-same}
+use Rattle.dependence.specs.ListingLaws.{listing-at, listing-length, listing-same}
 use Rattle.dependence.specs.Theorems as Theory
 use Rattle.exchange.specs.DependenceCall.{ListedDependenceShown}
 use Rattle.format.specs.Refusals.{unless, first-refusal, column-beyond, column-test, model-tests, refusal}
@@ -146,8 +146,8 @@ module _ (p n a b : ℕ) (cs ws : List ℕ) (ns : Option (List ℕ)) (held : Col
         let w = Theory.held-column q P a n Q H x (plain-independent .1 i) column-below e in
         (answer .outcome-is ∙ w .0, at x ∙ w .1, λ j l ne. at j ∙ w .2 j l ne)
 
-    pub zero-itself : ((k : ℕ) → k < a → getD cs (k * n + x) 0 ≡ 0) → (r .outcome ≡ 1) × ((j : ℕ) → j < n → getD (r .multipliers) j 0 ≡ 0)
-    zero-itself z =
+    pub zero-by-nothing : ((k : ℕ) → k < a → getD cs (k * n + x) 0 ≡ 0) → (r .outcome ≡ 1) × ((j : ℕ) → j < n → getD (r .multipliers) j 0 ≡ 0)
+    zero-by-nothing z =
         let w = Theory.zero-column q P a n Q H x (plain-independent .1 i) (λ k l. ap (res q P) (z k l) ∙ res-zero q P) in
         (answer .outcome-is ∙ w .0, λ j l. at j ∙ w .1 j l)
 

@@ -4,7 +4,7 @@ use mathlib.Core.Path.{_≡_, refl, sym, _∙_, subst}
 use mathlib.Core.Bool.{Bool}
 use mathlib.Core.Option.{Option, none, some}
 use mathlib.Core.Logic.{_≢_, _↔_, _⊎_}
-use mathlib.Core.List.{List}
+use mathlib.Core.List.{List, [], flatten}
 use native.Mathlib.Omega.{arith}
 use lib.ListN.{length, getD, take}
 use lib.Seq.{take-take}
@@ -26,7 +26,7 @@ use Rattle.determinants.specs.Determinant.{Largest}
 use Rattle.determinants.specs.ModelTables.{LayeredOrder, MixedOrder}
 use Rattle.determinants.specs.Theorems.{rank-is-largest-order, mixed-rank-is-largest-order}
 use Rattle.format.specs.Lists.{over}
-use Rattle.limits.specs.Limits.{most-columns, longest-file, no-column}
+use Rattle.limits.specs.Limits.{most-columns, set-bytes, longest-file, no-column}
 use Rattle.format.specs.Numbers.{lent, numbers-of, is-numbered}
 use Rattle.format.specs.Refusals.{refusal, mixed-refusal}
 use Rattle.format.specs.TestLaws.{model-accepted, accepted-model, unnumbered-accepted}
@@ -35,15 +35,16 @@ use Rattle.loader.specs.FileRead.{FileRead}
 use Rattle.loader.specs.declared.header.Sizes.{Sizes}
 use Rattle.writer.specs.FileWritten.{FileWritten}
 use Rattle.writer.specs.declared.Written.{Written}
-use Rattle.layered.specs.Answers.{Answered, LayeredCall}
+use Rattle.layered.specs.Answers.{AnswerShown, Answered, LayeredCall}
 use Rattle.layered.specs.declared.Answer.{Answer}
 use Rattle.layered.specs.FileModel.{file-model}
 use Rattle.mixed.specs.MixedAnswers.{MixedAnswered, MixedCall, file-mixed}
 use Rattle.mixed.specs.declared.MixedAnswer.{MixedAnswer}
 use Rattle.promises.specs.Fixed.{SameAnswer, SameMixed}
-use Rattle.multipliers.specs.Answers.{MultipliersCall}
+use Rattle.multipliers.specs.Answers.{MultipliersCall, MultipliersFileCall}
+use Rattle.multipliers.specs.Bytes.{multipliers-bytes}
 use Rattle.multipliers.specs.declared.Multipliers.{Multipliers}
-use Rattle.solvability.specs.Host.{HostAnswer, HostMixedAnswer, HostMultipliers}
+use Rattle.solvability.specs.Host.{HostAnswer, HostMixedAnswer, set-shown, HostMultipliers}
 use Rattle.text.specs.declared.Printed.{Printed}
 use Rattle.report.specs.FileReport.{FileReport}
 use Rattle.mixed_report.specs.MixedReport.{MixedFileReport}
@@ -54,7 +55,8 @@ use Rattle.promises.specs.AnswerLaws.{refusal-same, mixed-refusal-same, 
 use Rattle.promises.specs.NumberingLaws.{numbers-front, front-same, named, mixed-unnumbered, picked-same, without-numbers, file-unnumbered}
 use Rattle.promises.specs.RowLaws.{determined-rows, surplus-rows}
 use Rattle.promises.specs.ShownLaws.{ShownWhole, answer-shown-whole, mixed-shown-whole}
-use Rattle.promises.specs.MultiplierLaws.{says-dependent, says-depends, says-independent, none-given-otherwise, numbers-sum, numbers-only, number-below, number-not-held, held-itself, zero-itself, constants-decide}
+use Rattle.promises.specs.MultiplierLaws.{says-dependent, says-depends, says-independent, none-given-otherwise, numbers-sum, numbers-only, number-below, number-not-held, held-itself, zero-by-nothing, constants-decide}
+use Rattle.promises.specs.MultiplierCallLaws.{file-call, host-call, held-surplus}
 use Rattle.promises.specs.DocumentFile.{document-file, document-accepted, document-model}
 
 -- ---- read and written, written and read
@@ -245,13 +247,28 @@ module _ (p n a b : ℕ) (cs ws : List ℕ) (ns : Option (List ℕ)) (held : Col
 
   pub zero-column-by-nothing : OnlyZero p n a cs (members (whole held)) → ((k : ℕ) → k < a → getD cs (k * n + x) 0 ≡ 0)
       → (r .outcome ≡ 1) × ((j : ℕ) → j < n → getD (r .multipliers) j 0 ≡ 0)
-  zero-column-by-nothing = zero-itself p n a b cs ws ns held fits x r call ok
+  zero-column-by-nothing = zero-by-nothing p n a b cs ws ns held fits x r call ok
 
 -- Two calls with the same constants say the same, whatever the parameter rows, their numbers, and what stands behind the constants.
 pub constants-alone-decide : (p n a : ℕ) (cs ds : List ℕ) → take (a * n) cs ≡ take (a * n) ds → (held : ColumnSet) → Fits held → (x b b′ : ℕ) (ws ws′ : List ℕ) (ns ns′ : Option (List ℕ))
     (r s : Multipliers) → MultipliersCall p n a b cs ws ns held x r → MultipliersCall p n a b′ ds ws′ ns′ held x s → r .refusal ≡ 0 → s .refusal ≡ 0
     → (r .outcome ≡ s .outcome) × (r .multipliers ≡ s .multipliers)
 constants-alone-decide = constants-decide
+
+-- All this holds of files and from C too. A call on a file that is accepted is the call on the file's constants, handed over without parameter rows;
+pub file-call-is-of-its-constants : (s : List ℕ) → AreBytes s → (held : ColumnSet) (x : ℕ) (r : Multipliers) → MultipliersFileCall s held x r → r .refusal ≡ 0
+    → MultipliersCall (decode s .p) (decode s .n) (decode s .a) 0 (flatten (decode s .constants)) [] none held x r
+file-call-is-of-its-constants = file-call
+
+-- a host's call that is accepted writes the bytes of an answer of the call on its file, with the set that the held bytes show;
+pub host-call-is-of-its-file : (s held : List ℕ) (set : ColumnSet) → whole set ≡ set-shown held → (x : ℕ) (area area′ : List ℕ) → HostMultipliers s held x area 0 area′
+    → AnswerShown (λ r. (r .refusal ≡ 0) × MultipliersFileCall s set x r) (λ r. area′ ≡ over (multipliers-bytes r) area)
+host-call-is-of-its-file = host-call
+
+-- and what stands in the held area behind a set's bytes changes nothing.
+pub held-surplus-not-read : (s held other : List ℕ) → take set-bytes held ≡ take set-bytes other → (x : ℕ) (area : List ℕ) (number : ℕ) (area′ : List ℕ)
+    → HostMultipliers s held x area number area′ → HostMultipliers s other x area number area′
+held-surplus-not-read = held-surplus
 
 -- ---- rows used and left over
 

@@ -132,6 +132,7 @@ host-multipliers-number file held x area = area-number _ _ _ _ area
 pub host-multipliers-refused : (file held : List ℕ) (x : ℕ) (area : List ℕ) (k : ℕ) (area′ : List ℕ) → HostMultipliers file held x area k area′ → k ≢ 0 → area′ ≡ area
 host-multipliers-refused file held x area = area-refused _ _ _ _ area
 
+-- of two areas one is too short
 two-areas : (t u : Bool) (us : Tests) → (t ≡ false) ⊎ (u ≡ false) → first-refusal (unless t area-short then (unless u area-short then us)) ≡ 8
 unfolding first-refusal
 two-areas false u us e = refl

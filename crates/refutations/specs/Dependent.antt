@@ -2,7 +2,7 @@
 use Prim.Native.Nat.{ℕ, _<_}
 use mathlib.Core.Path.{_≡_, refl, ap, _∙_}
 use mathlib.Core.Logic.{_≢_}
-use mathlib.Core.Option.{none, some}
+use mathlib.Core.Option.{Option, none, some}
 use mathlib.Core.List.{List, [], _∷_, flatten}
 use native.Mathlib.Omega.{arith}
 use lib.ListN.{getD, replicate}
@@ -15,7 +15,7 @@ use Rattle.columns.specs.declared.ColumnSet.{ColumnSet}
 use Rattle.rank.specs.Modulus.{modulus}
 use Rattle.rank.specs.ListedModel.{constant-at}
 use Rattle.dependence.specs.Multipliers.{sums-to, depends, multiplier, outcome, given}
-use Rattle.dependence.specs.Listing.{listing-at}
+use Rattle.dependence.specs.ListingLaws.{listing-at}
 use Rattle.format.specs.Numbers.{once, stands-in, parameter-count, picked, numbers-in}
 use Rattle.format.specs.Refusals.{_then_, first-refusal, column-test, model-tests}
 use Rattle.multipliers.specs.Answers.{column-question, MultipliersCall}
@@ -23,10 +23,12 @@ use Rattle.multipliers.specs.declared.Multipliers.{Multipliers}
 use Rattle.refutations.specs.Computing.{computing}
 use Rattle.refutations.specs.Accepted.{judging}
 
+-- all that has to be opened to run the definitions,
 unfoldable run : ℕ
 unfolding computing num-of whole sums-to depends multiplier outcome given
 run = 0
 
+-- and to judge a call
 unfoldable asking : ℕ
 unfolding judging whole column-test
 asking = 0
@@ -39,9 +41,11 @@ both = record { low = 3; high = 0 }
 abbrev due : List ℕ → ℕ → ℕ
 due cs x = first-refusal (model-tests 3 3 2 0 cs [] none then column-question 3 (whole both) x)
 
+-- what is promised of that call,
 abbrev Says : List ℕ → ℕ → Multipliers → Type 0
 Says cs x = MultipliersCall 3 3 2 0 cs [] none both x
 
+-- the outcome that it is to have, and the multipliers
 abbrev outcome-of : List ℕ → ℕ → ℕ
 outcome-of cs x = outcome (modulus 3 .0) (modulus 3 .1) 2 3 (constant-at (modulus 3 .0) (modulus 3 .1) 3 cs) (members (whole both)) x
 
@@ -141,5 +145,5 @@ unfolding asking
 column-before-prime r s e = let d : r .refusal ≡ 3 = s .is-refusal in omega arith
 
 -- a refusal has no outcome and no multiplier
-pub refused-with-numbers : (p n a b : ℕ) (cs ws : List ℕ) (held : ColumnSet) (x : ℕ) (r : Multipliers) → MultipliersCall p n a b cs ws none held x r → r .refusal ≢ 0 → (r .outcome ≡ 0) × (r .multipliers ≡ replicate most-columns 0)
-refused-with-numbers p n a b cs ws held x r s ne = let u = s .if-refused (λ z. ne (s .is-refusal ∙ z)) in (u .no-outcome, u .no-multipliers)
+pub refused-with-numbers : (p n a b : ℕ) (cs ws : List ℕ) (ns : Option (List ℕ)) (held : ColumnSet) (x : ℕ) (r : Multipliers) → MultipliersCall p n a b cs ws ns held x r → r .refusal ≢ 0 → (r .outcome ≡ 0) × (r .multipliers ≡ replicate most-columns 0)
+refused-with-numbers p n a b cs ws ns held x r s ne = let u = s .if-refused (λ z. ne (s .is-refusal ∙ z)) in (u .no-outcome, u .no-multipliers)

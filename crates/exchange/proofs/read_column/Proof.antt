@@ -22,7 +22,7 @@ use Rattle.exchange.proofs.read_column.Statement.{statement}
 use Rattle.exchange.proofs.read_column.Tie as tie
 
 -- where the function begins, seen from where the held columns are offered and from where they have been
-abbrev begun : tie.After-offer-all-arg3 → tie.Start
+abbrev begun : tie.After-offer-all-arg2 → tie.Start
 begun c = c .before .before .before .before
 
 abbrev start : tie.After-offer-all → tie.Start
@@ -33,7 +33,7 @@ abbrev held : tie.Start → Set
 held k = members (whole (k .args .held))
 
 held-below : (k : tie.Start) (x : ℕ) → x ∈ held k → x < k .args .n
-held-below k x e = within-iff (k .args .n) (whole (k .args .held)) .0 (k .pre .3) x (columns-below (k .args .held) x (search needs) e) e
+held-below k x e = within-iff (k .args .n) (whole (k .args .held)) .0 (k .pre .4) x (columns-below (k .args .held) x (search needs) e) e
 
 -- the parameter rows that are handed over, of which there are none
 abbrev no-rows : List ℕ
@@ -49,7 +49,7 @@ offered c Q sh =
     let k = start c in
     let a = k .args in
     let G = offering-held (a .p) (a .n) no-rows Q (held k) in
-    c .offer-all .ensures .1 G (offers-start (a .p) (a .n) (a .a) 0 no-rows (a .t .now) (replicate lines (a .n)) (none-owned (a .n) (a .a + 0) (omega (arith, k .pre .2)))
+    c .offer-all .ensures .1 G (offers-start (a .p) (a .n) (a .a) 0 no-rows (a .t .now) (replicate lines (a .n)) (none-owned (a .n) (a .a + 0) (omega (arith, k .pre .3)))
     (held k) G sh (λ x. ((λ e. (held-below k x e, e)), λ w. w .1)))
 
 -- where none of the held columns is missing, all are placed
@@ -57,7 +57,7 @@ all-placed : (c : tie.Else1) → let o = c .before .before .before in (y : ℕ) 
 all-placed c y e =
     let o = c .before .before .before in
     let gone : # width (held (start o) ∩ ∁ (in-set o)) ≡ 0 = ap (# width) (sym (c .before .before .difference .ensures)) ∙ eqb-true _ 0 (sym (c .before .is-empty .ensures) ∙ not-false _ (c .if1 .left)) in
-    none-missing (held (start o)) (in-set o) gone (λ x m. omega (arith, held-below (start o) x m, start o .pre .1)) y e
+    none-missing (held (start o)) (in-set o) gone (λ x m. omega (arith, held-below (start o) x m, start o .pre .2)) y e
 
 cast-owner : tie.Need-cast-owner
 cast-owner c = search needs
@@ -65,19 +65,16 @@ cast-owner c = search needs
 slice-aggregate-offer-all : tie.Need-slice-aggregate-offer-all
 slice-aggregate-offer-all c = search needs
 
-slice-aggregate-offer-all-2 : tie.Need-slice-aggregate-offer-all-2
-slice-aggregate-offer-all-2 c = search needs
-
 offer-all-requires : tie.Need-offer-all-requires
 offer-all-requires c κs =
     let k = begun c in
     let a = k .args in (
       record {
-        lengths = record { tableau = k .pre .0 .full; owners = refl; columns = k .pre .1; constant-rows = k .pre .2; constants-among = omega arith; all-rows = omega arith };
+        lengths = record { tableau = k .pre .0 .full; owners = refl; columns = k .pre .2; constant-rows = k .pre .3; constants-among = omega arith; all-rows = omega arith };
         below = k .pre .0 .below;
-        prime = k .pre .4;
+        prime = k .pre .5;
       },
-      record { entry = λ i l. absurd (omega arith) },
+      k .pre .1,
       offers-some (a .p) (a .n) (a .a) 0 no-rows (a .t .now) (replicate lines (a .n)) (none-owned (a .n) (a .a + 0) (omega arith)) (held k) (held-below k),
     )
 
@@ -99,8 +96,8 @@ returns c =
     let some : # width (held k ∩ ∁ (in-set o)) ≢ 0 = λ z. eqb-false _ 0 (sym (t .before .is-empty .ensures) ∙ not-true _ (t .if1 .taken)) (ap (# width) (t .before .before .difference .ensures) ∙ z) in
     let y = one-missing (held k) (in-set o) some in (
       c .without-multipliers .ensures .0,
-      λ Q sh. held-columns-dependent (a .p) (a .n) (a .a) (k .pre .4) no-rows _ _ (offering-held (a .p) (a .n) no-rows Q (held k)) (in-set o) (offered o Q sh) (o .offer-all .ensures .0 .below)
-          (held-below k) (a .x) (k .pre .5) (y .0) (y .1) (y .2) (c .without-multipliers .result) (c .without-multipliers .ensures .1),
+      λ Q sh. held-columns-dependent (a .p) (a .n) (a .a) (k .pre .5) no-rows _ _ (offering-held (a .p) (a .n) no-rows Q (held k)) (in-set o) (offered o Q sh) (o .offer-all .ensures .0 .below)
+          (held-below k) (a .x) (k .pre .6) (y .0) (y .1) (y .2) (c .without-multipliers .result) (c .without-multipliers .ensures .1),
     )
 
 is-zero-where-free-requires : tie.Need-is-zero-where-free-requires
@@ -117,8 +114,8 @@ returns-2 c =
     let k = start o in
     let a = k .args in (
       c .without-multipliers2 .ensures .0,
-      λ Q sh. column-independent (a .p) (a .n) (a .a) (k .pre .4) no-rows _ _ (offering-held (a .p) (a .n) no-rows Q (held k)) (in-set o) (offered o Q sh) (o .offer-all .ensures .0 .below)
-          (held-below k) (a .x) (k .pre .5) (all-placed e) (z .is-zero-where-free .ensures .if-false (not-true _ (c .before .if2 .taken))) (c .without-multipliers2 .result)
+      λ Q sh. column-independent (a .p) (a .n) (a .a) (k .pre .5) no-rows _ _ (offering-held (a .p) (a .n) no-rows Q (held k)) (in-set o) (offered o Q sh) (o .offer-all .ensures .0 .below)
+          (held-below k) (a .x) (k .pre .6) (all-placed e) (z .is-zero-where-free .ensures .if-false (not-true _ (c .before .if2 .taken))) (c .without-multipliers2 .result)
           (c .without-multipliers2 .ensures .1),
     )
 
@@ -134,8 +131,8 @@ returns-3 c =
     let k = start o in
     let a = k .args in (
       refl,
-      λ Q sh. column-depends (a .p) (a .n) (a .a) (k .pre .4) no-rows _ _ (offering-held (a .p) (a .n) no-rows Q (held k)) (in-set o) (offered o Q sh) (o .offer-all .ensures .0 .below)
-          (held-below k) (a .x) (k .pre .5) (all-placed e) (z .is-zero-where-free .ensures .if-true (not-false _ (f .if2 .left))) _ (c .entries-by-owner .ensures),
+      λ Q sh. column-depends (a .p) (a .n) (a .a) (k .pre .5) no-rows _ _ (offering-held (a .p) (a .n) no-rows Q (held k)) (in-set o) (offered o Q sh) (o .offer-all .ensures .0 .below)
+          (held-below k) (a .x) (k .pre .6) (all-placed e) (z .is-zero-where-free .ensures .if-true (not-false _ (f .if2 .left))) _ (c .entries-by-owner .ensures),
     )
 
 pub read-column-spec : {M : Type 1} → statement M
@@ -144,7 +141,6 @@ read-column-spec =
     (tie.spec
     cast-owner
     slice-aggregate-offer-all
-    slice-aggregate-offer-all-2
     offer-all-requires
     difference-requires
     is-empty-requires

@@ -12,7 +12,7 @@ use Rattle.format.specs.Refusals.{Tests, _then_, first-refusal, model-tests}
 use Rattle.layered.specs.Answers.{RankCall}
 use Rattle.host.specs.AreaCall.{WrittenOver}
 use Rattle.host.proofs.AreaLaws.{refused-before, answer-put}
-use Rattle.multipliers.specs.Answers.{column-question, Unanswered, Answered}
+use Rattle.multipliers.specs.Answers.{column-question, MultipliersRefused, MultipliersAnswered}
 use Rattle.multipliers.specs.Bytes.{multipliers-length, multipliers-bytes}
 use Rattle.harness.proofs.harness_multipliers.Statement.{statement}
 use Rattle.harness.proofs.harness_multipliers.Tie as tie
@@ -30,11 +30,11 @@ tests k w = let a = k .args in model-tests (a .p) (a .n) (a .a) (a .b) (a .const
 
 -- the call is one on that set
 asked : (c : tie.After-model-multipliers) → let k = begun (c .before) in let r = c .model-multipliers .result in
-    RankCall (first-refusal (tests k (held k))) (r .refusal) (Unanswered r) (Answered (k .args .p) (k .args .n) (k .args .a) (k .args .constants .now) (members (held k)) (k .args .column) r)
+    RankCall (first-refusal (tests k (held k))) (r .refusal) (MultipliersRefused r) (MultipliersAnswered (k .args .p) (k .args .n) (k .args .a) (k .args .constants .now) (members (held k)) (k .args .column) r)
 asked c =
     let k = begun (c .before) in
     let r = c .model-multipliers .result in
-    subst (λ (w : ℕ). RankCall (first-refusal (tests k w)) (r .refusal) (Unanswered r) (Answered (k .args .p) (k .args .n) (k .args .a) (k .args .constants .now) (members w) (k .args .column) r))
+    subst (λ (w : ℕ). RankCall (first-refusal (tests k w)) (r .refusal) (MultipliersRefused r) (MultipliersAnswered (k .args .p) (k .args .n) (k .args .a) (k .args .constants .now) (members w) (k .args .column) r))
     (c .before .of-bytes .ensures .is-number) (c .model-multipliers .ensures)
 
 of-bytes-requires : tie.Need-of-bytes-requires
@@ -48,7 +48,7 @@ returns c =
     let f = c .before .before in
     let k = begun (f .before) in
     let a = k .args in
-    refused-before (tests k (held k)) [] multipliers-length (WrittenOver (Answered (a .p) (a .n) (a .a) (a .constants .now) (members (held k)) (a .column)) multipliers-bytes) (a .answer .now) _ (asked f .is-refusal) (c .if1 .taken)
+    refused-before (tests k (held k)) [] multipliers-length (WrittenOver (MultipliersAnswered (a .p) (a .n) (a .a) (a .constants .now) (members (held k)) (a .column)) multipliers-bytes) (a .answer .now) _ (asked f .is-refusal) (c .if1 .taken)
 
 put-multipliers-requires : tie.Need-put-multipliers-requires
 put-multipliers-requires c κs = search needs

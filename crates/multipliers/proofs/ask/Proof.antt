@@ -1,4 +1,5 @@
 -- `multipliers::ask` meets its contract, by what the solver ensures. Assumes nothing.
+use Prim.Native.Nat.{_<_}
 use mathlib.Core.Path.{_≡_, sym, _∙_}
 use mathlib.Core.Bool.{true, false}
 use borrow.Author.Tests.{not-true, not-false}
@@ -22,7 +23,7 @@ returns : tie.Need-returns
 returns c =
     let a = c .before .before .before .args in
     let e = c .refuse .ensures .0 in
-    call-refused (e ∙ column-refused (a .n) (whole (a .held)) (a .column) (c .before .if1 .taken)) (λ z. omega (arith, e)) (c .refuse .ensures .1)
+    call-refused (e ∙ column-refused (a .n) (whole (a .held)) (a .column) (omega (arith, c .before .if1 .taken))) (λ z. omega (arith, e)) (c .refuse .ensures .1)
 
 within-requires : tie.Need-within-requires
 within-requires c κs = search needs
@@ -36,7 +37,7 @@ returns-2 c =
     let a = begun t .args in
     let e = c .refuse2 .ensures .0 in
     let out : within (a .n) (whole (a .held)) ≡ false = sym (t .before .within .ensures) ∙ not-true _ (t .if2 .taken) in
-    call-refused (e ∙ held-refused (a .n) (whole (a .held)) (a .column) (t .before .before .if1 .left) out) (λ z. omega (arith, e)) (c .refuse2 .ensures .1)
+    call-refused (e ∙ held-refused (a .n) (whole (a .held)) (a .column) (omega (arith, t .before .before .if1 .left)) out) (λ z. omega (arith, e)) (c .refuse2 .ensures .1)
 
 column-dependence-requires : tie.Need-column-dependence-requires
 column-dependence-requires c κs = search needs
@@ -48,7 +49,7 @@ returns-3 c =
     let k = w .before .before .before in
     let a = k .args in
     let inside : within (a .n) (whole (a .held)) ≡ true = sym (w .within .ensures) ∙ not-false _ (d .before .if2 .left) in
-    let l = w .before .if1 .left in
+    let l : a .column < a .n = omega (arith, w .before .if1 .left) in
     let zero = columns-pass (a .n) (whole (a .held)) (a .column) l inside in
     record {
       is-refusal = zero;

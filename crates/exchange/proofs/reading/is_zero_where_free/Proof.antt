@@ -48,7 +48,7 @@ returns c =
     let w = c .before .before .before in
     let l = turn w .loop in
     let ey : w .widened .result ≡ owner-at (turn w .before .args .owner .now) (l .q) = w .widened .ensures .0 in
-    record { if-true = λ e. absurd (false≢true e); if-false = λ e. (l .q, omega arith, (rw ey at (c .before .before .if1 .taken), c .if2 .taken)) }
+    record { if-true = λ e. absurd (false≢true e); if-false = λ e. (l .q, omega arith, (omega (arith, ey, c .before .before .if1 .taken), c .if2 .taken)) }
 
 add-q : tie.Need-add-q Inv-loop μ-loop
 add-q c = search needs

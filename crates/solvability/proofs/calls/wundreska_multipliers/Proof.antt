@@ -20,7 +20,7 @@ use Rattle.format.specs.File.Format.{fields, decode}
 use Rattle.layered.specs.Answers.{RankCall}
 use Rattle.host.specs.AreaCall.{WrittenOver}
 use Rattle.host.proofs.AreaLaws.{refused-short, refused-around, refused-beside, passed-beside, answer-put}
-use Rattle.multipliers.specs.Answers.{column-question, Unanswered, FileAnswered}
+use Rattle.multipliers.specs.Answers.{column-question, MultipliersRefused, FileAnswered}
 use Rattle.multipliers.specs.Bytes.{multipliers-length, multipliers-bytes}
 use Rattle.solvability.specs.Host.{set-shown, multipliers-question}
 use Rattle.solvability.proofs.calls.wundreska_multipliers.Statement.{statement}
@@ -44,11 +44,11 @@ held-is c =
 
 -- so the call on the file is one on that set
 asked : (c : tie.After-file-multipliers) → let a = start (c .before) .args in let r = c .file-multipliers .result in
-    RankCall (first-refusal (closed fields (a .file .now) then column-question (decode (a .file .now) .n) (set-shown (a .held .now)) (a .column))) (r .refusal) (Unanswered r) (FileAnswered (a .file .now) (members (set-shown (a .held .now))) (a .column) r)
+    RankCall (first-refusal (closed fields (a .file .now) then column-question (decode (a .file .now) .n) (set-shown (a .held .now)) (a .column))) (r .refusal) (MultipliersRefused r) (FileAnswered (a .file .now) (members (set-shown (a .held .now))) (a .column) r)
 asked c =
     let a = start (c .before) .args in
     let r = c .file-multipliers .result in
-    subst (λ (w : ℕ). RankCall (first-refusal (closed fields (a .file .now) then column-question (decode (a .file .now) .n) w (a .column))) (r .refusal) (Unanswered r) (FileAnswered (a .file .now) (members w) (a .column) r))
+    subst (λ (w : ℕ). RankCall (first-refusal (closed fields (a .file .now) then column-question (decode (a .file .now) .n) w (a .column))) (r .refusal) (MultipliersRefused r) (FileAnswered (a .file .now) (members w) (a .column) r))
     (held-is (c .before)) (c .file-multipliers .ensures)
 
 -- the area of the held set passes
