@@ -25,6 +25,7 @@ static const char *reason(uint32_t refusal)
     case WUNDRESKA_AREA_SHORT: return "the answer area is too short";
     case WUNDRESKA_NUMBER_TWICE: return "two parameters have one number";
     case WUNDRESKA_NOT_MIXED: return "a differs from b, or the mixed question has too many columns";
+    case WUNDRESKA_COLUMN_BEYOND: return "a column is n or more";
     default: return "a number that this host does not know";
     }
 }
@@ -81,13 +82,42 @@ static int complain(uint32_t refusal)
     return 0;
 }
 
+/* Says how the first unplaced column of an open model depends on those that the constant rows determine; it does, or they would
+ * determine it too. Multipliers above p / 2 are shown as negative ones; p is bytes 3 and 4 of the file. */
+static void explain(const uint8_t *file, size_t length, const uint8_t *answer)
+{
+    uint8_t about[WUNDRESKA_MULTIPLIERS_SIZE];
+    const uint8_t *placed = answer + WUNDRESKA_PLACED, *held = answer + WUNDRESKA_CONSTANTS;
+    const char *joint = "";
+    int column = 0, p = file[3] + 256 * file[4], c, times;
+    while (placed[column / 8] >> column % 8 & 1)
+        column++;
+    if (wundreska_multipliers(file, length, held, WUNDRESKA_SET_SIZE, (size_t)column, about, sizeof about) != WUNDRESKA_ACCEPTED)
+        return;
+    if (about[WUNDRESKA_OUTCOME] != WUNDRESKA_DEPENDS)
+        return;
+    printf("in the constant rows, column %d = ", column);
+    for (c = 0; c < WUNDRESKA_COLUMNS_MAX; c++) {
+        times = about[WUNDRESKA_MULTIPLIERS + 2 * c] + 256 * about[WUNDRESKA_MULTIPLIERS + 2 * c + 1];
+        if (times == 0)
+            continue;
+        printf("%s%d * column %d", joint, times > p / 2 ? times - p : times, c);
+        joint = " + ";
+    }
+    printf(*joint ? "\n" : "0\n");
+}
+
 static int treat_layered(const uint8_t *file, size_t length)
 {
     uint8_t answer[WUNDRESKA_ANSWER_SIZE];
     uint32_t refusal = wundreska_check(file, length, answer, sizeof answer);
+    int started;
     if (refusal != WUNDRESKA_ACCEPTED)
         return complain(refusal);
-    return act(answer[WUNDRESKA_VERDICT], answer[WUNDRESKA_RANK], answer + WUNDRESKA_SHORT, 0);
+    started = act(answer[WUNDRESKA_VERDICT], answer[WUNDRESKA_RANK], answer + WUNDRESKA_SHORT, 0);
+    if (answer[WUNDRESKA_VERDICT] == WUNDRESKA_OPEN)
+        explain(file, length, answer);
+    return started;
 }
 
 /* The short set is one of the layered form, whose first m columns are not the model's; m is the file's number a, byte 9. */

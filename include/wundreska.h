@@ -1,12 +1,13 @@
 /* wundreska.h: the solvability check for layered and mixed plant models, as a C host calls it.
  *
- * A call judges a model file and, if it is accepted, says whether the model determines all its unknowns with no equation left over:
- * wundreska_check for a layered model, wundreska_mixed for a mixed one. Start a solver on WUNDRESKA_DETERMINED alone.
+ * A call judges a model file and, if it is accepted, answers a question about the model. wundreska_check for a layered model and
+ * wundreska_mixed for a mixed one say whether it determines all its unknowns with no equation left over: start a solver on
+ * WUNDRESKA_DETERMINED alone. wundreska_multipliers says how the constants of one column depend on those of others.
  *
  * Words. A model has a prime p, n columns (the unknowns), a constant rows and b parameter rows. Rows and columns count
  * from 0. A constant is a whole number from 0 to p - 1 (minus one is p - 1); a parameter row only says at which columns it
  * has a parameter. All ranks are taken modulo p. A mixed model has a = b = m, and its row i is the sum of constant row i and
- * parameter row i; a place may hold both. The same file can be asked either question.
+ * parameter row i; a place may hold both. The same file can be asked every question.
  *
  * The file. Fields, each a one-byte tag, a two-byte length and the body; numbers have their low byte first. In this order:
  *
@@ -26,17 +27,20 @@
  * every parameter row has the field of tag 6, one of length 0 where it has no parameter, or none has it: whether it follows the
  * first parameter row decides. A model without parameter rows is not numbered.
  *
- * A set of columns or rows is WUNDRESKA_SET_SIZE bytes in an answer, and WUNDRESKA_ROW_SIZE(n) bytes in the file: column c is
- * bit c % 8 (lowest is 0) of byte c / 8.
+ * A set of columns or rows is WUNDRESKA_SET_SIZE bytes in an answer and where a call takes one, and WUNDRESKA_ROW_SIZE(n) bytes
+ * in the file: column c is bit c % 8 (lowest is 0) of byte c / 8.
  *
  * Every call. It takes the bytes of a file and an answer area, and returns WUNDRESKA_ACCEPTED or the number of the refusal.
+ * wundreska_multipliers also takes the bytes of a set, held, and the number of a column.
  * - Accepted: exactly the bytes of the answer are written, over the front of the area; the surplus is left as it was.
- * - Refused: no byte of the answer area is changed. The file is never changed.
- * - Pointers: file points to file_len bytes that can be read, answer to answer_len bytes that can be written. The two areas do
- *   not overlap. Where its length is 0 a pointer may be NULL: nothing is read or written through it.
- * - Threads: a call keeps nothing, shares nothing and allocates nothing. It may run on any thread, several at once, the same
- *   file included, as long as nothing else writes the file or touches the answer area meanwhile.
- * - Stack: a call needs less than WUNDRESKA_STACK_MAX bytes of it (measured: 42 KB, for a mixed question 62 KB).
+ * - Refused: no byte of the answer area is changed. The file and the set are never changed.
+ * - Pointers: file points to file_len bytes that can be read, held to held_len such bytes, answer to answer_len bytes that can be
+ *   written. The answer area overlaps no other. Where its length is 0 a pointer may be NULL: nothing is read or written through
+ *   it.
+ * - Threads: a call keeps nothing, shares nothing and allocates nothing. It may run on any thread, several at once, the same file
+ *   and set included, as long as nothing else writes these or touches the answer area meanwhile.
+ * - Stack: a call needs less than WUNDRESKA_STACK_MAX bytes of it (measured: 42 KB, for a mixed question 62 KB, for one about a
+ *   column 50 KB).
  * - Platform: the archive is for x86-64 Linux, can stand in a shared object, and takes memcpy, memmove and memset of the host.
  *
  * Linking: rt staticlib solvability
@@ -55,9 +59,9 @@ extern "C" {
 #endif
 
 /* The version of this header and of the archive that it comes with. */
-#define WUNDRESKA_VERSION "3.1.0"
+#define WUNDRESKA_VERSION "3.2.0"
 #define WUNDRESKA_VERSION_MAJOR 3
-#define WUNDRESKA_VERSION_MINOR 1
+#define WUNDRESKA_VERSION_MINOR 2
 #define WUNDRESKA_VERSION_PATCH 0
 
 /* The limits: p is a prime from 2 to WUNDRESKA_PRIME_MAX, n is 1 to WUNDRESKA_COLUMNS_MAX, a and b are 0 to WUNDRESKA_ROWS_MAX
@@ -73,7 +77,7 @@ extern "C" {
  * refusal is that of the whole file. The launcher ./check takes the number from here. */
 #define WUNDRESKA_FILE_MAX 38894
 
-/* The verdicts of both calls, by the rank, the n columns and the rows: a + b of them, in a mixed model m. */
+/* The verdicts of a layered and of a mixed model, by the rank, the n columns and the rows: a + b of them, in a mixed model m. */
 #define WUNDRESKA_OPEN 0       /* the rank is below n: equations are lacking */
 #define WUNDRESKA_DETERMINED 1 /* the rank equals n and the number of rows: all columns can be placed, and every row is needed for it */
 #define WUNDRESKA_SURPLUS 2    /* the rank equals n and rows are more: all columns can be placed, and the rows left over may contradict */
@@ -91,9 +95,11 @@ extern "C" {
 #define WUNDRESKA_TRAILING 7         /* bytes follow the end field */
 #define WUNDRESKA_NUMBER_TWICE 13    /* a parameter's number is that of a parameter before it, in the same field or an earlier one */
 /* The calling program causes this one. It comes after those of the file. */
-#define WUNDRESKA_AREA_SHORT 8       /* answer_len is below the size of the call's answer */
+#define WUNDRESKA_AREA_SHORT 8       /* answer_len is below the size of the call's answer, or held_len below WUNDRESKA_SET_SIZE */
 /* The modeller with a mixed question causes this one, in wundreska_mixed alone. It comes last. */
 #define WUNDRESKA_NOT_MIXED 10       /* a differs from b, or a + n exceeds WUNDRESKA_COLUMNS_MAX */
+/* Whoever asks about a column causes this one, in wundreska_multipliers alone. It comes last. */
+#define WUNDRESKA_COLUMN_BEYOND 11   /* the named column, or a held one, is n or more */
 
 /* The answer to a layered model: where each part starts, and the size of all. */
 #define WUNDRESKA_VERDICT 0 /* 1 byte: one of the verdicts above */
@@ -131,6 +137,28 @@ uint32_t wundreska_check(const uint8_t *file, size_t file_len, uint8_t *answer, 
  *   matrix followed by the constants; its parameter row i has a parameter at column i, and those of parameter row i moved m
  *   columns up. So column m + c of the form is column c of the model. The set is empty unless the model is open. */
 uint32_t wundreska_mixed(const uint8_t *file, size_t file_len, uint8_t *answer, size_t answer_len);
+
+/* The answer about a column: where each part starts, and the size of all. */
+#define WUNDRESKA_OUTCOME 0     /* 1 byte: one of the outcomes below */
+#define WUNDRESKA_MULTIPLIERS 1 /* the multiplier of each column, two bytes, low byte first: that of column c is 2 * c bytes on */
+#define WUNDRESKA_MULTIPLIERS_SIZE (WUNDRESKA_MULTIPLIERS + 2 * WUNDRESKA_COLUMNS_MAX) /* 193 */
+
+/* The outcomes. In the first two the held columns are linearly independent. */
+#define WUNDRESKA_INDEPENDENT 0    /* the named column does not depend on the held ones */
+#define WUNDRESKA_DEPENDS 1        /* it depends on them, with the multipliers given */
+#define WUNDRESKA_HELD_DEPENDENT 2 /* the held columns are linearly dependent */
+
+/* The question about a column: how the one named, column, depends on the held ones. It is asked of the constant rows alone,
+ * modulo p; parameter rows play no part. The first WUNDRESKA_SET_SIZE bytes of held are the set of held columns, and the surplus is
+ * not read. Of an accepted model:
+ * - where the outcome is WUNDRESKA_DEPENDS, each held column has a multiplier below p, and in every constant row the constants of
+ *   the held columns, each times its column's multiplier, sum to the constant of the named column modulo p. No others do so;
+ * - all other multipliers are 0: those of columns that are not held, or from n on, and with another outcome those of all columns;
+ * - a named column that is held itself, with independent held columns, has multiplier 1 at itself and 0 elsewhere;
+ * - the empty set is independent. A named column whose constants are all 0 depends on every independent set, the empty one
+ *   included, and all multipliers are 0. */
+uint32_t wundreska_multipliers(const uint8_t *file, size_t file_len, const uint8_t *held, size_t held_len, size_t column,
+                               uint8_t *answer, size_t answer_len);
 
 #ifdef __cplusplus
 }

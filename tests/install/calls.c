@@ -17,11 +17,29 @@ typedef struct {
     unsigned columns, rows; /* of the largest model that it takes with as many rows as columns */
 } Entry;
 
+/* The last column by all others. */
+static uint32_t last_column(const uint8_t *file, size_t file_len, uint8_t *answer, size_t answer_len)
+{
+    enum { LAST = WUNDRESKA_COLUMNS_MAX - 1 };
+    uint8_t others[WUNDRESKA_SET_SIZE];
+    memset(others, 255, sizeof others);
+    others[LAST / 8] ^= 1 << LAST % 8;
+    return wundreska_multipliers(file, file_len, others, sizeof others, LAST, answer, answer_len);
+}
+
+/* A set of no bytes. */
+static uint32_t no_set(const uint8_t *file, size_t file_len, uint8_t *answer, size_t answer_len)
+{
+    return wundreska_multipliers(file, file_len, NULL, 0, 0, answer, answer_len);
+}
+
 static const Entry entries[] = {
     {"wundreska_check", wundreska_check, WUNDRESKA_ANSWER_SIZE, WUNDRESKA_COLUMNS_MAX, WUNDRESKA_ROWS_MAX},
     {"wundreska_mixed", wundreska_mixed, WUNDRESKA_MIXED_SIZE, WUNDRESKA_COLUMNS_MAX / 2, WUNDRESKA_COLUMNS_MAX / 2},
+    {"wundreska_multipliers", last_column, WUNDRESKA_MULTIPLIERS_SIZE, WUNDRESKA_COLUMNS_MAX, WUNDRESKA_ROWS_MAX},
 };
-enum { ENTRIES = sizeof entries / sizeof *entries, MODELS = 12, NUMBERED = MODELS, THREADS = 8, TURNS = 200, PAINT = 0xA5, STACK = 1 << 20 };
+enum { ENTRIES = sizeof entries / sizeof *entries, MODELS = 12, NUMBERED = MODELS, THREADS = 8, TURNS = 200, PAINT = 0xA5 };
+enum { STACK = 1 << 20, LONGEST = WUNDRESKA_MULTIPLIERS_SIZE }; /* bytes of a thread's stack, and of the longest answer */
 
 static int passed, failed;
 
@@ -107,7 +125,7 @@ static void make_nth_model(int nth, const Entry *entry)
 
 typedef struct {
     const Entry *entry;
-    uint8_t answer[WUNDRESKA_ANSWER_SIZE];
+    uint8_t answer[LONGEST];
     uint32_t refusal;
     int steady;    /* every turn gave the same */
     uint8_t *base; /* an address at the top of what the call takes of the stack */
@@ -165,11 +183,20 @@ static void *call_often(void *of)
 
 static void try_null(const Entry *entry)
 {
-    uint8_t answer[WUNDRESKA_ANSWER_SIZE];
+    uint8_t answer[LONGEST];
     make_nth_model(0, entry);
     expect(entry->call(NULL, 0, answer, sizeof answer) == WUNDRESKA_TRUNCATED, "no file, NULL", entry->name);
     expect(entry->call(NULL, 0, NULL, 0) == WUNDRESKA_TRUNCATED, "no file and no area, NULL", entry->name);
     expect(entry->call(file, file_len, NULL, 0) == WUNDRESKA_AREA_SHORT, "no area, NULL", entry->name);
+}
+
+static void try_null_set(void)
+{
+    uint8_t answer[LONGEST];
+    make_nth_model(0, &entries[0]);
+    expect(no_set(file, file_len, answer, sizeof answer) == WUNDRESKA_AREA_SHORT, "no set, NULL", "wundreska_multipliers");
+    expect(no_set(file, file_len, NULL, 0) == WUNDRESKA_AREA_SHORT, "no set and no area, NULL", "wundreska_multipliers");
+    expect(no_set(NULL, 0, NULL, 0) == WUNDRESKA_TRUNCATED, "no file, set and area, NULL", "wundreska_multipliers");
 }
 
 static void try_stack(const Entry *entry)
@@ -209,6 +236,7 @@ int main(void)
 {
     int k;
     srand(13);
+    try_null_set();
     for (k = 0; k < ENTRIES; k++) {
         try_null(&entries[k]);
         try_stack(&entries[k]);

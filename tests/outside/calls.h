@@ -28,6 +28,16 @@ Called call_file(FileCall *call, const uint8_t *file, size_t length, size_t answ
  * legal constant or parameter row. */
 Called call_model(ModelCall *call, const Model *model, Lengths lengths, size_t written);
 
+/* The columns that a question is about: the held ones as so many bytes of a set, and the one named. */
+typedef struct {
+    const uint8_t *held;
+    size_t length, named;
+} Columns;
+
+/* A question about columns, of a file with an answer area of this length, and of a model. */
+Called call_multipliers(const uint8_t *file, size_t length, Columns columns, size_t answer_length);
+Called call_handed_multipliers(const Model *model, Columns columns, Lengths lengths);
+
 /* The reading of a file into areas, the model being the one that it holds. */
 typedef struct {
     uint32_t refusal;

@@ -25,6 +25,8 @@ static int compare_all(const char *models)
     compare_rows();
     compare_wide();
     compare_numbers();
+    compare_multipliers();
+    compare_columns();
     return end_tally() > 0;
 }
 

@@ -6,6 +6,9 @@
 #include "reference.h"
 #include "tally.h"
 
+/* The columns that a word and a set's words have room for; columns or rows of a small model, and of one that is smaller still. */
+enum { WORD = 64, WIDTH = WORD * ROW_WORDS, SMALL = 12, FEW = 8 };
+
 /* ---- complaints.c: NULL where there is none ---- */
 
 /* About the refusal number and the bytes that must not change. */
@@ -63,6 +66,15 @@ void try_areas_of_every_length(const Question *question);
  * longer; a call writes so many bytes. */
 Lengths spoil(Model *model, size_t written);
 
+/* ---- compare_numbers.c ---- */
+
+/* Gives a parameter of a numbered model, if there are two, the number of one before it. */
+void plant_twice(Model *model);
+
+/* As spoil, of a numbered model: with a number twice in every other one, and the area of the numbers short or longer too. Some
+ * are numbered no longer. */
+Lengths spoil_numbered(Model *model, size_t written);
+
 /* ---- the categories ---- */
 
 void compare_bench_models(const char *folder); /* compare_models.c */
@@ -81,5 +93,7 @@ void compare_spoilt_models(void);
 void compare_rows(void); /* compare_rows.c */
 void compare_wide(void); /* compare_wide.c */
 void compare_numbers(void); /* compare_numbers.c */
+void compare_multipliers(void); /* compare_multipliers.c */
+void compare_columns(void); /* compare_columns.c */
 
 #endif

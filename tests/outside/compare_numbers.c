@@ -4,8 +4,8 @@
 
 #include <string.h>
 
-/* How many columns a word has room for, rows and columns of a small model, and entries by which areas are too long. */
-enum { WORD = 64, SMALL = 12, FEW = 8, MORE = 5 };
+/* Entries by which areas are too long. */
+enum { MORE = 5 };
 
 static Model draw_numbered(size_t columns, size_t rows)
 {
@@ -196,9 +196,8 @@ static const Places *places_of(const Model *m)
     return &places;
 }
 
-/* Gives a parameter, if there are two, the number of one before it: often the last one gets it, often from its neighbour or from
- * the first one. */
-static void plant_twice(Model *m)
+/* Often the last one gets it, often from its neighbour or from the first one. */
+void plant_twice(Model *m)
 {
     const Places *places = places_of(m);
     if (places->count < 2)
@@ -267,8 +266,7 @@ static void compare_numbers_twice(void)
 
 /* ---- handed over with several faults ---- */
 
-/* With a number twice in every other model; the area of the numbers may be short or longer. */
-static Lengths spoil_numbered(Model *m, size_t written)
+Lengths spoil_numbered(Model *m, size_t written)
 {
     if (one_in(2))
         plant_twice(m);

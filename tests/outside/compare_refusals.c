@@ -97,7 +97,6 @@ static void spoil_constant(Model *m)
 
 static void spoil_parameter(Model *m)
 {
-    enum { WIDTH = 64 * ROW_WORDS };
     if (m->n < WIDTH)
         m->parameters[draw(m->b + 1)] |= just(m->n + draw(WIDTH - m->n));
 }

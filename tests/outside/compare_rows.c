@@ -3,8 +3,8 @@
 
 #include <string.h>
 
-/* How far numbers and areas go beyond what is needed, and how many columns a row has room for. */
-enum { MORE = 3, WIDTH = 64 * ROW_WORDS };
+/* How far numbers and areas go beyond what is needed. */
+enum { MORE = 3 };
 
 /* Column c is bit c mod 8 of byte c div 8; bytes that are missing count as 0, and those that a row has no room for are not read. */
 static int shown(const Touching *t, size_t column)

@@ -1,11 +1,9 @@
-/* Models of more columns than a word has bits, and those on both sides of that edge and of the limit. */
+/* Models of more columns than a word has bits, and those on both sides of that edge and of the limit. A parameter row of up to WORD
+ * columns has the bytes of one word in the file. */
 #include "compare.h"
 #include "harness.h"
 
 #include <string.h>
-
-/* How many columns a word has room for: up to so many, a parameter row has the bytes of one word in the file. */
-enum { WORD = 64, FEW_ROWS = 8 };
 
 /* ---- models of more than a word's columns ---- */
 
@@ -47,7 +45,7 @@ static void compare_wide_models(void)
 {
     begin_category("layered models of 65 to 96 columns, handed over and in files");
     for (int i = 0; i < 36000; i++) {
-        Model m = draw_wide(FEW_ROWS);
+        Model m = draw_wide(FEW);
         try_layered(&m);
     }
     for (int i = 0; i < 600; i++) {
@@ -56,7 +54,7 @@ static void compare_wide_models(void)
     }
     begin_category("mixed models of 65 to 96 columns, handed over and in files");
     for (int i = 0; i < 16000; i++) {
-        Model m = draw_wide_form(FEW_ROWS);
+        Model m = draw_wide_form(FEW);
         try_mixed(&m);
     }
 }
@@ -95,7 +93,7 @@ static void compare_row_lengths(void)
     begin_category("files whose parameter rows have the other width's length");
     for (int i = 0; i < 20000; i++) {
         int widened = one_in(2);
-        Model m = widened ? draw_model(all_primes, COUNT(all_primes), WORD, FEW_ROWS) : draw_wide(FEW_ROWS);
+        Model m = widened ? draw_model(all_primes, COUNT(all_primes), WORD, FEW) : draw_wide(FEW);
         size_t columns = widened ? WORD + 1 + draw(WUNDRESKA_COLUMNS_MAX - WORD) : 1 + draw(WORD);
         try_file(&layered_question, file, write_as(&m, columns, file));
     }
@@ -119,7 +117,7 @@ static Model draw_at(Kind kind, size_t n, size_t a, size_t b)
 /* Of all sizes up to the most: at an edge, or few. */
 static size_t draw_rows(void)
 {
-    return one_in(3) ? draw(FEW_ROWS) : edges[draw(COUNT(edges))];
+    return one_in(3) ? draw(FEW) : edges[draw(COUNT(edges))];
 }
 
 static void compare_edge_models(void)
@@ -148,10 +146,10 @@ static void compare_edge_models(void)
 static void compare_odd_areas(void)
 {
     static const Model none;
-    uint64_t words[ROW_WORDS * FEW_ROWS + 1] = {0};
+    uint64_t words[ROW_WORDS * FEW + 1] = {0};
     uint8_t answer[WUNDRESKA_ANSWER_SIZE];
     begin_category("areas of parameter rows with a word more and a word less than the rows have");
-    for (size_t b = 0; b <= FEW_ROWS; b++) {
+    for (size_t b = 0; b <= FEW; b++) {
         uint32_t longer = harness_layered(2, 1, 0, b, NULL, 0, words, ROW_WORDS * b + 1, false, NULL, 0, answer, sizeof answer);
         count_case(longer == 0 ? NULL : "a word more than the rows have is refused", &none);
         if (b > 0) {

@@ -25,6 +25,14 @@ ModelCall harness_mixed;
 /* The bytes of the model's file. */
 ModelCall harness_write;
 
+/* The bytes of wundreska_multipliers' answer. It takes the held columns and the named one before the area to write to. It returns
+ * 0 or the refusal: that of a ModelCall as far as 13, then 11, and last 8 for the area written. Of the held columns 16 bytes are
+ * read; those that are missing count as 0, so that no length is refused. */
+uint32_t harness_multipliers(uint32_t p, size_t n, size_t a, size_t b, const uint16_t *constants, size_t constants_len,
+                             const uint64_t *parameters, size_t parameters_len, bool numbered, const uint16_t *numbers,
+                             size_t numbers_len, const uint8_t *held, size_t held_len, size_t column, uint8_t *out,
+                             size_t out_len);
+
 /* The model of a file, written to the front of areas laid out as above; the numbers are written where it is numbered, 0 where no
  * parameter stands. It returns 0 or the refusal: the file's, then 8 for the areas. */
 uint32_t harness_read(const uint8_t *file, size_t file_len, uint16_t *constants, size_t constants_len, uint64_t *parameters,

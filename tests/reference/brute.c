@@ -1,4 +1,4 @@
-/* The definitions of document 01, by enumeration. */
+/* The definitions of documents 01 and 02, by enumeration. */
 #include "brute.h"
 
 #include <limits.h>
@@ -35,16 +35,21 @@ static int subset(Set inner, Set outer)
     return (inner & ~outer) == 0;
 }
 
+/* What the coefficients make of a constant row. */
+static uint32_t total_in(const Model *m, size_t row, const uint32_t *coefficients)
+{
+    uint64_t total = 0;
+    for (size_t c = 0; c < m->n; c++)
+        total += (uint64_t)m->constants[row * m->n + c] * coefficients[c];
+    return total % m->p;
+}
+
 /* Whether the coefficients make every one of these constant rows zero. */
 static int kills(const Model *m, Set rows, const uint32_t *coefficients)
 {
-    for (size_t r = 0; r < m->a; r++) {
-        uint64_t total = 0;
-        for (size_t c = 0; c < m->n; c++)
-            total += (uint64_t)m->constants[r * m->n + c] * coefficients[c];
-        if (has(rows, r) && total % m->p != 0)
+    for (size_t r = 0; r < m->a; r++)
+        if (has(rows, r) && total_in(m, r, coefficients) != 0)
             return 0;
-    }
     return 1;
 }
 
@@ -59,19 +64,23 @@ static int next_vector(const Model *m, uint32_t *coefficients)
     return 0;
 }
 
+static Set support_of(const Model *m, const uint32_t *coefficients)
+{
+    Set support = 0;
+    for (size_t c = 0; c < m->n; c++)
+        support |= (Set)(coefficients[c] != 0) << c;
+    return support;
+}
+
 /* A set is dependent if some coefficients, not all 0 and 0 outside it, kill the rows. */
 static void find_independent(Tables *t, Set rows)
 {
     const Model *m = t->model;
     uint32_t coefficients[BRUTE_COLUMNS] = {0};
     memset(t->independent, 1, sizeof t->independent);
-    while (next_vector(m, coefficients)) {
-        Set support = 0;
-        for (size_t c = 0; c < m->n; c++)
-            support |= (Set)(coefficients[c] != 0) << c;
+    while (next_vector(m, coefficients))
         if (kills(m, rows, coefficients))
-            t->independent[support] = 0;
-    }
+            t->independent[support_of(m, coefficients)] = 0;
     for (Set set = 0; set < SETS; set++)
         for (Set inner = 1; inner < set; inner++)
             if (subset(inner, set) && !t->independent[inner])
@@ -176,4 +185,36 @@ EnumeratedMixed enumerate_mixed(const Model *model)
     }
     e.verdict = verdict_by(full);
     return e;
+}
+
+/* Whether the coefficients make every constant row its constant in this column. */
+static int makes(const Model *m, const uint32_t *coefficients, size_t column)
+{
+    for (size_t r = 0; r < m->a; r++)
+        if (total_in(m, r, coefficients) != m->constants[r * m->n + column])
+            return 0;
+    return 1;
+}
+
+/* The held columns are independent if no vector but that of zeros kills the rows. Where they are and two vectors still make the
+ * column, there is no outcome. */
+Multipliers enumerate_multipliers(const Model *m, Set held, size_t column)
+{
+    uint32_t coefficients[BRUTE_COLUMNS] = {0};
+    size_t killing = 0, making = 0;
+    Multipliers found = {0};
+    do {
+        if (!subset(support_of(m, coefficients), held))
+            continue;
+        killing += kills(m, all_below(m->a), coefficients);
+        if (!makes(m, coefficients, column))
+            continue;
+        making++;
+        for (size_t c = 0; c < m->n; c++)
+            found.multipliers[c] = coefficients[c];
+    } while (next_vector(m, coefficients));
+    if (killing > 1)
+        return (Multipliers){.outcome = WUNDRESKA_HELD_DEPENDENT};
+    found.outcome = making == 1 ? WUNDRESKA_DEPENDS : making == 0 ? WUNDRESKA_INDEPENDENT : UINT_MAX;
+    return found;
 }

@@ -1,8 +1,10 @@
-/* Document 01's definitions run as they stand, over every assignment, set and coefficient vector. For few columns only. */
+/* The definitions of documents 01 and 02 run as they stand, over every assignment, set and coefficient vector. For few columns
+ * only. */
 #ifndef BRUTE_H
 #define BRUTE_H
 
 #include "model.h"
+#include "multipliers.h"
 
 enum { BRUTE_COLUMNS = 6, SETS = 1 << BRUTE_COLUMNS };
 
@@ -22,5 +24,8 @@ typedef struct {
 } EnumeratedMixed;
 
 EnumeratedMixed enumerate_mixed(const Model *model);
+
+/* The answer about columns below n, by the coefficient vectors that are 0 outside the held ones. */
+Multipliers enumerate_multipliers(const Model *model, Set held, size_t column);
 
 #endif

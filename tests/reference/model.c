@@ -51,6 +51,17 @@ static size_t between(size_t low, size_t high)
     return low + draw(high - low + 1);
 }
 
+void shuffle(size_t *numbers, size_t count)
+{
+    for (size_t i = 0; i < count; i++)
+        numbers[i] = i;
+    for (size_t i = count; i > 1; i--) {
+        size_t k = draw(i), other = numbers[k];
+        numbers[k] = numbers[i - 1];
+        numbers[i - 1] = other;
+    }
+}
+
 /* ---- random models ---- */
 
 static uint16_t *at(Model *m, size_t row, size_t column)
@@ -178,17 +189,6 @@ void draw_numbers(Model *m)
 }
 
 /* ---- models of a rank that is known ---- */
-
-static void shuffle(size_t *numbers, size_t count)
-{
-    for (size_t i = 0; i < count; i++)
-        numbers[i] = i;
-    for (size_t i = count; i > 1; i--) {
-        size_t k = draw(i), other = numbers[k];
-        numbers[k] = numbers[i - 1];
-        numbers[i - 1] = other;
-    }
-}
 
 /* Something at a place: in a layered model what the row is of, in a mixed one a constant, a parameter or both. */
 static void occupy(Model *m, Kind kind, size_t row, size_t column)

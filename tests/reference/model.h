@@ -48,6 +48,9 @@ void put_words(Set set, uint64_t *words);
 uint64_t draw(uint64_t bound);
 int one_in(uint64_t many);
 
+/* The numbers below a count, in an order drawn at random. */
+void shuffle(size_t *numbers, size_t count);
+
 /* A model with a, b and n up to the limits given, at one of the primes. */
 Model draw_model(const uint32_t *primes, size_t primes_count, size_t columns, size_t rows);
 
@@ -84,6 +87,9 @@ uint32_t judge_areas(const Model *model, size_t constants, size_t rows, size_t n
 
 /* The refusal of the mixed question about a model that is not refused, or 0. */
 uint32_t judge_mixed(const Model *model);
+
+/* The refusal of a question about a column and held ones, of a model that is not refused, or 0. */
+uint32_t judge_columns(const Model *model, Set held, size_t column);
 
 /* ---- damage.c ---- */
 
