@@ -1,6 +1,6 @@
 /* Times the library's layered call, the same in plain Rust, and FLINT's ranks, on the same models in one process; then the longest
- * file against that of the same model unnumbered.
- * Prints a line for each kind of model: its name, then microseconds a call of each method, parted by '|'. */
+ * file against that of the same model unnumbered; then the call about a column against the layered call and FLINT's solving.
+ * Prints a line for each kind of model: its table, its name, then microseconds a call of each method, parted by '|'. */
 #define _POSIX_C_SOURCE 200809L
 #include "harness.h"
 #include "model.h"
@@ -88,8 +88,9 @@ typedef struct {
     uint64_t rows[WUNDRESKA_ROWS_MAX * ROW_WORDS]; /* the parameter rows as the calls take them */
     nmod_mat_t substituted; /* constants above random numbers, modulo the large prime */
     nmod_mat_t constants;   /* modulo p */
+    nmod_mat_t held, named, multipliers; /* the columns but the last, the last one, and what it is of them, modulo p */
     File numbered, unnumbered; /* the longest file, and that of its model without numbers */
-    uint8_t answer[WUNDRESKA_ANSWER_SIZE];
+    uint8_t answer[WUNDRESKA_MULTIPLIERS_SIZE]; /* the longest that there is */
     slong rank;
 } Work;
 
@@ -98,9 +99,9 @@ typedef void Method(Work *work);
 static void call(ModelCall *layered, Work *w)
 {
     const Model *m = &w->model;
-    memset(w->answer, 0, sizeof w->answer);
+    memset(w->answer, 0, WUNDRESKA_ANSWER_SIZE);
     if (layered(m->p, m->n, m->a, m->b, m->constants, m->a * m->n, w->rows, m->b * ROW_WORDS, false, NULL, 0, w->answer,
-                sizeof w->answer))
+                WUNDRESKA_ANSWER_SIZE))
         abort();
 }
 
@@ -189,6 +190,15 @@ static void clear_works(Work *works)
     }
 }
 
+static void print_times(const char *table, const char *kind, const Model *m, const double *times, int count)
+{
+    printf("%s|%s %zu/%zu/%zu, p %u", table, kind, m->n, m->a, m->b, (unsigned)m->p);
+    for (int i = 0; i < count; i++)
+        printf("|%f", times[i]);
+    printf("\n");
+    fflush(stdout);
+}
+
 static void measure(const char *kind, Model (*make)(void))
 {
     static Work works[MODELS];
@@ -201,11 +211,7 @@ static void measure(const char *kind, Model (*make)(void))
     const Model *m = &works[0].model;
     int only_constants = m->b == 0;
     time_all(methods, only_constants ? 4 : 3, works, t);
-    printf("%s %zu/%zu/%zu, p %u|%f|%f|%f", kind, m->n, m->a, m->b, (unsigned)m->p, t[0], t[1], t[2]);
-    if (only_constants)
-        printf("|%f", t[3]);
-    printf("\n");
-    fflush(stdout);
+    print_times("rank", kind, m, t, only_constants ? 4 : 3);
     clear_works(works);
 }
 
@@ -222,7 +228,7 @@ static Model longest(void)
 
 static void ask(Work *w, const File *file, size_t missing, uint32_t due)
 {
-    if (wundreska_check(file->bytes, file->length - missing, w->answer, sizeof w->answer) != due)
+    if (wundreska_check(file->bytes, file->length - missing, w->answer, WUNDRESKA_ANSWER_SIZE) != due)
         abort();
 }
 
@@ -244,7 +250,99 @@ static void measure_numbers(void)
         works[k].unnumbered.length = write_file(&m, works[k].unnumbered.bytes);
     }
     time_all(methods, 4, works, t);
-    printf("checked|%f|%f\njudged|%f|%f\n", t[0], t[1], t[2], t[3]);
+    printf("file|checked|%f|%f\nfile|judged|%f|%f\n", t[0], t[1], t[2], t[3]);
+}
+
+/* ---- the last column by all others, against the layered call on the same model and FLINT's solving ---- */
+
+/* Makes the last column a sum of the others. */
+static void plant_sum(Model *m)
+{
+    size_t last = m->n - 1;
+    uint32_t factors[MOST];
+    for (size_t c = 0; c < last; c++)
+        factors[c] = draw(m->p);
+    for (size_t r = 0; r < m->a; r++) {
+        uint64_t total = 0;
+        for (size_t c = 0; c < last; c++)
+            total += (uint64_t)m->constants[r * m->n + c] * factors[c];
+        m->constants[r * m->n + last] = total % m->p;
+    }
+}
+
+static void prepare_sum(Work *w, Model model)
+{
+    Model *m = &w->model;
+    size_t last = model.n - 1;
+    *m = model;
+    plant_sum(m);
+    nmod_mat_init(w->held, m->a, last, m->p);
+    nmod_mat_init(w->named, m->a, 1, m->p);
+    nmod_mat_init(w->multipliers, last, 1, m->p);
+    for (size_t r = 0; r < m->a; r++) {
+        for (size_t c = 0; c < last; c++)
+            nmod_mat_entry(w->held, r, c) = m->constants[r * m->n + c];
+        nmod_mat_entry(w->named, r, 0) = m->constants[r * m->n + last];
+    }
+}
+
+static void clear_sums(Work *works)
+{
+    for (int k = 0; k < MODELS; k++) {
+        nmod_mat_clear(works[k].held);
+        nmod_mat_clear(works[k].named);
+        nmod_mat_clear(works[k].multipliers);
+    }
+}
+
+static void multipliers(Work *w)
+{
+    const Model *m = &w->model;
+    size_t last = m->n - 1;
+    uint8_t held[WUNDRESKA_SET_SIZE];
+    for (size_t i = 0; i < sizeof held; i++)
+        held[i] = all_below(last) >> 8 * i & 255;
+    memset(w->answer, 0, WUNDRESKA_MULTIPLIERS_SIZE);
+    if (harness_multipliers(m->p, m->n, m->a, m->b, m->constants, m->a * m->n, NULL, 0, false, NULL, 0, held, sizeof held, last,
+                            w->answer, WUNDRESKA_MULTIPLIERS_SIZE))
+        abort();
+}
+
+static void solved(Work *w)
+{
+    if (!nmod_mat_can_solve(w->multipliers, w->held, w->named))
+        abort();
+}
+
+/* The library and FLINT give the same multipliers. */
+static void check_multipliers(Work *w)
+{
+    int same;
+    multipliers(w);
+    solved(w);
+    same = w->answer[WUNDRESKA_OUTCOME] == WUNDRESKA_DEPENDS;
+    for (size_t c = 0; c + 1 < w->model.n; c++) {
+        const uint8_t *given = w->answer + WUNDRESKA_MULTIPLIERS + 2 * c;
+        same = same && nmod_mat_entry(w->multipliers, c, 0) == given[0] + 256u * given[1];
+    }
+    if (!same) {
+        fprintf(stderr, "the library and FLINT differ\n");
+        exit(1);
+    }
+}
+
+static void measure_multipliers(const char *kind, Model (*make)(void))
+{
+    static Work works[MODELS];
+    static Method *const methods[] = {multipliers, library, solved};
+    double t[3];
+    for (int k = 0; k < MODELS; k++) {
+        prepare_sum(&works[k], make());
+        check_multipliers(&works[k]);
+    }
+    time_all(methods, 3, works, t);
+    print_times("column", kind, &works[0].model, t, 3);
+    clear_sums(works);
 }
 
 int main(void)
@@ -262,5 +360,8 @@ int main(void)
     measure("plant-like", plant_like_most);
     measure("dense", constants_most);
     measure_numbers();
+    measure_multipliers("dense", constants_1021);
+    measure_multipliers("dense", constants_largest);
+    measure_multipliers("dense", constants_most);
     return 0;
 }
