@@ -1,4 +1,4 @@
--- Who causes which number: the refusals of document 01 and of document 02, E1 and E4, the test behind each, and the judgement of a model handed over.
+-- Who causes which number: the refusals of document 01 and of document 02, E1, E2 and E4, the test behind each, and the judgement of a model handed over.
 -- A judgement is a list of tests in the order in which they are made; it gives the number of the first that fails, or 0.
 -- Definitions only; RefusalLaws says how they read.
 use Prim.Native.Nat.{ℕ, zero, suc, _+_, _-_, _*_}
@@ -32,6 +32,7 @@ pub data Cause : Type 0 where
   not-mixed : Cause
   -- whoever names columns
   column-beyond : Cause
+  column-placed : Cause
   -- whoever numbered the parameters
   number-twice : Cause
 
@@ -47,6 +48,7 @@ number-of area-short = 8
 number-of row-beyond = 9
 number-of not-mixed = 10
 number-of column-beyond = 11
+number-of column-placed = 12
 number-of number-twice = 13
 
 -- ---- tests in their order

@@ -26,5 +26,7 @@ pub const NOT_MIXED: u32 = 10;
 // Whoever names columns.
 pub const COLUMN_BEYOND: u32 = 11;
 
+pub const COLUMN_PLACED: u32 = 12;
+
 // Whoever numbered the parameters.
 pub const NUMBER_TWICE: u32 = 13;

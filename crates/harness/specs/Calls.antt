@@ -13,6 +13,8 @@ use Rattle.host.specs.AreaCall.{AreaCall, WrittenOver}
 use Rattle.host.specs.AnswerBytes.{answer-length, AnswerWritten, mixed-length, MixedWritten}
 use Rattle.multipliers.specs.Answers.{column-question, MultipliersAnswered}
 use Rattle.multipliers.specs.Bytes.{multipliers-length, multipliers-bytes}
+use Rattle.reason.specs.Answers.{reason-question, ReasonAnswered}
+use Rattle.reason.specs.Bytes.{reason-length, reason-bytes}
 
 -- the layered call: as the model is judged, then 8 for the area
 abbrev pub LayeredBytes : (p n a b : ℕ) (cs ws : List ℕ) → Option (List ℕ) → (area : List ℕ) (number : ℕ) (area′ : List ℕ) → Type 0
@@ -26,6 +28,11 @@ MixedBytes p n a b cs ws ns = AreaCall (mixed-tests p n a b cs ws ns) [] mixed-l
 abbrev pub MultipliersBytes : (p n a b : ℕ) (cs ws : List ℕ) → Option (List ℕ) → (held x : ℕ) (area : List ℕ) (number : ℕ) (area′ : List ℕ) → Type 0
 MultipliersBytes p n a b cs ws ns held x =
     AreaCall (model-tests p n a b cs ws ns then column-question n held x) [] multipliers-length (WrittenOver (MultipliersAnswered p n a cs (members held) x) multipliers-bytes)
+
+-- the call about the reason for column x: as the model and the column are judged, then 8 for the area
+abbrev pub ReasonBytes : (p n a b : ℕ) (cs ws : List ℕ) → Option (List ℕ) → (x : ℕ) (area : List ℕ) (number : ℕ) (area′ : List ℕ) → Type 0
+ReasonBytes p n a b cs ws ns x =
+    AreaCall (model-tests p n a b cs ws ns then reason-question (listed-model p n a b cs ws) x) [] reason-length (WrittenOver (ReasonAnswered p n a b cs ws x) reason-bytes)
 
 -- a reading: the refusal, and the areas afterwards; some sizes are those of the file
 pub record FileInAreas (s cs ws ks : List ℕ) (refusal : ℕ) (cs′ ws′ ks′ : List ℕ) : Type 0 where

@@ -9,7 +9,7 @@ ghost use Rattle.columns.specs.ColumnSets.{row-numbers};
 ghost use Rattle.format.specs.Numbers.{lent};
 ghost use Rattle.format.specs.File.Format.{WriteCall};
 ghost use Rattle.touching.specs.RowCount.{touching-count};
-ghost use Rattle.harness.specs.Calls.{LayeredBytes, MixedBytes, MultipliersBytes, FileInAreas};
+ghost use Rattle.harness.specs.Calls.{LayeredBytes, MixedBytes, MultipliersBytes, ReasonBytes, FileInAreas};
 use host::put_answer;
 use host::put_mixed;
 use layered::layered_rank;
@@ -17,6 +17,8 @@ use loader::read_file;
 use mixed::mixed_rank;
 use multipliers::model_multipliers;
 use multipliers::put_multipliers;
+use reason::model_reason;
+use reason::put_reason;
 use touching::touching_rows;
 use writer::write_file;
 
@@ -98,6 +100,29 @@ pub extern "C" fn harness_multipliers(
         return r.refusal;
     }
     put_multipliers(answer, r)
+}
+
+// The bytes of the answer about the reason for a column.
+#[no_mangle]
+pub extern "C" fn harness_reason(
+    p: u32,
+    n: usize,
+    a: usize,
+    b: usize,
+    constants: &[u16],
+    parameters: &[u64],
+    numbered: bool,
+    numbers: &[u16],
+    column: usize,
+    answer: &mut [u8],
+) -> u32
+    ensures { λ r. ⌜ ReasonBytes p n a b (now (constants .entry)) (row-numbers (now (parameters .entry))) (lent numbered (now (numbers .entry))) column (now (answer .entry)) r (now (answer .exit)) ⌝ }
+{
+    let r = model_reason(p, n, a, b, constants, parameters, numbered, numbers, column);
+    if r.refusal != 0 {
+        return r.refusal;
+    }
+    put_reason(answer, r)
 }
 
 // The bytes of the model's file; what a C caller does not see is how many they are.

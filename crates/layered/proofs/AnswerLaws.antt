@@ -24,6 +24,7 @@ use Rattle.rank.specs.Layered.Rank.{rank, placed, short}
 use Rattle.rank.specs.Layered.ColumnOrder.{placed-size}
 use Rattle.exchange.specs.Solution.{Solved}
 use Rattle.exchange.specs.Solve.{fitting, admissible, Shown}
+use Rattle.exchange.specs.DependenceCall.{askable}
 use Rattle.exchange.specs.SolveLaws.{all-below-iff, admissible-reads}
 use Rattle.rank.specs.ListedModel.{listed-model}
 use Rattle.rank.specs.ListedModelLaws.{verdict-at-n}
@@ -61,6 +62,11 @@ accepted-admissible {p} {n} {a} {b} {cs} {ws} h offered inside =
     (lt-ltb p 65536 (omega (arith, h .p-most))))
     (prime→test p (h .prime)))
     (all-below-iff p (a * n) cs .1 (constant-below h))
+
+-- and its constants alone, asked how a column depends on others
+pub accepted-askable : {p n a : ℕ} {cs : List ℕ} → Accepted p n a 0 cs [] none → (held x : ℕ) → within n held ≡ true → x < n → askable p n a held x cs ≡ true
+unfolding askable
+accepted-askable {p} {n} h held x inside l = and-in (accepted-admissible h held inside) (lt-ltb x n l)
 
 module _ (p n a b : ℕ) (cs ws : List ℕ) (offered : ℕ) (m : members offered ≡ upto n) where
   -- all columns below n are offered

@@ -18,6 +18,7 @@ use Rattle.columns.specs.Words.Rows.{rows-zeros}
 use Rattle.columns.specs.Words.Bytes.{AreBytes}
 use Rattle.rank.specs.Modulus.{modulus}
 use Rattle.rank.specs.ModelModulo.{model-modulo}
+use Rattle.rank.specs.ListedModel.{listed-model}
 use Rattle.rank.specs.Layered.Model.{Model}
 use Rattle.format.specs.Lists.{All, over}
 use Rattle.format.proofs.Rows.{over-front, flat-length, flat-all, all-second}
@@ -30,6 +31,7 @@ use Rattle.format.specs.File.Piece.{closed}
 use Rattle.format.specs.File.Format.{FileModel, ValidModel, fields, judge, decode, area-tests, no-model, read-model, rows-refusal, RowsCall}
 use Rattle.format.specs.File.FormatLaws.{decoded-valid}
 use Rattle.layered.specs.declared.Answer.{Answer}
+use Rattle.layered.specs.FileModel.{file-model}
 use Rattle.layered.specs.Answers.{Answered, RankCall, LayeredCall, LayeredFileCall}
 
 -- ---- areas of zeros
@@ -156,6 +158,13 @@ module _ {s : List ℕ} (bytes : AreBytes s) {k p n a b : ℕ} {t : Bool} {cs′
         rw (r .p-is, r .n-is, r .a-is, r .b-is, r .constants-are, r .parameters-are, all)
         (ap₂ (make (decode s .p) (decode s .n) (decode s .a) (decode s .b)) (fun-ext (over-zeros (flatten (decode s .constants)) most-constants)) (fun-ext (λ k. ap (λ (z : List ℕ). getD (over (decode s .parameters) z) k 0) rows-zeros ∙ over-zeros (decode s .parameters) most-rows k)))
 
+    -- its model is the file's
+    pub own-model : listed-model p n a b cs′ ws′ ≡ file-model s
+    own-model = own-made by-elements
+      where
+        by-elements : (p n a b : ℕ) (c w : ℕ → ℕ) → Model
+        by-elements p n a b c w = model-modulo (modulus p .0) (modulus p .1) n a b (λ i x. res (modulus p .0) (modulus p .1) (c (i * n + x))) (λ r x. members (w r) x) (λ x. true)
+
 -- ---- the answer to it
 
 module _ {due given : ℕ} {R A : Type 0} where
@@ -168,7 +177,4 @@ module _ {due given : ℕ} {R A : Type 0} where
 
 pub file-answered : {s : List ℕ} (bytes : AreBytes s) {k p n a b : ℕ} {u : Bool} {cs′ ws′ : List ℕ} → RowsCall s own-constants own-parameters k p n a b u cs′ ws′ → k ≡ 0
     → (t : Answer) → LayeredCall p n a b cs′ ws′ none t → LayeredFileCall s t
-file-answered bytes r ok t h = call-as (own-accepted bytes r ok ∙ sym (judged bytes r ok)) (subst (λ (M : Model). Answered M t) (own-made bytes r ok by-elements)) h
-  where
-    by-elements : (p n a b : ℕ) (c w : ℕ → ℕ) → Model
-    by-elements p n a b c w = model-modulo (modulus p .0) (modulus p .1) n a b (λ i x. res (modulus p .0) (modulus p .1) (c (i * n + x))) (λ r x. members (w r) x) (λ x. true)
+file-answered bytes r ok t h = call-as (own-accepted bytes r ok ∙ sym (judged bytes r ok)) (subst (λ (M : Model). Answered M t) (own-model bytes r ok)) h

@@ -1,22 +1,19 @@
--- The question about a model that is judged: what it asks of columns, and that the solver takes the constants. Assumes nothing.
+-- The question about a model that is judged: what it asks of columns. Assumes nothing.
 use Prim.Native.Nat.{ℕ, _+_, _*_, _≤_, _<_}
 use mathlib.Core.Path.{_≡_, subst}
 use mathlib.Core.Bool.{Bool, true, false}
-use mathlib.Core.List.{List, [], flatten}
-use mathlib.Core.Option.{none}
-use borrow.Author.Tests.{lt-ltb, le-ltb}
+use mathlib.Core.List.{List, flatten}
+use borrow.Author.Tests.{le-ltb}
 use Rattle.residue.specs.Residues.{res}
-use Rattle.counting.specs.Bools.{and-in}
 use Rattle.counting.specs.Sets.{Set}
 use Rattle.columns.specs.Columns.{within}
 use Rattle.columns.specs.Words.Bytes.{AreBytes}
 use Rattle.rank.specs.Modulus.{modulus}
-use Rattle.exchange.specs.DependenceCall.{askable, DependenceShown, ListedDependenceShown}
+use Rattle.exchange.specs.DependenceCall.{DependenceShown, ListedDependenceShown}
 use Rattle.format.specs.Refusals.{first-refusal, column-beyond, column-test}
 use Rattle.format.specs.RefusalLaws.{first-fails, first-passes, first-none}
-use Rattle.format.specs.TestLaws.{Accepted, column-reads}
+use Rattle.format.specs.TestLaws.{column-reads}
 use Rattle.format.specs.File.Format.{decode, RowsCall}
-use Rattle.layered.proofs.AnswerLaws.{accepted-admissible}
 use Rattle.layered.proofs.FileLaws.{own-constants, own-parameters, own-made}
 use Rattle.multipliers.specs.Answers.{column-question}
 
@@ -33,12 +30,6 @@ module _ (n held x : ℕ) where
 
     pub columns-pass : within n held ≡ true → 0 ≡ first-refusal (column-question n held x)
     columns-pass e = first-passes _ column-beyond _ 0 (column-reads x n .1 l) (first-passes _ column-beyond _ 0 e first-none)
-
--- ---- what the solver takes
-
-pub accepted-askable : {p n a : ℕ} {cs : List ℕ} → Accepted p n a 0 cs [] none → (held x : ℕ) → within n held ≡ true → x < n → askable p n a held x cs ≡ true
-unfolding askable
-accepted-askable {p} {n} h held x inside l = and-in (accepted-admissible h held inside) (lt-ltb x n l)
 
 -- ---- the file's constants, as they were read
 

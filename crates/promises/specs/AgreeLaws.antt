@@ -1,14 +1,14 @@
 -- Models that agree in their rows and columns have the same answers, whatever stands elsewhere. Assumes nothing.
 use Prim.Native.Nat.{ℕ, zero, suc, _+_, _≤_, _<_}
 use mathlib.Core.Path.{_≡_, sym, ap, ap₂, _∙_, fun-ext}
-use mathlib.Core.Bool.{Bool, true, cond}
+use mathlib.Core.Bool.{Bool, true, cond, _&&_, decide}
 use native.Mathlib.Omega.{arith}
 use native.Mathlib.Decide.{decLt}
 use Rattle.residue.specs.Arithmetic.{Prime}
 use Rattle.residue.specs.Residues.{residues}
 use Rattle.counting.specs.Bools.{iff-eq}
-use Rattle.counting.specs.Sets.{Set, _∈_, _∩_, ∁, #, touching}
-use Rattle.counting.specs.Counts.{#-ext, touching-iff}
+use Rattle.counting.specs.Sets.{Set, _∈_, _∩_, ∁, #, set, touching}
+use Rattle.counting.specs.Counts.{_⊖_, #-ext, touching-iff}
 use Rattle.counting.specs.Choices.{largest-part}
 use Rattle.rank.specs.Verdict.{verdict-number}
 use Rattle.rank.specs.Linear.Independence.{dot, Indep}
@@ -17,10 +17,12 @@ use Rattle.rank.specs.IndependentLaws.{independent-iff}
 use Rattle.rank.specs.Independent.{independent}
 use Rattle.rank.specs.ModelModulo.{model-modulo}
 use Rattle.rank.specs.Layered.Model.{Model, Assignment, placing, Legal, size}
-use Rattle.rank.specs.Layered.Rank.{constant-rank, sum, rank, placed, short, verdict}
-use Rattle.rank.specs.Layered.Meaning.{short-iff}
+use Rattle.rank.specs.Layered.Rank.{constant-rank, sum, rank, placeable, placed, short, verdict}
+use Rattle.rank.specs.Layered.Meaning.{placeable-iff, short-iff}
 use Rattle.rank.specs.Layered.Duality.{size-le-rank, rank-reached}
 use Rattle.rank.specs.Layered.ColumnOrder.{placed-below, placed-legal, placed-first}
+use Rattle.blocking.specs.Reason.{drawn-from, reason, untouched}
+use Rattle.blocking.specs.ReasonLaws.{untouched-count}
 
 -- the constants agree in the a rows and n columns, the parameters in the b rows and n columns
 pub record Agree (q : ℕ) (P : Prime q) (n a b : ℕ) (Q Q′ : ℕ → ℕ → residues q P .F) (T T′ : ℕ → ℕ → Bool) : Type 0 where
@@ -78,6 +80,9 @@ module _ (q : ℕ) (P : Prime q) (n a b : ℕ) (E : Set) where
         let t : (A : Assignment) × Legal M A × ((x : ℕ) → x < n → placing A x ≡ placed M x) = placed-legal M in
         placed-first M′ (t .0) (legal-to (t .0) (t .1)) x l (λ y ly. t .2 y (omega arith) ∙ same y ly) (t .2 x l ∙ h)
 
+    placeable-to : (D : Set) → placeable M D ≡ true → placeable M′ D ≡ true
+    placeable-to D t = let w = placeable-iff M D .0 t in placeable-iff M′ D .1 (w .0, legal-to (w .0) (w .1), w .2)
+
   -- ---- both ways
 
   module _ (Q Q′ : ℕ → ℕ → residues q P .F) (T T′ : ℕ → ℕ → Bool) (e : Agree q P n a b Q Q′ T T′) where
@@ -113,16 +118,28 @@ module _ (q : ℕ) (P : Prime q) (n a b : ℕ) (E : Set) where
     indep-same : independent q P a n Q ≡ independent q P a n Q′
     indep-same = fun-ext (λ S. iff-eq _ _ (indep-test-to Q Q′ T T′ e S) (indep-test-to Q′ Q T′ T (agree-sym e) S))
 
+    touched-same : (J : Set) → # b (touching n T J) ≡ # b (touching n T′ J)
+    touched-same J = #-ext b (touching n T J) (touching n T′ J) (λ r l. iff-eq _ _ (touching-to Q Q′ T T′ e J r l) (touching-to Q′ Q T′ T (agree-sym e) J r l))
+
     sum-same : (J : Set) → sum N J ≡ sum N′ J
     unfolding sum constant-rank
-    sum-same J =
-        ap₂ (λ (f : Set → Bool) (k : ℕ). largest-part n J (λ S. cond (f S) (# n S) 0) + k + # n (∁ J ∩ E))
-        indep-same
-        (#-ext b (touching n T J) (touching n T′ J)
-        (λ r l. iff-eq _ _ (touching-to Q Q′ T T′ e J r l) (touching-to Q′ Q T′ T (agree-sym e) J r l)))
+    sum-same J = ap₂ (λ (f : Set → Bool) (k : ℕ). largest-part n J (λ S. cond (f S) (# n S) 0) + k + # n (∁ J ∩ E)) indep-same (touched-same J)
 
     pub short-same : (x : ℕ) → short N x ≡ short N′ x
     short-same x =
         iff-eq _ _
         (λ h. short-iff N′ x .1 (λ J p s. short-iff N x .0 h J p (sum-same J ∙ s ∙ sym rank-same)))
         (λ h. short-iff N x .1 (λ J p s. short-iff N′ x .0 h J p (sym (sum-same J) ∙ s ∙ rank-same)))
+
+    placeable-same : (D : Set) → placeable N D ≡ placeable N′ D
+    placeable-same D = iff-eq _ _ (placeable-to Q Q′ T T′ e D) (placeable-to Q′ Q T′ T (agree-sym e) D)
+
+    pub reason-same : (x y : ℕ) → reason N x y ≡ reason N′ x y
+    unfolding reason
+    reason-same x y = ap (λ (S : Set). decide (decLt y n) && set S x true y && placeable N (set S x true ⊖ y)) (fun-ext placed-same)
+        ∙ ap (λ (t : Bool). decide (decLt y n) && drawn-from N′ x y && t) (placeable-same (drawn-from N′ x ⊖ y))
+
+    pub untouched-same : (D : Set) → untouched N D ≡ untouched N′ D
+    untouched-same D = iff-eq _ _
+        (λ t. untouched-count N′ D .1 (sym (touched-same D) ∙ untouched-count N D .0 t))
+        (λ t. untouched-count N D .1 (touched-same D ∙ untouched-count N′ D .0 t))

@@ -111,7 +111,7 @@ module _ (p n a b : ℕ) (cs ds ws vs : List ℕ) (ec : take (a * n) cs ≡ take
 
   -- ---- the layered answer
 
-  agree : Agree (modulus p .0) (modulus p .1) n a b (listed-model p n a b cs ws .Q) (listed-model p n a b ds vs .Q) (listed-model p n a b cs ws .T) (listed-model p n a b ds vs .T)
+  pub agree : Agree (modulus p .0) (modulus p .1) n a b (listed-model p n a b cs ws .Q) (listed-model p n a b ds vs .Q) (listed-model p n a b cs ws .T) (listed-model p n a b ds vs .T)
   agree = record {
     constants = λ i x l m. ap (res (modulus p .0) (modulus p .1)) (constant-same n a cs ds ec i x l m);
     parameters = λ r x l m. ap (λ (w : ℕ). members w x) (front-at b ws vs ew r l);

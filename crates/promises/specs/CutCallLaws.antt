@@ -26,7 +26,9 @@ use Rattle.host.specs.AreaCall.{area-refusal, AreaCall, WrittenOver}
 use Rattle.host.specs.AnswerBytes.{answer-length, AnswerWritten, mixed-length, MixedWritten}
 use Rattle.multipliers.specs.Answers.{FileAnswered}
 use Rattle.multipliers.specs.Bytes.{multipliers-length, multipliers-bytes}
-use Rattle.solvability.specs.Host.{HostAnswer, HostMixedAnswer, set-shown, multipliers-question, HostMultipliers}
+use Rattle.reason.specs.Answers.{reason-question, FileReason}
+use Rattle.reason.specs.Bytes.{reason-length, reason-bytes}
+use Rattle.solvability.specs.Host.{HostAnswer, HostMixedAnswer, set-shown, multipliers-question, HostMultipliers, HostReason}
 use Rattle.text.specs.Text.{refused-line, Prints}
 use Rattle.text.specs.declared.Printed.{Printed}
 use Rattle.report.specs.FileReport.{Reports, FileReport}
@@ -128,6 +130,9 @@ module _ (k : ℕ) (s : List ℕ) (bytes : AreBytes s) (h : longest-file < k) wh
 
   pub host-multipliers-cut : (held : List ℕ) (x : ℕ) (area : List ℕ) (number : ℕ) (area′ : List ℕ) → HostMultipliers (take k s) held x area number area′ → HostMultipliers s held x area number area′
   host-multipliers-cut held x = area-cut (λ t. multipliers-question t held x) multipliers-length (λ t. WrittenOver (FileAnswered t (members (set-shown held)) x) multipliers-bytes)
+
+  pub host-reason-cut : (x : ℕ) (area : List ℕ) (number : ℕ) (area′ : List ℕ) → HostReason (take k s) x area number area′ → HostReason s x area number area′
+  host-reason-cut x = area-cut (λ t. reason-question (file-model t) x) reason-length (λ t. WrittenOver (FileReason t x) reason-bytes)
 
   -- ---- the reports
 

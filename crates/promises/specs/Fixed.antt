@@ -4,6 +4,7 @@ use mathlib.Core.Path.{_≡_}
 use Rattle.columns.specs.ColumnSets.{whole}
 use Rattle.layered.specs.declared.Answer.{Answer}
 use Rattle.mixed.specs.declared.MixedAnswer.{MixedAnswer}
+use Rattle.reason.specs.declared.Reason.{Reason}
 
 -- layered answers; open is which side and row a placed column takes
 pub record SameAnswer (r s : Answer) : Type 0 where
@@ -31,6 +32,13 @@ pub record SameMixedShown (r s : MixedAnswer) : Type 0 where
   pub same-verdict : r .verdict ≡ s .verdict
   pub same-rank : r .rank ≡ s .rank
   pub same-short : whole (r .short) ≡ whole (s .short)
+
+-- answers about the reason for a column; nothing is open
+pub record SameReason (r s : Reason) : Type 0 where
+  pub same-refusal : r .refusal ≡ s .refusal
+  pub same-set : whole (r .set) ≡ whole (s .set)
+  pub same-given : r .given ≡ s .given
+  pub same-multipliers : r .multipliers ≡ s .multipliers
 
 -- two results show two answers that agree so
 pub record TwoShown {A : Type 0} (Same : A → A → Type 0) (Shows Also : A → Type 0) : Type 0 where

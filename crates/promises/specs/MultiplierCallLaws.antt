@@ -1,27 +1,23 @@
 -- The call about multipliers on a file is the call on the file's constants handed over, and the call from C is the call on its file; what stands behind the
 -- bytes of a held set does not count. Assumes nothing.
-use Prim.Native.Nat.{ℕ, _*_, _<_}
+use Prim.Native.Nat.{ℕ}
 use mathlib.Core.Path.{_≡_, refl, sym, ap, _∙_, subst}
 use mathlib.Core.Bool.{Bool}
 use mathlib.Core.Option.{none}
 use mathlib.Core.List.{List, [], flatten}
-use native.Mathlib.Omega.{arith}
 use lib.ListN.{length, take}
-use lib.Seq.{take-all}
 use Rattle.limits.specs.Limits.{set-bytes}
 use Rattle.columns.specs.Bytes.{number}
 use Rattle.columns.specs.Columns.{members}
 use Rattle.columns.specs.ColumnSets.{whole}
 use Rattle.columns.specs.declared.ColumnSet.{ColumnSet}
 use Rattle.columns.specs.Words.Bytes.{AreBytes}
-use Rattle.format.specs.Lists.{All, over}
-use Rattle.format.specs.Refusals.{unless, _then_, first-refusal, area-short, area-test, numbers-room, number-test, model-tests, refusal}
+use Rattle.format.specs.Lists.{over}
+use Rattle.format.specs.Refusals.{unless, _then_, first-refusal, area-short, area-test, model-tests, refusal}
 use Rattle.format.specs.RefusalLaws.{then-zero, zero-then}
-use Rattle.format.specs.TestLaws.{Accepted, accepted-model}
+use Rattle.format.specs.TestLaws.{accepted-model, constants-accepted}
 use Rattle.format.specs.File.Piece.{closed}
 use Rattle.format.specs.File.Format.{fields, judge, decode}
-use Rattle.format.specs.File.FormatLaws.{decoded-valid}
-use Rattle.format.proofs.Rows.{flat-length, flat-all}
 use Rattle.layered.specs.Answers.{AnswerShown}
 use Rattle.host.specs.AreaCall.{area-refusal, AreaCall, WrittenOver}
 use Rattle.multipliers.specs.Answers.{column-question, FileAnswered, MultipliersCall, MultipliersFileCall}
@@ -29,29 +25,7 @@ use Rattle.multipliers.specs.Bytes.{multipliers-length, multipliers-bytes}
 use Rattle.multipliers.specs.declared.Multipliers.{Multipliers}
 use Rattle.solvability.specs.Host.{set-shown, HostMultipliers}
 use Rattle.promises.specs.AnswerLaws.{front-area}
-
--- the constants of an accepted file, without its parameter rows, are an accepted model
-file-constants : (s : List ℕ) → AreBytes s → judge s ≡ 0 → Accepted (decode s .p) (decode s .n) (decode s .a) 0 (flatten (decode s .constants)) [] none
-unfolding numbers-room number-test
-file-constants s bytes ok =
-    let v = decoded-valid s bytes ok in
-    let flat = flatten (decode s .constants) in
-    let long : length flat ≡ decode s .a * decode s .n =
-    flat-length (λ c. c < decode s .p) (decode s .n) (decode s .constants) (v .constants-below) ∙ ap (λ (k : ℕ). k * decode s .n) (v .constant-rows) in
-    record {
-      prime = v .prime;
-      p-most = v .p-most;
-      n-least = v .n-least;
-      n-most = v .n-most;
-      a-most = v .a-most;
-      b-most = omega arith;
-      constants-lent = omega (arith, long);
-      parameters-lent = omega arith;
-      numbers-lent = refl;
-      constants-below = subst (All (λ c. c < decode s .p)) (sym (take-all (decode s .a * decode s .n) flat (omega (arith, long)))) (flat-all _ _ _ (v .constants-below));
-      parameters-within = tt;
-      numbers-once = refl;
-    }
+use Rattle.promises.specs.FileLaws.{file-accepted}
 
 pub file-call : (s : List ℕ) → AreBytes s → (held : ColumnSet) (x : ℕ) (r : Multipliers) → MultipliersFileCall s held x r → r .refusal ≡ 0
     → MultipliersCall (decode s .p) (decode s .n) (decode s .a) 0 (flatten (decode s .constants)) [] none held x r
@@ -61,7 +35,7 @@ file-call s bytes held x r call ok =
     let due = sym (call .is-refusal) ∙ ok in
     let passed = then-zero (closed fields s) question due in
     let none-due = zero-then (model-tests (decode s .p) (decode s .n) (decode s .a) 0 (flatten (decode s .constants)) [] none) question
-    (accepted-model _ _ _ _ _ _ none (file-constants s bytes (passed .0))) (passed .1) in
+    (accepted-model _ _ _ _ _ _ none (constants-accepted (file-accepted s bytes (passed .0)))) (passed .1) in
     record { is-refusal = ok ∙ sym none-due; if-refused = λ ne. absurd (ne none-due); if-accepted = λ z. call .if-accepted due }
 
 -- a host's call, by whether the bytes of the held set are enough and by the set's number

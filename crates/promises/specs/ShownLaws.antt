@@ -3,6 +3,7 @@
 use Prim.Native.Nat.{ℕ, zero, suc, _+_, _*_, _^_, _≤_, _<_}
 use mathlib.Core.Path.{_≡_, sym, _∙_}
 use mathlib.Core.Bool.{true, false}
+use mathlib.Core.List.{List}
 use native.Mathlib.Nat.{pow-suc, lt-of-lt-of-le}
 use native.Mathlib.Omega.{arith}
 use lib.Dec.{lit<}
@@ -16,6 +17,7 @@ use Rattle.columns.specs.Columns.{width, members, word-of}
 use Rattle.columns.specs.ColumnSets.{whole}
 use Rattle.columns.specs.Words.Bytes.{number-bytes}
 use Rattle.columns.specs.Words.Operations.{within-in-iff, within-pow}
+use Rattle.rank.specs.ListedModel.{listed-model}
 use Rattle.rank.specs.Layered.Model.{Model}
 use Rattle.rank.specs.Layered.Rank.{short}
 use Rattle.rank.specs.Layered.ColumnOrder.{placed-below}
@@ -25,8 +27,11 @@ use Rattle.mixed_models.specs.Mixed.{Mixed, layered-form}
 use Rattle.exchange.specs.Solution.{shown}
 use Rattle.layered.specs.Answers.{Answered}
 use Rattle.layered.specs.declared.Answer.{Answer}
+use Rattle.blocking.specs.ReasonLaws.{reason-iff}
 use Rattle.mixed.specs.MixedAnswers.{MixedAnswered}
 use Rattle.mixed.specs.declared.MixedAnswer.{MixedAnswer}
+use Rattle.reason.specs.Answers.{ReasonAnswered}
+use Rattle.reason.specs.declared.Reason.{Reason}
 
 below-own-power : (w : ℕ) → w < 2 ^ w
 below-own-power zero = lit< tt
@@ -72,3 +77,6 @@ mixed-shown-whole X r l h = (
   shown-whole (whole (r .columns)) (X .n) (omega arith) (h .columns-below),
   rw (h .short-number) (small-shown _ (X .m + X .n) l (number-small width (X .m + X .n) (short (layered-form X)) (λ x e. short-is-the-smallest (layered-form X) .0 x e .0))),
 )
+
+pub reason-shown-whole : (p n a b : ℕ) (cs ws : List ℕ) (x : ℕ) (r : Reason) → n ≤ most-columns → ReasonAnswered p n a b cs ws x r → ShownWhole (whole (r .set))
+reason-shown-whole p n a b cs ws x r l h = shown-whole (whole (r .set)) n l (λ y e. reason-iff (listed-model p n a b cs ws) x y .0 (sym (h .set-is y) ∙ e) .0)

@@ -1,23 +1,26 @@
 -- What is proved over the promises of the calls, one theorem after another. Assumes nothing.
 use Prim.Native.Nat.{ℕ, _+_, _*_, _%_, _^_, _≤_, _<_}
 use mathlib.Core.Path.{_≡_, refl, sym, _∙_, subst}
-use mathlib.Core.Bool.{Bool}
+use mathlib.Core.Bool.{Bool, true, false}
 use mathlib.Core.Option.{Option, none, some}
 use mathlib.Core.Logic.{_≢_, _↔_, _⊎_}
 use mathlib.Core.List.{List, [], flatten}
 use native.Mathlib.Omega.{arith}
 use lib.ListN.{length, getD, take}
 use lib.Seq.{take-take}
-use Rattle.counting.specs.Sets.{_∈_, #, Some}
+use Rattle.counting.specs.Sets.{Set, _∈_, _⊆_, #, Some}
+use Rattle.counting.specs.Counts.{_⊖_}
 use Rattle.columns.specs.Columns.{word-width, width, members}
 use Rattle.columns.specs.ColumnSets.{whole, Fits, row-numbers}
 use Rattle.columns.specs.declared.ColumnSet.{ColumnSet}
 use Rattle.columns.specs.Words.Rows.{rows-below}
 use Rattle.columns.specs.Words.Bytes.{AreBytes}
 use Rattle.rank.specs.Layered.Model.{Model}
+use Rattle.rank.specs.Layered.Rank.{short}
 use Rattle.rank.specs.ListedModel.{listed-model}
 use Rattle.rank.specs.ListedModelLaws.{OnlyZero}
 use Rattle.dependence.specs.PlainNumbers.{SumsTo}
+use Rattle.blocking.specs.Reason.{Blocking}
 use Rattle.mixed_models.specs.Mixed.{Mixed, mixed}
 use Rattle.mixed_models.specs.MixedRowUse.{UsesEveryRow, LeavesRow}
 use Rattle.mixed_models.specs.MixedVerdicts.{mixed-determined-uses-every-row, mixed-surplus-leaves-a-row}
@@ -40,23 +43,31 @@ use Rattle.layered.specs.declared.Answer.{Answer}
 use Rattle.layered.specs.FileModel.{file-model}
 use Rattle.mixed.specs.MixedAnswers.{MixedAnswered, MixedCall, file-mixed}
 use Rattle.mixed.specs.declared.MixedAnswer.{MixedAnswer}
-use Rattle.promises.specs.Fixed.{SameAnswer, SameMixed}
+use Rattle.promises.specs.Fixed.{SameAnswer, SameMixed, SameReason}
 use Rattle.multipliers.specs.Answers.{MultipliersCall, MultipliersFileCall}
 use Rattle.multipliers.specs.Bytes.{multipliers-bytes}
 use Rattle.multipliers.specs.declared.Multipliers.{Multipliers}
-use Rattle.solvability.specs.Host.{HostAnswer, HostMixedAnswer, set-shown, HostMultipliers}
+use Rattle.reason.specs.Answers.{ReasonAnswered, ReasonCall, ReasonFileCall}
+use Rattle.reason.specs.Bytes.{reason-bytes}
+use Rattle.reason.specs.declared.Reason.{Reason}
+use Rattle.solvability.specs.Host.{HostAnswer, HostMixedAnswer, set-shown, HostMultipliers, HostReason}
 use Rattle.text.specs.declared.Printed.{Printed}
 use Rattle.report.specs.FileReport.{FileReport}
 use Rattle.mixed_report.specs.MixedReport.{MixedFileReport}
 use Rattle.promises.specs.TripLaws.{read-then-written, written-then-read}
 use Rattle.promises.specs.CutLaws.{judge-cut}
-use Rattle.promises.specs.CutCallLaws.{reading-cut, rows-reading-cut, host-cut, host-mixed-cut, host-multipliers-cut, report-cut, mixed-report-cut}
+use Rattle.promises.specs.CutCallLaws.{reading-cut, rows-reading-cut, host-cut, host-mixed-cut, host-multipliers-cut, host-reason-cut, report-cut, mixed-report-cut}
 use Rattle.promises.specs.AnswerLaws.{refusal-same, mixed-refusal-same, write-same, layered-same, mixed-same}
 use Rattle.promises.specs.NumberingLaws.{numbers-front, front-same, named, mixed-unnumbered, picked-same, without-numbers, file-unnumbered}
 use Rattle.promises.specs.RowLaws.{determined-rows, surplus-rows}
-use Rattle.promises.specs.ShownLaws.{ShownWhole, answer-shown-whole, mixed-shown-whole}
-use Rattle.promises.specs.MultiplierLaws.{says-dependent, says-depends, says-independent, none-given-otherwise, numbers-sum, numbers-only, number-below, number-not-held, held-itself, zero-by-nothing, constants-decide}
+use Rattle.promises.specs.ShownLaws.{ShownWhole, answer-shown-whole, mixed-shown-whole, reason-shown-whole}
+use Rattle.promises.specs.DependenceLaws.{says-dependent, says-depends, says-independent, none-given-otherwise, numbers-sum, numbers-only, number-below, number-not-held, held-itself, zero-by-nothing}
+use Rattle.promises.specs.MultiplierLaws.{says, constants-decide}
 use Rattle.promises.specs.MultiplierCallLaws.{file-call, host-call, held-surplus}
+use Rattle.promises.specs.ReasonLaws.{set-blocks, set-unique, set-has-the-column, set-inside-short, set-inside-reported, given-iff, none-given, not-zero, as-multipliers-call}
+use Rattle.promises.specs.ReasonLaws.{says as reason-says}
+use Rattle.promises.specs.ReasonCallLaws.{reason-file-call, reason-host-call}
+use Rattle.promises.specs.ReasonSameLaws.{reason-calls-same}
 use Rattle.promises.specs.DocumentFile.{document-file, document-accepted, document-model}
 
 -- ---- read and written, written and read
@@ -119,6 +130,10 @@ pub cut-input-host-multipliers : (k : ℕ) (s : List ℕ) → AreBytes s → lon
     → (held : List ℕ) (x : ℕ) (area : List ℕ) (number : ℕ) (area′ : List ℕ) → HostMultipliers (take k s) held x area number area′ → HostMultipliers s held x area number area′
 cut-input-host-multipliers = host-multipliers-cut
 
+pub cut-input-host-reason : (k : ℕ) (s : List ℕ) → AreBytes s → longest-file < k
+    → (x : ℕ) (area : List ℕ) (number : ℕ) (area′ : List ℕ) → HostReason (take k s) x area number area′ → HostReason s x area number area′
+cut-input-host-reason = host-reason-cut
+
 -- and of the reports that the programs write.
 pub cut-input-report : (k : ℕ) (s : List ℕ) → AreBytes s → longest-file < k
     → (area : List ℕ) (r : Printed) (area′ : List ℕ) → FileReport (take k s) area r area′ → FileReport s area r area′
@@ -157,7 +172,11 @@ module _ (p n a b : ℕ) (cs ws : List ℕ) (ns : Option (List ℕ)) where
   pub surplus-not-read : {r s : Answer} → LayeredCall p n a b cs ws ns r → LayeredCall p n a b (take (a * n) cs) (take b ws) front-numbers s → SameAnswer r s
   surplus-not-read = layered-same p n a b cs (take (a * n) cs) ws (take b ws) cut-cs cut-ws ns front-numbers surplus-not-tested
 
-  -- nor the mixed one.
+  -- nor the reason for a column,
+  pub surplus-not-read-reason : (x : ℕ) {r s : Reason} → ReasonCall p n a b cs ws ns x r → ReasonCall p n a b (take (a * n) cs) (take b ws) front-numbers x s → SameReason r s
+  surplus-not-read-reason x = reason-calls-same p n a b cs (take (a * n) cs) ws (take b ws) cut-cs cut-ws x ns front-numbers surplus-not-tested
+
+  -- nor the mixed answer.
   pub surplus-not-read-mixed : {r s : MixedAnswer} → MixedCall p n a b cs ws ns r → MixedCall p n a b (take (a * n) cs) (take b ws) front-numbers s → SameMixed r s
   surplus-not-read-mixed = mixed-same p n a b cs (take (a * n) cs) ws (take b ws) cut-cs cut-ws ns front-numbers surplus-not-tested-mixed
 
@@ -187,6 +206,10 @@ module _ (p n a b : ℕ) (cs ws ks : List ℕ) where
       let f = mixed-unnumbered p n a b cs ws ks e in
       (mixed-same p n a b cs cs ws ws refl refl (some ks) none (e ∙ sym f) h g, h .if-accepted e, g .if-accepted f)
 
+  -- No reason for a column changes either.
+  pub numbers-change-no-reason : refusal p n a b cs ws (some ks) ≡ 0 → (x : ℕ) {r s : Reason} → ReasonCall p n a b cs ws (some ks) x r → ReasonCall p n a b cs ws none x s → SameReason r s
+  numbers-change-no-reason e x = reason-calls-same p n a b cs cs ws ws refl refl x (some ks) none (e ∙ sym (numbers-only-refuse e))
+
   -- An entry without a parameter is not read: another area with the same numbers at the parameters is refused alike,
   module _ (js : List ℕ) (rows : b ≤ length ws) (room : b * n ≤ length ks) (room′ : b * n ≤ length js)
       (same : (r x : ℕ) → r < b → x < n → x ∈ members (getD ws r 0) → getD ks (r * n + x) 0 ≡ getD js (r * n + x) 0) where
@@ -213,41 +236,41 @@ module _ (p n a b : ℕ) (cs ws : List ℕ) (ns : Option (List ℕ)) (held : Col
   -- What each outcome says, in plain numbers: 2, the held columns are dependent modulo p; 1, they are not, and some numbers are multipliers of the named
   -- column; 0, they are not, and no numbers are.
   pub outcome-2-says : (r .outcome ≡ 2) ↔ (OnlyZero p n a cs (members (whole held)) → ⊥)
-  outcome-2-says = says-dependent p n a b cs ws ns held fits x r call ok
+  outcome-2-says = says-dependent (says p n a b cs ws ns held fits x r call ok)
 
   pub outcome-1-says : (r .outcome ≡ 1) ↔ (OnlyZero p n a cs (members (whole held)) × ((c : ℕ → ℕ) × SumsTo p n a cs (members (whole held)) x c))
-  outcome-1-says = says-depends p n a b cs ws ns held fits x r call ok
+  outcome-1-says = says-depends (says p n a b cs ws ns held fits x r call ok)
 
   pub outcome-0-says : (r .outcome ≡ 0) ↔ (OnlyZero p n a cs (members (whole held)) × ((c : ℕ → ℕ) → SumsTo p n a cs (members (whole held)) x c → ⊥))
-  outcome-0-says = says-independent p n a b cs ws ns held fits x r call ok
+  outcome-0-says = says-independent (says p n a b cs ws ns held fits x r call ok)
 
   -- Multipliers are given with the outcome 1 alone.
   pub multipliers-with-1-alone : r .outcome ≢ 1 → (j : ℕ) → getD (r .multipliers) j 0 ≡ 0
-  multipliers-with-1-alone = none-given-otherwise p n a b cs ws ns held fits x r call ok
+  multipliers-with-1-alone = none-given-otherwise (says p n a b cs ws ns held fits x r call ok)
 
   -- Those given are the multipliers of the named column, in plain numbers,
   pub multipliers-sum-to-the-column : r .outcome ≡ 1 → SumsTo p n a cs (members (whole held)) x (λ j. getD (r .multipliers) j 0)
-  multipliers-sum-to-the-column = numbers-sum p n a b cs ws ns held fits x r call ok
+  multipliers-sum-to-the-column = numbers-sum (says p n a b cs ws ns held fits x r call ok)
 
   -- and the only ones modulo p.
   pub multipliers-only-these : r .outcome ≡ 1 → (c : ℕ → ℕ) → SumsTo p n a cs (members (whole held)) x c → (j : ℕ) → j < n → getD (r .multipliers) j 0 ≡ c j % p
-  multipliers-only-these = numbers-only p n a b cs ws ns held fits x r call ok
+  multipliers-only-these = numbers-only (says p n a b cs ws ns held fits x r call ok)
 
   -- Each is below p, and 0 at a column that is not held.
   pub multipliers-below-p : (j : ℕ) → getD (r .multipliers) j 0 < p
-  multipliers-below-p = number-below p n a b cs ws ns held fits x r call ok
+  multipliers-below-p = number-below (says p n a b cs ws ns held fits x r call ok)
 
   pub multipliers-of-held-columns : (j : ℕ) → (j ∈ members (whole held) → ⊥) → getD (r .multipliers) j 0 ≡ 0
-  multipliers-of-held-columns = number-not-held p n a b cs ws ns held fits x r call ok
+  multipliers-of-held-columns = number-not-held (says p n a b cs ws ns held fits x r call ok)
 
   -- A held column has the multiplier 1 for itself and 0 for the others; one that is zero in every constant row has 0 for all.
   pub held-column-by-itself : OnlyZero p n a cs (members (whole held)) → x ∈ members (whole held)
       → (r .outcome ≡ 1) × (getD (r .multipliers) x 0 ≡ 1) × ((j : ℕ) → j < n → j ≢ x → getD (r .multipliers) j 0 ≡ 0)
-  held-column-by-itself = held-itself p n a b cs ws ns held fits x r call ok
+  held-column-by-itself = held-itself (says p n a b cs ws ns held fits x r call ok)
 
   pub zero-column-by-nothing : OnlyZero p n a cs (members (whole held)) → ((k : ℕ) → k < a → getD cs (k * n + x) 0 ≡ 0)
       → (r .outcome ≡ 1) × ((j : ℕ) → j < n → getD (r .multipliers) j 0 ≡ 0)
-  zero-column-by-nothing = zero-by-nothing p n a b cs ws ns held fits x r call ok
+  zero-column-by-nothing = zero-by-nothing (says p n a b cs ws ns held fits x r call ok)
 
 -- Two calls with the same constants say the same, whatever the parameter rows, their numbers, and what stands behind the constants.
 pub constants-alone-decide : (p n a : ℕ) (cs ds : List ℕ) → take (a * n) cs ≡ take (a * n) ds → (held : ColumnSet) → Fits held → (x b b′ : ℕ) (ws ws′ : List ℕ) (ns ns′ : Option (List ℕ))
@@ -269,6 +292,69 @@ host-call-is-of-its-file = host-call
 pub held-surplus-not-read : (s held other : List ℕ) → take set-bytes held ≡ take set-bytes other → (x : ℕ) (area : List ℕ) (number : ℕ) (area′ : List ℕ)
     → HostMultipliers s held x area number area′ → HostMultipliers s other x area number area′
 held-surplus-not-read = held-surplus
+
+-- ---- the reason for an unplaced column
+
+-- A call about the reason for column x that is accepted
+module _ (p n a b : ℕ) (cs ws : List ℕ) (ns : Option (List ℕ)) (x : ℕ) (r : Reason) (call : ReasonCall p n a b cs ws ns x r) (ok : r .refusal ≡ 0) where
+  -- The set shown is drawn from x and the placed columns, it has no legal assignment, and dropping any one column leaves a set that has one;
+  pub shown-reason-blocks : Blocking (listed-model p n a b cs ws) x (members (whole (r .set)))
+  shown-reason-blocks = set-blocks p n a b cs ws ns x r call ok
+
+  -- it is the only such set,
+  pub shown-reason-unique : (D : Set) → Blocking (listed-model p n a b cs ws) x D → (y : ℕ) → D y ≡ members (whole (r .set)) y
+  shown-reason-unique = set-unique p n a b cs ws ns x r call ok
+
+  -- has x itself,
+  pub shown-reason-has-the-column : x ∈ members (whole (r .set))
+  shown-reason-has-the-column = set-has-the-column p n a b cs ws ns x r call ok
+
+  -- and lies in the model's short set, and so in the one that the layered call reports.
+  pub shown-reason-inside-short : members (whole (r .set)) ⊆ short (listed-model p n a b cs ws)
+  shown-reason-inside-short = set-inside-short p n a b cs ws ns x r call ok
+
+  pub shown-reason-inside-reported : (s : Answer) → LayeredCall p n a b cs ws ns s → members (whole (r .set)) ⊆ members (whole (s .short))
+  shown-reason-inside-reported = set-inside-reported p n a b cs ws ns x r call ok
+
+  -- Multipliers are given exactly where no parameter row has a parameter in the set; elsewhere all are 0.
+  pub reason-multipliers-given : (r .given ≡ true) ↔ ((i y : ℕ) → i < b → y ∈ members (whole (r .set)) → y ∈ members (getD ws i 0) → ⊥)
+  reason-multipliers-given = given-iff p n a b cs ws ns x r call ok
+
+  pub reason-multipliers-none : r .given ≡ false → (j : ℕ) → getD (r .multipliers) j 0 ≡ 0
+  reason-multipliers-none = none-given p n a b cs ws ns x r call ok
+
+  -- Where they are given, the other columns of the set are independent, the numbers are the multipliers of x by them,
+  pub reason-multipliers-sum : r .given ≡ true → OnlyZero p n a cs (members (whole (r .set)) ⊖ x) × SumsTo p n a cs (members (whole (r .set)) ⊖ x) x (λ j. getD (r .multipliers) j 0)
+  reason-multipliers-sum g = let s = reason-says p n a b cs ws ns x r call ok g in (says-depends s .0 refl .0, numbers-sum s refl)
+
+  -- the only ones modulo p, each below p,
+  pub reason-multipliers-only-these : r .given ≡ true → (c : ℕ → ℕ) → SumsTo p n a cs (members (whole (r .set)) ⊖ x) x c → (j : ℕ) → j < n → getD (r .multipliers) j 0 ≡ c j % p
+  reason-multipliers-only-these g = numbers-only (reason-says p n a b cs ws ns x r call ok g) refl
+
+  pub reason-multipliers-below-p : r .given ≡ true → (j : ℕ) → getD (r .multipliers) j 0 < p
+  reason-multipliers-below-p g = number-below (reason-says p n a b cs ws ns x r call ok g)
+
+  -- not 0 at those columns, and 0 at all others.
+  pub reason-multipliers-not-zero : r .given ≡ true → (y : ℕ) → y ∈ members (whole (r .set)) → y ≢ x → getD (r .multipliers) y 0 ≢ 0
+  reason-multipliers-not-zero = not-zero p n a b cs ws ns x r call ok
+
+  pub reason-multipliers-elsewhere : r .given ≡ true → (j : ℕ) → (j ∈ members (whole (r .set)) ⊖ x → ⊥) → getD (r .multipliers) j 0 ≡ 0
+  reason-multipliers-elsewhere g = number-not-held (reason-says p n a b cs ws ns x r call ok g)
+
+  -- They are those of E1: its call, with the other columns of the set held, gives the same.
+  pub reason-multipliers-are-those-of-the-call : r .given ≡ true → (held : ColumnSet) → ((y : ℕ) → members (whole held) y ≡ (members (whole (r .set)) ⊖ x) y) → (m : Multipliers) → MultipliersCall p n a b cs ws ns held x m
+      → (m .refusal ≡ 0) × (m .outcome ≡ 1) × (m .multipliers ≡ r .multipliers)
+  reason-multipliers-are-those-of-the-call = as-multipliers-call p n a b cs ws ns x r call ok
+
+-- All this holds of files and from C too. A call on a file that is accepted is the call on the file's model, handed over;
+pub reason-file-call-is-of-its-model : (s : List ℕ) → AreBytes s → (x : ℕ) (r : Reason) → ReasonFileCall s x r → r .refusal ≡ 0
+    → ReasonCall (decode s .p) (decode s .n) (decode s .a) (decode s .b) (flatten (decode s .constants)) (decode s .parameters) none x r
+reason-file-call-is-of-its-model = reason-file-call
+
+-- a host's call that is accepted writes the bytes of an answer of the call on its file.
+pub reason-host-call-is-of-its-file : (s : List ℕ) (x : ℕ) (area area′ : List ℕ) → HostReason s x area 0 area′
+    → AnswerShown (λ r. (r .refusal ≡ 0) × ReasonFileCall s x r) (λ r. area′ ≡ over (reason-bytes r) area)
+reason-host-call-is-of-its-file = reason-host-call
 
 -- ---- rows used and left over
 
@@ -296,9 +382,13 @@ mixed-surplus-shows-a-row-left X r h v = mixed-surplus-leaves-a-row X (sym (h .i
 pub answer-sets-are-shown-whole : (M : Model) (r : Answer) → M .n ≤ most-columns → Answered M r → ShownWhole (whole (r .placed)) × ShownWhole (whole (r .constants)) × ShownWhole (whole (r .short))
 answer-sets-are-shown-whole = answer-shown-whole
 
--- and of a mixed one.
+-- of a mixed one,
 pub mixed-sets-are-shown-whole : (X : Mixed) (r : MixedAnswer) → X .m + X .n ≤ most-columns → MixedAnswered X r → ShownWhole (whole (r .rows)) × ShownWhole (whole (r .columns)) × ShownWhole (whole (r .short))
 mixed-sets-are-shown-whole = mixed-shown-whole
+
+-- and of the reason for a column.
+pub reason-set-is-shown-whole : (p n a b : ℕ) (cs ws : List ℕ) (x : ℕ) (r : Reason) → n ≤ most-columns → ReasonAnswered p n a b cs ws x r → ShownWhole (whole (r .set))
+reason-set-is-shown-whole = reason-shown-whole
 
 -- ---- the rank of textbooks
 

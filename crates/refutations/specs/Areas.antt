@@ -20,7 +20,8 @@ use Rattle.text.specs.Text.{print-refusal, printed, Prints}
 use Rattle.text.specs.declared.Printed.{Printed}
 use Rattle.host.specs.AreaCall.{area-refusal, AreaCall, WrittenOver}
 use Rattle.multipliers.specs.Bytes.{multipliers-length}
-use Rattle.solvability.specs.Host.{HostAnswer, HostMixedAnswer, HostMultipliers}
+use Rattle.reason.specs.Bytes.{reason-length}
+use Rattle.solvability.specs.Host.{HostAnswer, HostMixedAnswer, HostMultipliers, HostReason}
 
 where-refused : {A : Type 0} (k : ℕ) (x o : A) → k ≢ 0 → where-accepted k x o ≡ o
 where-refused zero x o h = absurd (h refl)
@@ -125,12 +126,24 @@ host-mixed-number file area = area-number _ _ _ _ area
 pub host-mixed-refused : (file area : List ℕ) (k : ℕ) (area′ : List ℕ) → HostMixedAnswer file area k area′ → k ≢ 0 → area′ ≡ area
 host-mixed-refused file area = area-refused _ _ _ _ area
 
--- and the one about multipliers
+-- the one about multipliers,
 pub host-multipliers-number : (file held : List ℕ) (x : ℕ) (area : List ℕ) (k k′ : ℕ) (area′ area″ : List ℕ) → HostMultipliers file held x area k area′ → HostMultipliers file held x area k′ area″ → k ≡ k′
 host-multipliers-number file held x area = area-number _ _ _ _ area
 
 pub host-multipliers-refused : (file held : List ℕ) (x : ℕ) (area : List ℕ) (k : ℕ) (area′ : List ℕ) → HostMultipliers file held x area k area′ → k ≢ 0 → area′ ≡ area
 host-multipliers-refused file held x area = area-refused _ _ _ _ area
+
+-- and the one about the reason for a column,
+pub host-reason-number : (file : List ℕ) (x : ℕ) (area : List ℕ) (k k′ : ℕ) (area′ area″ : List ℕ) → HostReason file x area k area′ → HostReason file x area k′ area″ → k ≡ k′
+host-reason-number file x area = area-number _ _ _ _ area
+
+pub host-reason-refused : (file : List ℕ) (x : ℕ) (area : List ℕ) (k : ℕ) (area′ : List ℕ) → HostReason file x area k area′ → k ≢ 0 → area′ ≡ area
+host-reason-refused file x area = area-refused _ _ _ _ area
+
+-- which refuses too short an area before it looks at the column
+pub area-before-column : (file : List ℕ) (x : ℕ) (area : List ℕ) (k : ℕ) (area′ : List ℕ) → HostReason file x area k area′ → judge file ≡ 0 → length area < reason-length → k ≡ 8
+unfolding area-refusal area-test judge first-refusal
+area-before-column file x area k area′ h ok short = h .is-number ∙ sym (then-passed (closed fields file) _ 8 ok (rw (lt-leb reason-length (length area) short) refl))
 
 -- of two areas one is too short
 two-areas : (t u : Bool) (us : Tests) → (t ≡ false) ⊎ (u ≡ false) → first-refusal (unless t area-short then (unless u area-short then us)) ≡ 8
@@ -139,7 +152,7 @@ two-areas false u us e = refl
 two-areas true false us e = refl
 two-areas true true us e = absurd (elim e [ inl z ↦ true≢false z | inr z ↦ true≢false z ])
 
--- which refuses too short an area, of either kind, before it looks at the columns
+-- The one about multipliers refuses too short an area, of either kind, before it looks at the columns
 pub areas-before-columns : (file held : List ℕ) (x : ℕ) (area : List ℕ) (k : ℕ) (area′ : List ℕ) → HostMultipliers file held x area k area′ → judge file ≡ 0
     → (length area < multipliers-length) ⊎ (length held < set-bytes) → k ≡ 8
 unfolding area-refusal area-test judge

@@ -3,16 +3,18 @@
 use Prim.Native.Nat.{ℕ, _<_}
 use mathlib.Core.Path.{_≡_, refl, sym, ap, ap₂, _∙_}
 use mathlib.Core.Logic.{_≢_, inl, inr}
-use mathlib.Core.Bool.{true, false, false≢true}
-use mathlib.Core.List.{List, _∷_}
+use mathlib.Core.Bool.{Bool, true, false, false≢true}
+use mathlib.Core.List.{List, _∷_, _++_}
 use mathlib.Core.Option.{Option}
 use native.Mathlib.Decide.{ℕ-discrete}
 use lib.ListN.{getD}
-use Rattle.counting.specs.Sets.{Set, _∈_}
+use Rattle.counting.specs.Sets.{Set, _∈_, indicator}
+use Rattle.columns.specs.Bytes.{bytes-of}
+use Rattle.columns.specs.ColumnSets.{whole}
 use Rattle.columns.specs.declared.ColumnSet.{ColumnSet}
 use Rattle.rank.specs.Layered.Model.{Model, Seat, out, constant, row, is-placed, is-constant, constants}
 use Rattle.exchange.specs.Solution.{shown, Solved}
-use Rattle.limits.specs.Limits.{no-column}
+use Rattle.limits.specs.Limits.{set-bytes, no-column}
 use Rattle.layered.specs.Answers.{Answered, AnswerShown, LayeredCall}
 use Rattle.layered.specs.FileModel.{file-model}
 use Rattle.layered.specs.declared.Answer.{Answer}
@@ -22,7 +24,9 @@ use Rattle.mixed.specs.MixedAnswers.{MixedAnswered, MixedCall, file-mixed}
 use Rattle.host.specs.AnswerBytes.{answer-bytes, mixed-bytes}
 use Rattle.multipliers.specs.Answers.{MultipliersCall}
 use Rattle.multipliers.specs.declared.Multipliers.{Multipliers}
-use Rattle.solvability.specs.Host.{HostAnswer, HostMixedAnswer, HostMultipliers}
+use Rattle.reason.specs.Answers.{ReasonCall}
+use Rattle.reason.specs.declared.Reason.{Reason}
+use Rattle.solvability.specs.Host.{HostAnswer, HostMixedAnswer, HostMultipliers, HostReason}
 use Rattle.text.specs.Text.{Prints}
 use Rattle.text.specs.declared.Printed.{Printed}
 use Rattle.report.specs.Report.{answer-text}
@@ -30,8 +34,9 @@ use Rattle.report.specs.FileReport.{FileReport}
 use Rattle.format.specs.Lists.{over}
 use Rattle.format.specs.File.Format.{entry-bytes, judge}
 use Rattle.mixed.specs.declared.MixedAnswer.{MixedAnswer}
-use Rattle.promises.specs.Fixed.{SameAnswer, SameShown, SameMixed, SameMixedShown, TwoShown}
+use Rattle.promises.specs.Fixed.{SameAnswer, SameShown, SameMixed, SameMixedShown, SameReason, TwoShown}
 use Rattle.promises.specs.AnswerLaws.{layered-same, mixed-same}
+use Rattle.promises.specs.ReasonSameLaws.{reason-calls-same}
 
 -- ---- two results of one call
 
@@ -55,7 +60,7 @@ module _ (p n a b : ℕ) (cs ws : List ℕ) (ns : Option (List ℕ)) where
       → (r .rows ≡ s .rows) × (r .columns ≡ s .columns)
   mixed-refused-fixed x y ne = (x .if-refused ne .no-rows ∙ sym (y .if-refused ne .no-rows), x .if-refused ne .no-columns ∙ sym (y .if-refused ne .no-columns))
 
--- of the call about multipliers agree in everything
+-- of the call about multipliers agree in everything,
 pub multipliers-fixed : (p n a b : ℕ) (cs ws : List ℕ) (ns : Option (List ℕ)) (held : ColumnSet) (x : ℕ) {r s : Multipliers} → MultipliersCall p n a b cs ws ns held x r → MultipliersCall p n a b cs ws ns held x s
     → (r .refusal ≡ s .refusal) × (r .outcome ≡ s .outcome) × (r .multipliers ≡ s .multipliers)
 multipliers-fixed p n a b cs ws ns held x {r} {s} f g = elim (ℕ-discrete (r .refusal) 0) [
@@ -71,6 +76,10 @@ multipliers-fixed p n a b cs ws ns held x {r} {s} f g = elim (ℕ-discrete (r .r
   where
     same : r .refusal ≡ s .refusal
     same = f .is-refusal ∙ sym (g .is-refusal)
+
+-- and so do two of the call about the reason for a column
+pub reason-fixed : (p n a b : ℕ) (cs ws : List ℕ) (ns : Option (List ℕ)) (x : ℕ) {r s : Reason} → ReasonCall p n a b cs ws ns x r → ReasonCall p n a b cs ws ns x s → SameReason r s
+reason-fixed p n a b cs ws ns x = reason-calls-same p n a b cs cs ws ws refl refl x ns ns refl
 
 -- ---- two results of one call on a file
 
@@ -111,7 +120,7 @@ module _ (file area : List ℕ) where
   host-mixed-fixed k j area′ area″ x y z =
       let e = sym (x .is-number) ∙ z in two-shown (λ r s. mixed-answered-fixed (file-mixed file)) (x .if-accepted e) (y .if-accepted e)
 
-  -- of the call about multipliers they are the same,
+  -- of the calls about multipliers and about the reason for a column they are the same,
   pub host-multipliers-fixed : (held : List ℕ) (x k j : ℕ) (area′ area″ : List ℕ) → HostMultipliers file held x area k area′ → HostMultipliers file held x area j area″ → area′ ≡ area″
   host-multipliers-fixed held x k j area′ area″ f g = elim (ℕ-discrete k 0) [
     | no nk ↦ f .if-refused (λ z. nk (f .is-number ∙ z)) ∙ sym (g .if-refused (λ z. nk (f .is-number ∙ z)))
@@ -119,6 +128,19 @@ module _ (file area : List ℕ) where
         let u = f .if-accepted (sym (f .is-number) ∙ z) in
         let v = g .if-accepted (sym (f .is-number) ∙ z) in
         u .is-shown ∙ ap₂ (λ (o : ℕ) (ms : List ℕ). over (o ∷ entry-bytes ms) area) (u .is-answer .outcome-is ∙ sym (v .is-answer .outcome-is)) (u .is-answer .multipliers-are ∙ sym (v .is-answer .multipliers-are)) ∙ sym (v .is-shown)
+  ]
+
+  pub host-reason-fixed : (x k j : ℕ) (area′ area″ : List ℕ) → HostReason file x area k area′ → HostReason file x area j area″ → area′ ≡ area″
+  host-reason-fixed x k j area′ area″ f g = elim (ℕ-discrete k 0) [
+    | no nk ↦ f .if-refused (λ z. nk (f .is-number ∙ z)) ∙ sym (g .if-refused (λ z. nk (f .is-number ∙ z)))
+    | yes z ↦
+        let u = f .if-accepted (sym (f .is-number) ∙ z) in
+        let v = g .if-accepted (sym (f .is-number) ∙ z) in
+        let r = u .is-answer in
+        let s = v .is-answer in
+        u .is-shown
+        ∙ ap₂ (λ (w : ℕ) (t : Bool). over (bytes-of set-bytes w ++ (indicator t ∷ entry-bytes (u .answer .multipliers))) area) (r .set-number ∙ sym (s .set-number)) (r .is-given ∙ sym (s .is-given))
+        ∙ ap (λ (ms : List ℕ). over (bytes-of set-bytes (whole (v .answer .set)) ++ (indicator (v .answer .given) ∷ entry-bytes ms)) area) (r .multipliers-are ∙ sym (s .multipliers-are)) ∙ sym (v .is-shown)
   ]
 
   -- and so is the text of a report

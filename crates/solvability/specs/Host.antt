@@ -1,4 +1,4 @@
--- Document 01, "The host and the program", and document 02, E1: the calls for a host in C. Definitions only.
+-- Document 01, "The host and the program", and document 02, E1 and E2: the calls for a host in C. Definitions only.
 use Prim.Native.Nat.{ℕ}
 use mathlib.Core.List.{List, []}
 use lib.ListN.{length, take}
@@ -14,6 +14,8 @@ use Rattle.host.specs.AreaCall.{AreaCall, WrittenOver}
 use Rattle.host.specs.AnswerBytes.{answer-length, AnswerWritten, mixed-length, MixedWritten}
 use Rattle.multipliers.specs.Answers.{column-question, FileAnswered}
 use Rattle.multipliers.specs.Bytes.{multipliers-length, multipliers-bytes}
+use Rattle.reason.specs.Answers.{reason-question, FileReason}
+use Rattle.reason.specs.Bytes.{reason-length, reason-bytes}
 
 -- the layered call: 1 to 7 and 13 as the file is judged, then 8 for the area; where it refuses, the area is as it was
 abbrev pub HostAnswer : (file area : List ℕ) (number : ℕ) (area′ : List ℕ) → Type 0
@@ -35,3 +37,7 @@ multipliers-question file held x = unless (area-test set-bytes (length held)) ar
 abbrev pub HostMultipliers : (file held : List ℕ) (x : ℕ) (area : List ℕ) (number : ℕ) (area′ : List ℕ) → Type 0
 HostMultipliers file held x =
     AreaCall (closed fields file) (multipliers-question file held x) multipliers-length (WrittenOver (FileAnswered file (members (set-shown held)) x) multipliers-bytes)
+
+-- the call about the reason for column x: 1 to 7 and 13, then 8, then 11, then 12
+abbrev pub HostReason : (file : List ℕ) (x : ℕ) (area : List ℕ) (number : ℕ) (area′ : List ℕ) → Type 0
+HostReason file x = AreaCall (closed fields file) (reason-question (file-model file) x) reason-length (WrittenOver (FileReason file x) reason-bytes)

@@ -4,7 +4,7 @@ ghost use mathlib.Core.Bool.{false};
 ghost use Rattle.format.specs.Refusals.{unless, _then_, first-refusal, area-short};
 ghost use Rattle.format.specs.File.Piece.{closed};
 ghost use Rattle.format.specs.File.Format.{fields};
-ghost use Rattle.solvability.specs.Host.{HostAnswer, HostMixedAnswer, HostMultipliers};
+ghost use Rattle.solvability.specs.Host.{HostAnswer, HostMixedAnswer, HostMultipliers, HostReason};
 use format::judge_file;
 use format::refusals;
 use host::MIXED_LENGTH;
@@ -16,6 +16,9 @@ use mixed::mixed_file;
 use multipliers::MULTIPLIERS_LENGTH;
 use multipliers::file_multipliers;
 use multipliers::put_multipliers;
+use reason::REASON_LENGTH;
+use reason::file_reason;
+use reason::put_reason;
 
 // Judges the file, then the area; where both are accepted, writes the answer to the layered model over the front of the area.
 #[no_mangle]
@@ -79,4 +82,20 @@ pub extern "C" fn wundreska_multipliers(
         return r.refusal;
     }
     put_multipliers(answer, r)
+}
+
+// Judges the file, then the area, then the column that is named; where all are accepted, writes the reason why the column is not placed
+// over the front of the area.
+#[no_mangle]
+pub extern "C" fn wundreska_reason(file: &[u8], column: usize, answer: &mut [u8]) -> u32
+    ensures { λ r. ⌜ HostReason (now (file .entry)) column (now (answer .entry)) r (now (answer .exit)) ⌝ }
+{
+    if answer.len() < REASON_LENGTH {
+        return refuse_area(file);
+    }
+    let r = file_reason(file, column);
+    if r.refusal != 0 {
+        return r.refusal;
+    }
+    put_reason(answer, r)
 }

@@ -4,3 +4,4 @@ mod calls;
 pub use calls::wundreska_check;
 pub use calls::wundreska_mixed;
 pub use calls::wundreska_multipliers;
+pub use calls::wundreska_reason;

@@ -6,8 +6,9 @@ use borrow.Author.Tests.{not-true, not-false}
 use native.Mathlib.Omega.{arith}
 use Rattle.columns.specs.Columns.{within}
 use Rattle.columns.specs.ColumnSets.{whole}
+use Rattle.layered.proofs.AnswerLaws.{accepted-askable}
 use Rattle.layered.proofs.FileLaws.{call-refused}
-use Rattle.multipliers.proofs.AskLaws.{column-refused, held-refused, columns-pass, accepted-askable}
+use Rattle.multipliers.proofs.AskLaws.{column-refused, held-refused, columns-pass}
 use borrow.Author.Needs.{needs}
 use Rattle.multipliers.proofs.ask.Statement.{statement}
 use Rattle.multipliers.proofs.ask.Tie as tie
