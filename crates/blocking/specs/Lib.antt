@@ -3,6 +3,7 @@ pub mod Offering
 pub mod Reason
 pub mod OfferingLaws
 pub mod ReasonLaws
+pub mod ShortLaws
 pub mod MultiplierLaws
 pub mod Theorems
 pub mod Computed

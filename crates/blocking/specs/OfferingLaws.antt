@@ -1,12 +1,12 @@
 -- Models with fewer columns offered, and the short set of one that is offered a column too many. Assumes nothing.
-use Prim.Native.Nat.{ℕ, suc, _≤_, _<_}
+use Prim.Native.Nat.{ℕ, suc, _+_, _≤_, _<_}
 use mathlib.Core.Path.{_≡_, sym, _∙_, ap}
 use mathlib.Core.Bool.{true, false, not, _&&_, true≢false}
 use mathlib.Core.Logic.{_≢_, _↔_}
 use native.Mathlib.Omega.{arith}
 use native.Mathlib.Decide.{ℕ-discrete, decLt}
-use Rattle.counting.specs.Bools.{true?, not-true, and-in, and-left, and-right, in-not}
-use Rattle.counting.specs.Sets.{Set, _∈_, _∩_, ∁, #}
+use Rattle.counting.specs.Bools.{true?, not-true, iff-eq, and-in, and-left, and-right, in-not}
+use Rattle.counting.specs.Sets.{Set, _∈_, _∩_, ∁, #, touching}
 use Rattle.counting.specs.Counts.{_⊖_, ⊖-at, ⊖-other, #-ext, #-⊖, #-split}
 use Rattle.counting.specs.Injections.{#-mono, #-strict}
 use Rattle.counting.specs.Choices.{Part}
@@ -150,3 +150,16 @@ module _ (M : Model) (C : Set) (part : Part (M .n) (M .E) C) (none : placeable M
         #-mono n (R ∩ C) (R ∩ placing (w .0)) (λ z l d. and-in (and-left (R z) (C z) d) (w .2 z l ∙ and-left (R z) (C z) d)),
         placed-in M (w .0) (w .1) R,
       ))
+
+  -- its constant rank and the rows that touch it are together one less than its columns
+  pub short-lacks-one : suc (constant-rank M (short (offering M C)) + # b (touching n T (short (offering M C)))) ≡ # n (short (offering M C))
+  unfolding sum constant-rank
+  short-lacks-one =
+      let R : Set = short (offering M C) in
+      omega (
+        arith,
+        offering-rank,
+        sum-short (offering M C),
+        #-split n R C,
+        #-ext n (R ∩ C) R (λ z l. iff-eq ((R ∩ C) z) (R z) (and-left (R z) (C z)) (λ e. and-in e (short-of-E (offering M C) z e .1))),
+      )

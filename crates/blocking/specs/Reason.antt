@@ -13,7 +13,7 @@ use Rattle.rank.specs.ModelModulo.{model-modulo}
 use Rattle.dependence.specs.Multipliers.{given}
 
 module _ (M : Model) where
-  open Model M using (b, n, T)
+  open Model M using (b, n, T, E)
 
   -- the columns that the reason for column x is drawn from: x and the placed ones
   abbrev pub drawn-from : ℕ → Set
@@ -29,6 +29,14 @@ module _ (M : Model) where
   -- `reason-unique` say that it is the one set that is `Blocking`
   unfoldable pub reason : ℕ → Set
   reason x y = decide (decLt y n) && drawn-from x y && placeable M (drawn-from x ⊖ y)
+
+  -- some unplaced column has y in its reason
+  pub record BlockedWith (y : ℕ) : Type 0 where
+    pub column : ℕ
+    pub below : column < n
+    pub is-offered : column ∈ E
+    pub unplaced : column ∈ placed M → ⊥
+    pub in-reason : y ∈ reason column
 
   -- no parameter row touches D
   unfoldable pub untouched : Set → Bool

@@ -1,5 +1,5 @@
 -- The reason for an unplaced column, by way of the short set of the model that is offered it and the placed columns alone. Assumes nothing.
-use Prim.Native.Nat.{ℕ, zero, suc, _≤_, _<_}
+use Prim.Native.Nat.{ℕ, zero, suc, _+_, _≤_, _<_}
 use mathlib.Core.Path.{_≡_, sym, _∙_, ap, fun-ext}
 use mathlib.Core.Bool.{true, false, not, _&&_, decide, decide-iff, true≢false}
 use mathlib.Core.Logic.{_≢_, _↔_}
@@ -10,13 +10,13 @@ use Rattle.counting.specs.Sets.{Set, _∈_, _⊆_, #, touching}
 use Rattle.counting.specs.Counts.{_⊖_, ⊖-at, ⊖-other, set-same, set-other, all-iff, #-ext, #-none, #-⊖, #-insert}
 use Rattle.counting.specs.Choices.{Part}
 use Rattle.rank.specs.Layered.Model.{Model, Assignment, placing, Legal}
-use Rattle.rank.specs.Layered.Rank.{rank, placeable, placed, short}
+use Rattle.rank.specs.Layered.Rank.{constant-rank, rank, placeable, placed, short}
 use Rattle.rank.specs.Layered.Meaning.{placeable-iff, short-iff}
 use Rattle.rank.specs.Layered.Duality.{size-le-rank, size-lt-sum}
 use Rattle.rank.specs.Layered.ColumnOrder.{placed-below, placed-legal, placed-first, placed-size}
 use Rattle.blocking.specs.Offering.{offering}
 use Rattle.blocking.specs.Reason.{drawn-from, Blocking, reason, untouched}
-use Rattle.blocking.specs.OfferingLaws.{less-in, smaller-placeable, offering-legal, legal-offering, offering-rank, short-offering, short-none}
+use Rattle.blocking.specs.OfferingLaws.{less-in, smaller-placeable, offering-legal, legal-offering, offering-rank, short-offering, short-none, short-lacks-one}
 
 module _ (M : Model) where
   open Model M using (b, n, T)
@@ -46,7 +46,7 @@ module _ (M : Model) where
 
 -- x is an unplaced column
 module _ (M : Model) (x : ℕ) (l : x < M .n) (o : x ∈ M .E) (unplaced : x ∈ placed M → ⊥) where
-  open Model M using (n, E)
+  open Model M using (b, n, T, E)
 
   ours : (A : Assignment) × Legal M A × ((y : ℕ) → y < n → placing A y ≡ placed M y)
   ours = placed-legal M
@@ -109,6 +109,10 @@ module _ (M : Model) (x : ℕ) (l : x < M .n) (o : x ∈ M .E) (unplaced : x ∈
     dropping-one = λ y e. smaller-placeable M (reason M x ⊖ y) (drawn-from M x ⊖ y) (reason-iff M x y .0 e .2) (λ z lz d.
         let w : (z ∈ reason M x) × (z ≢ y) = less-in (reason M x) y z d in ⊖-other (drawn-from M x) y z (w .1) ∙ reason-iff M x z .0 (w .0) .1);
   }
+
+  -- lacks one equation,
+  pub reason-lacks-one : suc (constant-rank M (reason M x) + # b (touching n T (reason M x))) ≡ # n (reason M x)
+  reason-lacks-one = ap (λ (R : Set). suc (constant-rank M R + # b (touching n T R))) (fun-ext reason-short) ∙ short-lacks-one M (drawn-from M x) drawn-part drawn-none enough ∙ ap (# n) (sym (fun-ext reason-short))
 
   -- and nothing else does
   pub blocking-unique : (D : Set) → Blocking M x D → (y : ℕ) → D y ≡ reason M x y

@@ -33,6 +33,7 @@ use Rattle.text.specs.Text.{refused-line, Prints}
 use Rattle.text.specs.declared.Printed.{Printed}
 use Rattle.report.specs.FileReport.{Reports, FileReport}
 use Rattle.mixed_report.specs.MixedReport.{mixed-answer-text, MixedFileReport}
+use Rattle.reason_report.specs.ReasonReport.{reason-text, ReasonFileReport}
 use Rattle.promises.specs.CutLaws.{rows-most, judge-cut}
 
 -- an accepted file is no longer than the longest
@@ -162,3 +163,6 @@ module _ (k : ℕ) (s : List ℕ) (bytes : AreBytes s) (h : longest-file < k) wh
 
   pub mixed-report-cut : (area : List ℕ) (r : Printed) (area′ : List ℕ) → MixedFileReport (take k s) area r area′ → MixedFileReport s area r area′
   mixed-report-cut = reports-cut mixed-question (λ t. MixedAnswered (file-mixed t)) mixed-answer-text
+
+  pub reason-report-cut : (x : ℕ) (area : List ℕ) (r : Printed) (area′ : List ℕ) → ReasonFileReport (take k s) x area r area′ → ReasonFileReport s x area r area′
+  reason-report-cut x = reports-cut (λ t. reason-question (file-model t) x) (λ t. FileReason t x) reason-text

@@ -1,5 +1,5 @@
 -- What an accepted call about the reason for a column says: of the set that it shows, and of the multipliers in plain numbers. Assumes nothing.
-use Prim.Native.Nat.{ℕ, _<_}
+use Prim.Native.Nat.{ℕ, suc, _+_, _<_}
 use mathlib.Core.Path.{_≡_, refl, sym, ap, _∙_, subst, fun-ext}
 use mathlib.Core.Logic.{_≢_, _↔_}
 use mathlib.Core.Bool.{true, false, not, true≢false}
@@ -10,7 +10,7 @@ use native.Mathlib.Decide.{decLt}
 use lib.ListN.{length, getD, List·getD-eq-default}
 use Rattle.limits.specs.Limits.{most-columns}
 use Rattle.counting.specs.Bools.{not-both, in-not, not-true}
-use Rattle.counting.specs.Sets.{Set, _∈_, _⊆_, touching}
+use Rattle.counting.specs.Sets.{Set, _∈_, _⊆_, #, touching}
 use Rattle.counting.specs.Counts.{_⊖_, ⊖-other, all-iff, touching-iff}
 use Rattle.columns.specs.Columns.{members}
 use Rattle.columns.specs.ColumnSets.{whole}
@@ -19,7 +19,7 @@ use Rattle.columns.specs.Words.Operations.{within-iff}
 use Rattle.rank.specs.Modulus.{modulus}
 use Rattle.rank.specs.ListedModel.{listed-model}
 use Rattle.rank.specs.Layered.Model.{Model}
-use Rattle.rank.specs.Layered.Rank.{placed, short}
+use Rattle.rank.specs.Layered.Rank.{constant-rank, placed, short}
 use Rattle.dependence.specs.Multipliers.{outcome, given}
 use Rattle.dependence.specs.NumberLaws.{multiplier-given}
 use Rattle.dependence.specs.Listing.{listing}
@@ -80,6 +80,9 @@ module _ (p n a b : ℕ) (cs ws : List ℕ) (ns : Option (List ℕ)) (x : ℕ) (
 
   pub set-unique : (D : Set) → Blocking M x D → (y : ℕ) → D y ≡ R y
   set-unique D h y = Theory.reason-unique M x column-below refl not-placed D h y ∙ sym (answer .set-is y)
+
+  pub set-lacks-one : suc (constant-rank M R + # b (touching n (M .T) R)) ≡ # n R
+  set-lacks-one = subst (λ (S : Set). suc (constant-rank M S + # b (touching n (M .T) S)) ≡ # n S) (sym the-set) (Theory.reason-lacks-one-equation M x column-below refl not-placed)
 
   pub set-has-the-column : x ∈ R
   set-has-the-column = answer .set-is x ∙ Theory.reason-has-the-column M x column-below refl not-placed

@@ -1,5 +1,5 @@
 -- What is proved over the promises of the calls, one theorem after another. Assumes nothing.
-use Prim.Native.Nat.{ℕ, _+_, _*_, _%_, _^_, _≤_, _<_}
+use Prim.Native.Nat.{ℕ, suc, _+_, _*_, _%_, _^_, _≤_, _<_}
 use mathlib.Core.Path.{_≡_, refl, sym, _∙_, subst}
 use mathlib.Core.Bool.{Bool, true, false}
 use mathlib.Core.Option.{Option, none, some}
@@ -8,7 +8,7 @@ use mathlib.Core.List.{List, [], flatten}
 use native.Mathlib.Omega.{arith}
 use lib.ListN.{length, getD, take}
 use lib.Seq.{take-take}
-use Rattle.counting.specs.Sets.{Set, _∈_, _⊆_, #, Some}
+use Rattle.counting.specs.Sets.{Set, _∈_, _⊆_, #, touching, Some}
 use Rattle.counting.specs.Counts.{_⊖_}
 use Rattle.columns.specs.Columns.{word-width, width, members}
 use Rattle.columns.specs.ColumnSets.{whole, Fits, row-numbers}
@@ -16,11 +16,12 @@ use Rattle.columns.specs.declared.ColumnSet.{ColumnSet}
 use Rattle.columns.specs.Words.Rows.{rows-below}
 use Rattle.columns.specs.Words.Bytes.{AreBytes}
 use Rattle.rank.specs.Layered.Model.{Model}
-use Rattle.rank.specs.Layered.Rank.{short}
+use Rattle.rank.specs.Layered.Rank.{constant-rank, short}
 use Rattle.rank.specs.ListedModel.{listed-model}
 use Rattle.rank.specs.ListedModelLaws.{OnlyZero}
 use Rattle.dependence.specs.PlainNumbers.{SumsTo}
-use Rattle.blocking.specs.Reason.{Blocking}
+use Rattle.blocking.specs.Reason.{Blocking, BlockedWith}
+use Rattle.blocking.specs.Theorems.{short-is-all-reasons}
 use Rattle.mixed_models.specs.Mixed.{Mixed, mixed}
 use Rattle.mixed_models.specs.MixedRowUse.{UsesEveryRow, LeavesRow}
 use Rattle.mixed_models.specs.MixedVerdicts.{mixed-determined-uses-every-row, mixed-surplus-leaves-a-row}
@@ -54,9 +55,10 @@ use Rattle.solvability.specs.Host.{HostAnswer, HostMixedAnswer, set-shown, Host
 use Rattle.text.specs.declared.Printed.{Printed}
 use Rattle.report.specs.FileReport.{FileReport}
 use Rattle.mixed_report.specs.MixedReport.{MixedFileReport}
+use Rattle.reason_report.specs.ReasonReport.{ReasonFileReport}
 use Rattle.promises.specs.TripLaws.{read-then-written, written-then-read}
 use Rattle.promises.specs.CutLaws.{judge-cut}
-use Rattle.promises.specs.CutCallLaws.{reading-cut, rows-reading-cut, host-cut, host-mixed-cut, host-multipliers-cut, host-reason-cut, report-cut, mixed-report-cut}
+use Rattle.promises.specs.CutCallLaws.{reading-cut, rows-reading-cut, host-cut, host-mixed-cut, host-multipliers-cut, host-reason-cut, report-cut, mixed-report-cut, reason-report-cut}
 use Rattle.promises.specs.AnswerLaws.{refusal-same, mixed-refusal-same, write-same, layered-same, mixed-same}
 use Rattle.promises.specs.NumberingLaws.{numbers-front, front-same, named, mixed-unnumbered, picked-same, without-numbers, file-unnumbered}
 use Rattle.promises.specs.RowLaws.{determined-rows, surplus-rows}
@@ -64,7 +66,7 @@ use Rattle.promises.specs.ShownLaws.{ShownWhole, answer-shown-whole, mix
 use Rattle.promises.specs.DependenceLaws.{says-dependent, says-depends, says-independent, none-given-otherwise, numbers-sum, numbers-only, number-below, number-not-held, held-itself, zero-by-nothing}
 use Rattle.promises.specs.MultiplierLaws.{says, constants-decide}
 use Rattle.promises.specs.MultiplierCallLaws.{file-call, host-call, held-surplus}
-use Rattle.promises.specs.ReasonLaws.{set-blocks, set-unique, set-has-the-column, set-inside-short, set-inside-reported, given-iff, none-given, not-zero, as-multipliers-call}
+use Rattle.promises.specs.ReasonLaws.{set-blocks, set-unique, set-lacks-one, set-has-the-column, set-inside-short, set-inside-reported, given-iff, none-given, not-zero, as-multipliers-call}
 use Rattle.promises.specs.ReasonLaws.{says as reason-says}
 use Rattle.promises.specs.ReasonCallLaws.{reason-file-call, reason-host-call}
 use Rattle.promises.specs.ReasonSameLaws.{reason-calls-same}
@@ -142,6 +144,10 @@ cut-input-report = report-cut
 pub cut-input-report-mixed : (k : ℕ) (s : List ℕ) → AreBytes s → longest-file < k
     → (area : List ℕ) (r : Printed) (area′ : List ℕ) → MixedFileReport (take k s) area r area′ → MixedFileReport s area r area′
 cut-input-report-mixed = mixed-report-cut
+
+pub cut-input-report-reason : (k : ℕ) (s : List ℕ) → AreBytes s → longest-file < k
+    → (x : ℕ) (area : List ℕ) (r : Printed) (area′ : List ℕ) → ReasonFileReport (take k s) x area r area′ → ReasonFileReport s x area r area′
+cut-input-report-reason = reason-report-cut
 
 -- ---- areas longer than the model
 
@@ -305,7 +311,11 @@ module _ (p n a b : ℕ) (cs ws : List ℕ) (ns : Option (List ℕ)) (x : ℕ) (
   pub shown-reason-unique : (D : Set) → Blocking (listed-model p n a b cs ws) x D → (y : ℕ) → D y ≡ members (whole (r .set)) y
   shown-reason-unique = set-unique p n a b cs ws ns x r call ok
 
-  -- has x itself,
+  -- its constant rank and the number of parameter rows that touch it are together one less than the number of its columns,
+  pub shown-reason-lacks-one-equation : let M = listed-model p n a b cs ws in suc (constant-rank M (members (whole (r .set))) + # b (touching n (M .T) (members (whole (r .set))))) ≡ # n (members (whole (r .set)))
+  shown-reason-lacks-one-equation = set-lacks-one p n a b cs ws ns x r call ok
+
+  -- it has x itself,
   pub shown-reason-has-the-column : x ∈ members (whole (r .set))
   shown-reason-has-the-column = set-has-the-column p n a b cs ws ns x r call ok
 
@@ -345,6 +355,11 @@ module _ (p n a b : ℕ) (cs ws : List ℕ) (ns : Option (List ℕ)) (x : ℕ) (
   pub reason-multipliers-are-those-of-the-call : r .given ≡ true → (held : ColumnSet) → ((y : ℕ) → members (whole held) y ≡ (members (whole (r .set)) ⊖ x) y) → (m : Multipliers) → MultipliersCall p n a b cs ws ns held x m
       → (m .refusal ≡ 0) × (m .outcome ≡ 1) × (m .multipliers ≡ r .multipliers)
   reason-multipliers-are-those-of-the-call = as-multipliers-call p n a b cs ws ns x r call ok
+
+-- The short set that the layered call reports is all reasons together.
+pub reported-short-is-all-reasons : (M : Model) (r : Answer) → Answered M r → (y : ℕ) → (y ∈ members (whole (r .short))) ↔ BlockedWith M y
+reported-short-is-all-reasons M r h y =
+    let w = short-is-all-reasons M y in ((λ e. w .0 (sym (h .solved .is-short y) ∙ e)), λ e. h .solved .is-short y ∙ w .1 e)
 
 -- All this holds of files and from C too. A call on a file that is accepted is the call on the file's model, handed over;
 pub reason-file-call-is-of-its-model : (s : List ℕ) → AreBytes s → (x : ℕ) (r : Reason) → ReasonFileCall s x r → r .refusal ≡ 0

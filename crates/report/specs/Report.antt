@@ -1,29 +1,24 @@
 -- The text of a report, by document 01, "The host and the program": the bytes of five lines, or of a refusal's one. Definitions only.
-use Prim.Native.Nat.{ℕ, suc, _+_, _*_}
+use Prim.Native.Nat.{ℕ, _+_, _*_}
 use mathlib.Core.Bool.{cond}
-use mathlib.Core.List.{List, [], _∷_, _++_}
+use mathlib.Core.List.{List, _++_}
 use lib.Dec.{eqb}
 use Rattle.limits.specs.Limits.{most-rows, no-column}
 use Rattle.columns.specs.Columns.{width, members}
 use Rattle.columns.specs.ColumnSets.{whole}
-use Rattle.text.specs.Text.{ascii, decimal, line, item, column-items, verdict-line, refused-line}
+use Rattle.text.specs.Text.{ascii, line, item, pair-items, column-items, verdict-line, refused-line}
 use Rattle.layered.specs.declared.Answer.{Answer}
 
--- row:column; a row without a column is left out
-unfoldable pub row-item : ℕ → ℕ → List ℕ
-row-item r c = cond (eqb c no-column) [] (item r ++ (ascii ":" ++ decimal c))
-
--- those of the rows from r on
-unfoldable pub row-items : ℕ → List ℕ → List ℕ
-row-items r [] = []
-row-items r (c ∷ cs) = row-item r c ++ row-items (suc r) cs
+-- row:column for each row, by row; a row without a column is left out
+unfoldable pub row-items : List ℕ → List ℕ
+row-items rows = pair-items no-column 0 rows
 
 unfoldable pub answer-text : Answer → List ℕ
 answer-text t =
     verdict-line (t .verdict)
     ++ (line (ascii "rank") (item (t .rank))
     ++ (line (ascii "constants") (column-items (members (whole (t .constants))))
-    ++ (line (ascii "parameters") (row-items 0 (t .rows))
+    ++ (line (ascii "parameters") (row-items (t .rows))
     ++ line (ascii "short") (column-items (members (whole (t .short)))))))
 
 -- the report: the lines of the answer, or of a refusal the one line

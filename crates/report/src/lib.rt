@@ -1,7 +1,8 @@
 // The report of a file, as text: document 01's five lines, or a refusal's one.
 ghost use mathlib.Core.Path.{_≡_};
-ghost use Rattle.text.specs.Text.{ascii, line, Puts};
-ghost use Rattle.report.specs.Report.{row-item, row-items, answer-text, report-text, longest-report};
+ghost use Rattle.limits.specs.Limits.{no-column};
+ghost use Rattle.text.specs.Text.{ascii, line, pair-unless, Puts};
+ghost use Rattle.report.specs.Report.{row-items, answer-text, report-text, longest-report};
 ghost use Rattle.report.specs.FileReport.{FileReport};
 use columns::WIDTH;
 use layered::Answer;
@@ -12,9 +13,8 @@ use text::Printed;
 use text::put_byte;
 use text::put_bytes;
 use text::put_column_line;
-use text::put_decimal;
-use text::put_item;
 use text::put_number_line;
+use text::put_pair;
 use text::put_refused_line;
 use text::put_verdict_line;
 
@@ -23,8 +23,6 @@ use text::put_verdict_line;
 pub const LONGEST_REPORT: usize = 55 + 2 * (4 * WIDTH) + 8 * MOST_ROWS;
 
 const LINE_FEED: u8 = 10;
-
-const COLON: u8 = 58;
 
 fn longest_tied() -> usize
     ensures { λ r. ⌜ r ≡ longest-report ⌝ }
@@ -66,7 +64,7 @@ fn put_answer(out: &mut [u8], answer: Answer) -> usize
 }
 
 fn put_row_line(out: &mut [u8], at: usize, rows: [u8; MOST_ROWS]) -> usize
-    ensures { λ r. ⌜ Puts (line (ascii "parameters") (row-items 0 rows)) (now (out .entry)) at (now (out .exit)) r ⌝ }
+    ensures { λ r. ⌜ Puts (line (ascii "parameters") (row-items rows)) (now (out .entry)) at (now (out .exit)) r ⌝ }
 {
     let after_word = put_bytes(out, at, b"parameters");
     let after_items = put_rows(out, after_word, rows);
@@ -75,7 +73,7 @@ fn put_row_line(out: &mut [u8], at: usize, rows: [u8; MOST_ROWS]) -> usize
 
 // The rows that have a column, each with it.
 fn put_rows(out: &mut [u8], at: usize, rows: [u8; MOST_ROWS]) -> usize
-    ensures { λ r. ⌜ Puts (row-items 0 rows) (now (out .entry)) at (now (out .exit)) r ⌝ }
+    ensures { λ r. ⌜ Puts (row-items rows) (now (out .entry)) at (now (out .exit)) r ⌝ }
 {
     let mut place = at;
     let mut r = 0;
@@ -87,12 +85,10 @@ fn put_rows(out: &mut [u8], at: usize, rows: [u8; MOST_ROWS]) -> usize
 }
 
 fn put_row(out: &mut [u8], at: usize, row: usize, column: u8) -> usize
-    ensures { λ r. ⌜ Puts (row-item row column) (now (out .entry)) at (now (out .exit)) r ⌝ }
+    ensures { λ r. ⌜ Puts (pair-unless no-column row column) (now (out .entry)) at (now (out .exit)) r ⌝ }
 {
     if column == NO_COLUMN {
         return at;
     }
-    let after_row = put_item(out, at, row);
-    let after_colon = put_byte(out, after_row, COLON);
-    put_decimal(out, after_colon, column as usize)
+    put_pair(out, at, row, column as usize)
 }

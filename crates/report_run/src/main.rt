@@ -1,5 +1,5 @@
-// Prints S2's report, and S9's mixed one, into an area a byte longer than the text, one as long and one a byte shorter; then the reports
-// of two models with surplus equations. A report is which number and which length the call gives, and then the whole area, which held full
+// Prints S2's report, S9's mixed one, and that of the reason for S3's column 1, into an area a byte longer than the text, one as long and
+// one a byte shorter; then the reports of two models with surplus equations. A report is which number and which length the call gives, and then the whole area, which held full
 // stops before.
 use text::Printed;
 
@@ -24,7 +24,20 @@ fn main() {
     mixed(s9, &mut mixed_whole);
     let mut mixed_short = [FULL_STOP; 48];
     mixed(s9, &mut mixed_short);
+    reasons();
     surplus();
+}
+
+fn reasons() {
+    // S3: p 1,021, n 2, two constant rows 1 1.
+    let s3 =
+        b"\x01\x02\x00\xFD\x03\x02\x03\x00\x02\x02\x00\x03\x04\x00\x01\x00\x01\x00\x03\x04\x00\x01\x00\x01\x00\x05\x00\x00";
+    let mut longer = [FULL_STOP; 28];
+    reason(s3, &mut longer);
+    let mut whole = [FULL_STOP; 27];
+    reason(s3, &mut whole);
+    let mut short = [FULL_STOP; 26];
+    reason(s3, &mut short);
 }
 
 fn surplus() {
@@ -48,6 +61,11 @@ fn layered(file: &[u8], area: &mut [u8]) {
 fn mixed(file: &[u8], area: &mut [u8]) {
     let printed = mixed_report::report_mixed_file(file, area);
     show(b"mixed", printed, area);
+}
+
+fn reason(file: &[u8], area: &mut [u8]) {
+    let printed = reason_report::report_reason_file(file, 1, area);
+    show(b"reason", printed, area);
 }
 
 fn show(word: &[u8], printed: Printed, area: &[u8]) {

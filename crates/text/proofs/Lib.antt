@@ -1,1 +1,2 @@
 pub mod ColumnItems
+pub mod Digits

@@ -2,4 +2,5 @@
 pub mod Text
 pub mod PutLaws
 pub mod TextLaws
+pub mod ReadLaws
 pub mod TextExamples

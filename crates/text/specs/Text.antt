@@ -1,11 +1,12 @@
--- Text, as bytes: decimals, items and lines by document 01, "The host and the program", and how text gets into a lent area. Definitions only.
-use Prim.Native.Nat.{ℕ, zero, suc, _+_, _/_, _%_}
+-- Text, as bytes: decimals, items and lines by document 01, "The host and the program", how text gets into a lent area, and a number read from its
+-- digits. Definitions only.
+use Prim.Native.Nat.{ℕ, zero, suc, _+_, _-_, _*_, _/_, _%_}
 use Prim.Native.Char.{code}
 use Prim.Native.String.{String, [] as []ˢ, _∷_ as _∷ˢ_}
 use mathlib.Core.Path.{_≡_}
-use mathlib.Core.Bool.{cond}
+use mathlib.Core.Bool.{Bool, true, false, _&&_, cond}
 use mathlib.Core.List.{List, [], _∷_, _++_, flatMap}
-use lib.Dec.{eqb, ltb}
+use lib.Dec.{eqb, leb, ltb}
 use lib.ListN.{length, set}
 use Rattle.counting.specs.Sets.{Set}
 use Rattle.columns.specs.Columns.{width}
@@ -38,6 +39,19 @@ line word items = word ++ (items ++ ascii "\n")
 -- a number as an item, with the space before it
 unfoldable pub item : ℕ → List ℕ
 item x = ascii " " ++ decimal x
+
+-- two numbers as an item, a colon between them
+unfoldable pub pair-item : ℕ → ℕ → List ℕ
+pair-item x y = item x ++ (ascii ":" ++ decimal y)
+
+-- the same, left out where the second number is the one that stands for nothing
+unfoldable pub pair-unless : (nothing x y : ℕ) → List ℕ
+pair-unless nothing x y = cond (eqb y nothing) [] (pair-item x y)
+
+-- a list's elements as such items, each behind its place; the first has place x
+unfoldable pub pair-items : (nothing x : ℕ) → List ℕ → List ℕ
+pair-items nothing x [] = []
+pair-items nothing x (y ∷ ys) = pair-unless nothing x y ++ pair-items nothing (suc x) ys
 
 -- the columns of S among the k columns from x on, ascending
 unfoldable pub columns-from : ℕ → ℕ → Set → List ℕ
@@ -86,3 +100,26 @@ pub record Prints (text area : List ℕ) (r : Printed) (area′ : List ℕ) : Ty
   pub refusal-is : r .refusal ≡ print-refusal text area
   pub length-is : r .length ≡ length (printed text area)
   pub bytes-are : area′ ≡ over (printed text area) area
+
+-- ---- a number read from its digits
+
+unfoldable pub is-digit : ℕ → Bool
+is-digit c = leb 48 c && leb c 57
+
+unfoldable pub all-digits : List ℕ → Bool
+all-digits [] = true
+all-digits (c ∷ cs) = is-digit c && all-digits cs
+
+-- at least one digit, and nothing else
+unfoldable pub is-number : List ℕ → Bool
+is-number [] = false
+is-number (c ∷ cs) = all-digits (c ∷ cs)
+
+-- the number that digits stand for, behind others that stand for x
+unfoldable pub value : ℕ → List ℕ → ℕ
+value x [] = x
+value x (c ∷ cs) = value (10 * x + (c - 48)) cs
+
+-- the number below `most` that the text stands for; whatever is no such number is read as `most`
+unfoldable pub number-below : (most : ℕ) (text : List ℕ) → ℕ
+number-below most text = cond (is-number text && ltb (value 0 text) most) (value 0 text) most

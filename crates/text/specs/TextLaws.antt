@@ -6,13 +6,15 @@ use mathlib.Core.Logic.{_≢_, by-cases}
 use mathlib.Core.List.{List, [], _∷_, _++_, flatMap}
 use native.Mathlib.Omega.{arith}
 use native.Mathlib.Decide.{ℕ-discrete, decLt}
-use native.Mathlib.Nat.{pow-suc}
-use lib.ListN.{length, length-append}
+use native.Mathlib.Nat.{pow-suc, mul-suc}
+use native.Mathlib.Numerals.{add-one}
+use lib.ListN.{length, getD, drop, length-append, drop-of-length-le}
+use lib.Seq.{drop-cons}
 use borrow.Author.Tests.{lt-ltb, le-ltb, eq-eqb, ne-eqb}
 use Rattle.counting.specs.Bools.{not-true}
 use Rattle.counting.specs.Sets.{Set}
 use Rattle.columns.specs.Columns.{width}
-use Rattle.text.specs.Text.{ascii, digits, decimal, line, item, columns-from, column-items, verdict-line, refused-line}
+use Rattle.text.specs.Text.{ascii, digits, decimal, line, item, pair-item, pair-unless, pair-items, columns-from, column-items, verdict-line, refused-line}
 
 -- ---- decimals
 
@@ -73,6 +75,26 @@ pub item-is : (x : ℕ) → item x ≡ (32 ∷ []) ++ decimal x
 unfolding item ascii
 item-is x = refl
 
+pub pair-item-is : (x y : ℕ) → pair-item x y ≡ item x ++ ((58 ∷ []) ++ decimal y)
+unfolding pair-item ascii
+pair-item-is x y = refl
+
+pub pair-shown : (nothing x y : ℕ) → y ≢ nothing → pair-unless nothing x y ≡ pair-item x y
+unfolding pair-unless
+pair-shown nothing x y ne = rw (ne-eqb y nothing ne) refl
+
+pub pair-left-out : (nothing x y : ℕ) → y ≡ nothing → pair-unless nothing x y ≡ []
+unfolding pair-unless
+pair-left-out nothing x y e = rw (eq-eqb y nothing e) refl
+
+pub pairs-next : (nothing x : ℕ) (ys : List ℕ) → x < length ys → pair-items nothing x (drop x ys) ≡ pair-unless nothing x (getD ys x 0) ++ pair-items nothing (x + 1) (drop (x + 1) ys)
+unfolding pair-items
+pairs-next nothing x ys h = rw (drop-cons ys x 0 h, add-one x) refl
+
+pub pairs-none : (nothing x : ℕ) (ys : List ℕ) → length ys ≤ x → pair-items nothing x (drop x ys) ≡ []
+unfolding pair-items
+pairs-none nothing x ys h = rw (drop-of-length-le ys h) refl
+
 pub verdict-determined : (v : ℕ) → v ≡ 1 → verdict-line v ≡ ascii "verdict determined\n"
 unfolding verdict-line line ascii
 verdict-determined v e = rw (eq-eqb v 1 e) refl
@@ -90,6 +112,21 @@ verdict-open v nd ns = rw (ne-eqb v 1 nd, ne-eqb v 2 ns) refl
 -- a number of at most j + 1 digits
 pub item-length : (j x : ℕ) → x < 10 ^ suc j → length (item x) ≤ suc (suc j)
 item-length j x l = rw item-is (omega (arith, decimal-length j x l))
+
+-- numbers of at most i + 1 and j + 1 digits
+pair-length : (i j nothing x y : ℕ) → x < 10 ^ suc i → y < 10 ^ suc j → length (pair-unless nothing x y) ≤ i + j + 4
+pair-length i j nothing x y h g = by-cases (ℕ-discrete y nothing)
+    (λ e. rw (pair-left-out nothing x y e) (omega arith))
+    (λ ne. rw (pair-shown nothing x y ne, pair-item-is, length-append) (omega (arith, item-length i x h, decimal-length j y g)))
+
+-- all places and elements are such numbers
+pub pairs-length : (i j nothing x : ℕ) (ys : List ℕ) → x + length ys ≤ 10 ^ suc i → ((k : ℕ) → getD ys k 0 < 10 ^ suc j) → length (pair-items nothing x ys) ≤ (i + j + 4) * length ys
+unfolding pair-items
+pairs-length i j nothing x [] h g = omega arith
+pairs-length i j nothing x (y ∷ ys) h g =
+    let first = pair-length i j nothing x y (omega arith) (g 0) in
+    let others = pairs-length i j nothing (suc x) ys (omega arith) (λ k. g (suc k)) in
+    rw length-append (omega (arith, first, others, mul-suc (i + j + 4) (length ys)))
 
 columns-length : (k x : ℕ) (S : Set) → x + k ≤ 1000 → length (flatMap item (columns-from k x S)) ≤ 4 * k
 unfolding columns-from flatMap

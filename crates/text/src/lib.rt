@@ -1,11 +1,12 @@
 // Writers of text: bytes, decimals, items and lines put into an area from a place on. Each gives the place behind what it put. A byte
-// that has no room is left out, so that every function is total; `print` is for a whole text, and refuses where it has no room.
+// that has no room is left out, so that every function is total; `print` is for a whole text, and refuses where it has no room. And a
+// reader of numbers.
 ghost use mathlib.Core.Path.{_≡_};
 ghost use mathlib.Core.List.{[], _∷_};
-ghost use Prim.Native.Nat.{_+_, _<_};
+ghost use Prim.Native.Nat.{_+_, _-_, _*_, _≤_, _<_};
 ghost use Rattle.columns.specs.Columns.{members};
 ghost use Rattle.columns.specs.ColumnSets.{whole};
-ghost use Rattle.text.specs.Text.{decimal, line, item, column-items, verdict-line, refused-line, Puts, Prints};
+ghost use Rattle.text.specs.Text.{decimal, line, item, pair-item, column-items, verdict-line, refused-line, Puts, Prints, is-digit, number-below};
 use columns::ColumnSet;
 use format::refusals;
 
@@ -14,6 +15,10 @@ const LINE_FEED: u8 = 10;
 const SPACE: u8 = 32;
 
 const ZERO: u8 = 48;
+
+const NINE: u8 = 57;
+
+const COLON: u8 = 58;
 
 // How many bytes were printed; 0 where the printing is refused.
 pub struct Printed {
@@ -87,8 +92,17 @@ fn put_columns(out: &mut [u8], at: usize, set: ColumnSet) -> usize
     place
 }
 
+// Two numbers with a colon between them, and the space before them.
+pub fn put_pair(out: &mut [u8], at: usize, first: usize, second: usize) -> usize
+    ensures { λ r. ⌜ Puts (pair-item first second) (now (out .entry)) at (now (out .exit)) r ⌝ }
+{
+    let after_first = put_item(out, at, first);
+    let after_colon = put_byte(out, after_first, COLON);
+    put_decimal(out, after_colon, second)
+}
+
 // A number with the space before it.
-pub fn put_item(out: &mut [u8], at: usize, x: usize) -> usize
+fn put_item(out: &mut [u8], at: usize, x: usize) -> usize
     ensures { λ r. ⌜ Puts (item x) (now (out .entry)) at (now (out .exit)) r ⌝ }
 {
     let after_space = put_byte(out, at, SPACE);
@@ -96,7 +110,7 @@ pub fn put_item(out: &mut [u8], at: usize, x: usize) -> usize
 }
 
 // A number in decimal: the digits before the last are those of its tenth.
-pub fn put_decimal(out: &mut [u8], at: usize, x: usize) -> usize
+fn put_decimal(out: &mut [u8], at: usize, x: usize) -> usize
     ensures { λ r. ⌜ Puts (decimal x) (now (out .entry)) at (now (out .exit)) r ⌝ }
 {
     if x < 10 {
@@ -133,4 +147,42 @@ pub fn put_byte(out: &mut [u8], at: usize, x: u8) -> usize
         return at + 1;
     }
     at
+}
+
+// The number below `most` that the digits stand for. Whatever is no such number is read as `most`.
+pub fn read_number(digits: &[u8], most: u16) -> usize
+    ensures { λ r. ⌜ r ≡ number-below most (now (digits .entry)) ⌝ }
+{
+    let limit = most as usize;
+    if digits.len() == 0 {
+        return limit;
+    }
+    let mut x = 0;
+    let mut i = 0;
+    while i < digits.len() {
+        let c = digits[i];
+        if !is_digit(c) {
+            return limit;
+        }
+        x = with_digit(x, c);
+        if x >= limit {
+            return limit;
+        }
+        i = i + 1;
+    }
+    x
+}
+
+fn is_digit(c: u8) -> bool
+    ensures { λ r. ⌜ r ≡ is-digit c ⌝ }
+{
+    ZERO <= c && c <= NINE
+}
+
+// x with one more digit behind its own.
+fn with_digit(x: usize, c: u8) -> usize
+    requires { ⌜ (x < 65536) × (48 ≤ c) × (c ≤ 57) ⌝ }
+    ensures { λ r. ⌜ r ≡ 10 * x + (c - 48) ⌝ }
+{
+    10 * x + (c - ZERO) as usize
 }
