@@ -20,9 +20,9 @@ typedef struct {
 } Child;
 
 /* The program meets a closed pipe as any other does, though we ignore the signal. */
-static int start(const char *program, int in, int out, pid_t *pid)
+static int start(const char *program, const char *word, int in, int out, pid_t *pid)
 {
-    char *words[] = {(char *)program, NULL};
+    char *words[] = {(char *)program, (char *)word, NULL};
     posix_spawn_file_actions_t actions;
     posix_spawnattr_t attributes;
     sigset_t signals;
@@ -40,13 +40,13 @@ static int start(const char *program, int in, int out, pid_t *pid)
     return started;
 }
 
-static int open_child(Child *child, const char *program)
+static int open_child(Child *child, const char *program, const char *word)
 {
     int in[2], out[2];
     if (pipe2(in, O_CLOEXEC) != 0 || pipe2(out, O_CLOEXEC) != 0)
         abort();
     fcntl(in[1], F_SETFL, O_NONBLOCK);
-    int started = start(program, in[0], out[1], &child->pid);
+    int started = start(program, word, in[0], out[1], &child->pid);
     close(in[0]);
     close(out[1]);
     child->in = in[1];
@@ -115,13 +115,13 @@ static int converse(Child *child, const uint8_t *input, size_t length, size_t pi
     }
 }
 
-Output run_program(const char *program, const uint8_t *input, size_t length, size_t piece)
+Output run_program(const char *program, const char *word, const uint8_t *input, size_t length, size_t piece)
 {
     Child child;
     Output output = {.end = BROKE};
     int status;
     signal(SIGPIPE, SIG_IGN);
-    int started = open_child(&child, program);
+    int started = open_child(&child, program, word);
     int in_time = started && converse(&child, input, length, piece, &output);
     close_input(&child);
     close(child.out);

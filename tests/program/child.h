@@ -13,8 +13,9 @@ typedef struct {
     char text[OUTPUT_MAX + 1]; /* with a NUL behind; more than so much is cut */
 } Output;
 
-/* Runs the program with the input on its standard input, written in pieces of so many bytes, each when the program has read
- * the last one. It hangs where it takes longer than a minute, and breaks where a signal ends it or it cannot be started. */
-Output run_program(const char *program, const uint8_t *input, size_t length, size_t piece);
+/* Runs the program with a word as its argument, or none where that is NULL, and with the input on its standard input, written in
+ * pieces of so many bytes, each when the program has read the last one. It hangs where it takes longer than a minute, and breaks
+ * where a signal ends it or it cannot be started. */
+Output run_program(const char *program, const char *word, const uint8_t *input, size_t length, size_t piece);
 
 #endif

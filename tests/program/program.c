@@ -1,12 +1,13 @@
 /* Runs a program that reports on a model file, on some thousands of inputs, and holds what it writes against the reference.
  *
- * Run: program layered|mixed PROGRAM MODELS [FILES], where MODELS is the folder of stored models. Prints the cases of each category
- * and, as its last line, 'N passed, M failed' over all cases. What the rules fix is compared to the byte; where they leave a
- * choice, the one shown is tested. Every input goes to FILES too, with the number of its refusal as a file. */
+ * Run: program layered|mixed|reason PROGRAM MODELS [FILES], where MODELS is the folder of stored models. Prints the cases of each
+ * category and, as its last line, 'N passed, M failed' over all cases. What the rules fix is compared to the byte; where they leave
+ * a choice, the one shown is tested. Every input goes to FILES too, with the number of its refusal as a file. */
 #include "child.h"
 #include "numbers.h"
 #include "tally.h"
 #include "text.h"
+#include "word.h"
 
 #include <glob.h>
 #include <stdio.h>
@@ -17,37 +18,99 @@
 enum { LONG_INPUT = 1 << 20, AT_ONCE = LONG_INPUT };
 
 static const char *program;
-static int mixed;
 static uint8_t input[LONG_INPUT];
 
-/* ---- what is wrong with an output ---- */
+/* ---- the reports ---- */
 
-static const char *layered_text_complaint(const Model *m, const char *text, char *again)
+typedef struct {
+    const char *name;
+    uint32_t (*judge)(const Model *m); /* the refusal of a question about a model that is not refused, or 0 */
+    /* What is wrong with the answer that a text shows, if anything; else the text that is due. */
+    const char *(*complaint)(const Model *m, const char *text, char *due);
+} Report;
+
+static uint32_t judge_layered(const Model *m)
+{
+    (void)m;
+    return 0;
+}
+
+static const char *layered_complaint(const Model *m, const char *text, char *due)
 {
     Answer answer;
     if (!read_layered(text, &answer))
         return "no report";
-    write_layered(&answer, again);
+    write_layered(&answer, due);
     return answer_complaint(m, &answer, layered_truth(m));
 }
 
-static const char *mixed_text_complaint(const Model *m, const char *text, char *again)
+static const char *mixed_complaint(const Model *m, const char *text, char *due)
 {
     MixedAnswer answer;
     if (!read_mixed(text, &answer))
         return "no report";
-    write_mixed(&answer, again);
+    write_mixed(&answer, due);
     return mixed_model_complaint(m, &answer);
 }
 
-static const char *text_complaint(const Model *m, uint32_t refusal, const Output *output)
+/* Of the question about a column: the word that names it, the model's reasons, and how often which answer was due. */
+static const char *word;
+static Reasons reasons;
+static unsigned long with_multipliers, without, beyond, placed;
+
+static uint32_t judge_reason(const Model *m)
+{
+    uint32_t refusal = judge_unplaced(m, reasons.placed, named_column(word));
+    beyond += refusal == 11;
+    placed += refusal == 12;
+    return refusal;
+}
+
+static const char *reason_text(const Model *m, const char *text, char *due)
+{
+    (void)text;
+    size_t column = named_column(word);
+    Reason reason = reason_with(m, reasons.sets[column], column);
+    *(reason.given ? &with_multipliers : &without) += 1;
+    write_reason(&reason, due);
+    return NULL;
+}
+
+enum { LAYERED_REPORT, MIXED_REPORT, REASON_REPORT };
+static const Report all_reports[] = {[LAYERED_REPORT] = {"layered", judge_layered, layered_complaint},
+                                     [MIXED_REPORT] = {"mixed", judge_mixed, mixed_complaint},
+                                     [REASON_REPORT] = {"reason", judge_reason, reason_text}};
+static const Report *report;
+
+static int is_about(int kind)
+{
+    return report == &all_reports[kind];
+}
+
+/* ---- one run ---- */
+
+/* What the front of the input holds: its refusal or 0, and the model. */
+static uint32_t file_refusal;
+static Model model;
+
+static void judge_input(size_t length)
+{
+    model = (Model){0};
+    file_refusal = judge_file(input, length, &model);
+    write_number(input, length, file_refusal);
+    if (!file_refusal && is_about(REASON_REPORT))
+        reasons = find_reasons(&model);
+}
+
+static const char *text_complaint(const Output *output)
 {
     char due[TEXT_MAX];
     const char *complaint = NULL;
+    uint32_t refusal = file_refusal ? file_refusal : report->judge(&model);
     if (refusal)
         write_refused(refusal, due);
     else
-        complaint = (mixed ? mixed_text_complaint : layered_text_complaint)(m, output->text, due);
+        complaint = report->complaint(&model, output->text, due);
     if (complaint)
         return complaint;
     return output->length == strlen(due) && memcmp(output->text, due, output->length) == 0 ? NULL : "the text";
@@ -63,18 +126,38 @@ static void stop_if_hung(const Output *output)
     exit(1);
 }
 
-/* Runs the program on the front of the input. */
+/* Runs the program on the front of the input, which is judged, and with the word that names a column. */
+static void try_judged(const char *named, size_t length, size_t piece)
+{
+    word = named;
+    Output output = run_program(program, named, input, length, piece);
+    count_case(output.end == ENDED ? text_complaint(&output) : "the program did not end by itself", &model);
+    stop_if_hung(&output);
+    word = NULL;
+}
+
+static void try_word(const char *named, size_t length)
+{
+    try_judged(named, length, AT_ONCE);
+}
+
+/* Most often a column that is not placed, where the input has one. */
+static size_t draw_column(void)
+{
+    size_t unplaced[WUNDRESKA_COLUMNS_MAX], count = 0;
+    for (size_t c = 0; !file_refusal && c < model.n; c++)
+        if (!has(reasons.placed, c))
+            unplaced[count++] = c;
+    return count > 0 && !one_in(5) ? unplaced[draw(count)] : draw(one_in(2) ? WUNDRESKA_COLUMNS_MAX + 4 : model.n + 1);
+}
+
 static void try_in_pieces(size_t length, size_t piece)
 {
-    static Model m;
-    m = (Model){0};
-    uint32_t refusal = judge_file(input, length, &m);
-    write_number(input, length, refusal);
-    if (!refusal && mixed)
-        refusal = judge_mixed(&m);
-    Output output = run_program(program, input, length, piece);
-    count_case(output.end == ENDED ? text_complaint(&m, refusal, &output) : "the program did not end by itself", &m);
-    stop_if_hung(&output);
+    char named[WORD_MAX];
+    judge_input(length);
+    if (is_about(REASON_REPORT))
+        write_word(draw_column(), named);
+    try_judged(is_about(REASON_REPORT) ? named : NULL, length, piece);
 }
 
 static void try_input(size_t length)
@@ -87,8 +170,8 @@ static void try_input(size_t length)
 /* A model of up to so many columns and rows; most often one that the program answers. */
 static Model draw_input(size_t columns, size_t rows)
 {
-    return mixed && !one_in(5) ? draw_mixed(all_primes, COUNT(all_primes), columns)
-                               : draw_model(all_primes, COUNT(all_primes), columns, rows);
+    return is_about(MIXED_REPORT) && !one_in(5) ? draw_mixed(all_primes, COUNT(all_primes), columns)
+                                                : draw_model(all_primes, COUNT(all_primes), columns, rows);
 }
 
 static size_t draw_file(size_t columns, size_t rows)
@@ -223,6 +306,58 @@ static void try_pieces(void)
         try_in_pieces(write_longest(WUNDRESKA_PRIME_MAX), 1000 + draw(WUNDRESKA_FILE_MAX));
 }
 
+/* ---- columns ---- */
+
+static void try_each_column(int count, size_t columns, size_t rows)
+{
+    char named[WORD_MAX];
+    for (int i = 0; i < count; i++) {
+        size_t length = draw_file(columns, rows);
+        judge_input(length);
+        for (size_t c = 0; c < model.n + 2; c++) {
+            write_word(c, named);
+            try_word(named, length);
+        }
+    }
+}
+
+static void try_odd_words(size_t length)
+{
+    static const char *const odd[] = {NULL, "", "-0", "-1", "+0", "+1", " 1", "1 ", "1\n", "x", "0x1", "1x", "1.0", "1,", "1/", "1:", "/1", ":1",
+                                      "\xD9\xA3", "00000000000000000000", "000000000000000000000", "00000000000000000001",
+                                      "000000000000000000001", "96", "97", "127", "128", "18446744073709551615",
+                                      "99999999999999999999", "100000000000000000000"};
+    static const unsigned powers[] = {7, 8, 15, 16, 31, 32, 63, 64};
+    char named[WORD_MAX];
+    judge_input(length);
+    for (size_t i = 0; i < COUNT(odd); i++)
+        try_word(odd[i], length);
+    for (size_t i = 0; i < COUNT(powers); i++) {
+        write_wrapped_word(draw_column(), powers[i], named);
+        try_word(named, length);
+    }
+    for (int i = 0; i < 10; i++) {
+        draw_word(named);
+        try_word(named, length);
+    }
+}
+
+static void try_columns(void)
+{
+    begin_category("every column of files, and two more");
+    try_each_column(150, 12, 12);
+    try_each_column(6, WUNDRESKA_COLUMNS_MAX, WUNDRESKA_ROWS_MAX);
+    begin_category("words that name no column, or one in an odd way");
+    for (int i = 0; i < 20; i++)
+        try_odd_words(draw_file(8, 6));
+    try_odd_words(damage_file(input, draw_file(8, 6)));
+    try_odd_words(0);
+    print_count(with_multipliers, "answers with multipliers among all cases");
+    print_count(without, "answers without");
+    print_count(beyond, "refusals of a column that no model or not this one has");
+    print_count(placed, "refusals of a column that is placed");
+}
+
 static int compare_all(const char *models)
 {
     try_stored_models(models);
@@ -236,20 +371,30 @@ static int compare_all(const char *models)
     try_damaged_files(300, WUNDRESKA_COLUMNS_MAX, WUNDRESKA_ROWS_MAX);
     try_pieces();
     try_numbered_files();
+    if (is_about(REASON_REPORT))
+        try_columns();
     return end_tally() > 0;
+}
+
+static const Report *report_named(const char *name)
+{
+    for (size_t i = 0; i < COUNT(all_reports); i++)
+        if (strcmp(all_reports[i].name, name) == 0)
+            return &all_reports[i];
+    return NULL;
 }
 
 int main(int count, char **words)
 {
-    if (count < 4 || count > 5 || (strcmp(words[1], "layered") && strcmp(words[1], "mixed"))) {
-        fprintf(stderr, "usage: program layered|mixed PROGRAM MODELS [FILES]\n");
+    report = count > 1 ? report_named(words[1]) : NULL;
+    if (count < 4 || count > 5 || !report) {
+        fprintf(stderr, "usage: program layered|mixed|reason PROGRAM MODELS [FILES]\n");
         return 2;
     }
     if (count == 5 && !write_numbers_to(words[4])) {
         perror(words[4]);
         return 2;
     }
-    mixed = strcmp(words[1], "mixed") == 0;
     program = words[2];
     printf("%s:\n", program);
     return compare_all(words[3]);

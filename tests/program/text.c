@@ -1,4 +1,4 @@
-/* Reports as document 01 has them: one word, then items with one space before each; each line ends in a line feed. */
+/* Reports as document 01 has them, and those of reasons likewise: one word, then items with one space before each; each line ends in a line feed. */
 #include "text.h"
 
 #include <ctype.h>
@@ -26,6 +26,15 @@ static char *put_rows(char *out, const uint8_t *rows)
     return out + sprintf(out, "\n");
 }
 
+static char *put_multipliers(char *out, const uint16_t *multipliers)
+{
+    out += sprintf(out, "multipliers");
+    for (unsigned c = 0; c < WUNDRESKA_COLUMNS_MAX; c++)
+        if (multipliers[c] != 0)
+            out += sprintf(out, " %u:%u", c, multipliers[c]);
+    return out + sprintf(out, "\n");
+}
+
 static const char *const verdicts[] = {[WUNDRESKA_OPEN] = "open", [WUNDRESKA_DETERMINED] = "determined", [WUNDRESKA_SURPLUS] = "surplus"};
 
 static char *put_start(char *out, unsigned verdict, unsigned rank)
@@ -45,6 +54,13 @@ void write_mixed(const MixedAnswer *answer, char *text)
     char *out = put_start(text, answer->verdict, answer->rank);
     out = put_set(put_set(out, "rows", answer->rows), "columns", answer->columns);
     put_set(out, "short", answer->short_set);
+}
+
+void write_reason(const Reason *reason, char *text)
+{
+    char *out = put_set(text, "reason", reason->set);
+    if (reason->given)
+        put_multipliers(out, reason->multipliers);
 }
 
 void write_refused(uint32_t refusal, char *text)
