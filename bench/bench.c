@@ -1,5 +1,5 @@
 /* Times the library's layered call, the same in plain Rust, and FLINT's ranks, on the same models in one process; then the longest
- * file against that of the same model unnumbered; then the call about a column against the layered call and FLINT's solving.
+ * file against that of the same model unnumbered; then the calls about a column against the layered call and FLINT's solving.
  * Prints a line for each kind of model: its table, its name, then microseconds a call of each method, parted by '|'. */
 #define _POSIX_C_SOURCE 200809L
 #include "harness.h"
@@ -90,7 +90,7 @@ typedef struct {
     nmod_mat_t constants;   /* modulo p */
     nmod_mat_t held, named, multipliers; /* the columns but the last, the last one, and what it is of them, modulo p */
     File numbered, unnumbered; /* the longest file, and that of its model without numbers */
-    uint8_t answer[WUNDRESKA_MULTIPLIERS_SIZE]; /* the longest that there is */
+    uint8_t answer[WUNDRESKA_REASON_SIZE]; /* the longest that there is */
     slong rank;
 } Work;
 
@@ -253,7 +253,7 @@ static void measure_numbers(void)
     printf("file|checked|%f|%f\nfile|judged|%f|%f\n", t[0], t[1], t[2], t[3]);
 }
 
-/* ---- the last column by all others, against the layered call on the same model and FLINT's solving ---- */
+/* ---- the last column by all others, and what blocks it, against the layered call on the same model and FLINT's solving ---- */
 
 /* Makes the last column a sum of the others. */
 static void plant_sum(Model *m)
@@ -308,24 +308,41 @@ static void multipliers(Work *w)
         abort();
 }
 
+/* The others are placed where they are independent, as nearly all drawn ones are, and the last column then is not. */
+static void reason(Work *w)
+{
+    const Model *m = &w->model;
+    memset(w->answer, 0, WUNDRESKA_REASON_SIZE);
+    if (harness_reason(m->p, m->n, m->a, m->b, m->constants, m->a * m->n, NULL, 0, false, NULL, 0, m->n - 1, w->answer,
+                       WUNDRESKA_REASON_SIZE))
+        abort();
+}
+
 static void solved(Work *w)
 {
     if (!nmod_mat_can_solve(w->multipliers, w->held, w->named))
         abort();
 }
 
-/* The library and FLINT give the same multipliers. */
+/* Whether an answer that says so gives FLINT's multipliers, from where they start. */
+static int gives(const Work *w, int said, size_t at)
+{
+    for (size_t c = 0; c + 1 < w->model.n; c++) {
+        const uint8_t *given = w->answer + at + 2 * c;
+        said = said && nmod_mat_entry(w->multipliers, c, 0) == given[0] + 256u * given[1];
+    }
+    return said;
+}
+
+/* The library, by both calls, and FLINT give the same multipliers. */
 static void check_multipliers(Work *w)
 {
     int same;
-    multipliers(w);
     solved(w);
-    same = w->answer[WUNDRESKA_OUTCOME] == WUNDRESKA_DEPENDS;
-    for (size_t c = 0; c + 1 < w->model.n; c++) {
-        const uint8_t *given = w->answer + WUNDRESKA_MULTIPLIERS + 2 * c;
-        same = same && nmod_mat_entry(w->multipliers, c, 0) == given[0] + 256u * given[1];
-    }
-    if (!same) {
+    multipliers(w);
+    same = gives(w, w->answer[WUNDRESKA_OUTCOME] == WUNDRESKA_DEPENDS, WUNDRESKA_MULTIPLIERS);
+    reason(w);
+    if (!same || !gives(w, w->answer[WUNDRESKA_GIVEN] == 1, WUNDRESKA_REASON_MULTIPLIERS)) {
         fprintf(stderr, "the library and FLINT differ\n");
         exit(1);
     }
@@ -334,14 +351,14 @@ static void check_multipliers(Work *w)
 static void measure_multipliers(const char *kind, Model (*make)(void))
 {
     static Work works[MODELS];
-    static Method *const methods[] = {multipliers, library, solved};
-    double t[3];
+    static Method *const methods[] = {multipliers, library, solved, reason};
+    double t[4];
     for (int k = 0; k < MODELS; k++) {
         prepare_sum(&works[k], make());
         check_multipliers(&works[k]);
     }
-    time_all(methods, 3, works, t);
-    print_times("column", kind, &works[0].model, t, 3);
+    time_all(methods, 4, works, t);
+    print_times("column", kind, &works[0].model, t, 4);
     clear_sums(works);
 }
 

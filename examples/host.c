@@ -12,7 +12,7 @@
 
 #include "wundreska.h"
 
-static const char *reason(uint32_t refusal)
+static const char *fault(uint32_t refusal)
 {
     switch (refusal) {
     case WUNDRESKA_TRUNCATED: return "the file ends within a field";
@@ -26,6 +26,7 @@ static const char *reason(uint32_t refusal)
     case WUNDRESKA_NUMBER_TWICE: return "two parameters have one number";
     case WUNDRESKA_NOT_MIXED: return "a differs from b, or the mixed question has too many columns";
     case WUNDRESKA_COLUMN_BEYOND: return "a column is n or more";
+    case WUNDRESKA_COLUMN_PLACED: return "the column is placed";
     default: return "a number that this host does not know";
     }
 }
@@ -78,33 +79,53 @@ static int act(int verdict, int rank, const uint8_t *short_columns, int first)
 
 static int complain(uint32_t refusal)
 {
-    printf("no start: refused %u, %s\n", (unsigned)refusal, reason(refusal));
+    printf("no start: refused %u, %s\n", (unsigned)refusal, fault(refusal));
     return 0;
 }
 
-/* Says how the first unplaced column of an open model depends on those that the constant rows determine; it does, or they would
- * determine it too. Multipliers above p / 2 are shown as negative ones; p is bytes 3 and 4 of the file. */
-static void explain(const uint8_t *file, size_t length, const uint8_t *answer)
+/* Says what a column is in the constant rows, by the multipliers of an answer. Those above p / 2 are shown as negative ones; p is
+ * bytes 3 and 4 of the file. */
+static void print_sum(int column, const uint8_t *multipliers, const uint8_t *file)
 {
-    uint8_t about[WUNDRESKA_MULTIPLIERS_SIZE];
-    const uint8_t *placed = answer + WUNDRESKA_PLACED, *held = answer + WUNDRESKA_CONSTANTS;
     const char *joint = "";
-    int column = 0, p = file[3] + 256 * file[4], c, times;
-    while (placed[column / 8] >> column % 8 & 1)
-        column++;
-    if (wundreska_multipliers(file, length, held, WUNDRESKA_SET_SIZE, (size_t)column, about, sizeof about) != WUNDRESKA_ACCEPTED)
-        return;
-    if (about[WUNDRESKA_OUTCOME] != WUNDRESKA_DEPENDS)
-        return;
+    int p = file[3] + 256 * file[4], c, times;
     printf("in the constant rows, column %d = ", column);
     for (c = 0; c < WUNDRESKA_COLUMNS_MAX; c++) {
-        times = about[WUNDRESKA_MULTIPLIERS + 2 * c] + 256 * about[WUNDRESKA_MULTIPLIERS + 2 * c + 1];
+        times = multipliers[2 * c] + 256 * multipliers[2 * c + 1];
         if (times == 0)
             continue;
         printf("%s%d * column %d", joint, times > p / 2 ? times - p : times, c);
         joint = " + ";
     }
     printf(*joint ? "\n" : "0\n");
+}
+
+/* Says how an unplaced column depends on those that the constant rows determine; it does, or they would determine it too. */
+static void print_dependence(const uint8_t *file, size_t length, const uint8_t *constants, int column)
+{
+    uint8_t answer[WUNDRESKA_MULTIPLIERS_SIZE];
+    uint32_t refusal = wundreska_multipliers(file, length, constants, WUNDRESKA_SET_SIZE, (size_t)column, answer, sizeof answer);
+    if (refusal == WUNDRESKA_ACCEPTED && answer[WUNDRESKA_OUTCOME] == WUNDRESKA_DEPENDS)
+        print_sum(column, answer + WUNDRESKA_MULTIPLIERS, file);
+}
+
+/* Says what blocks the first unplaced column of an open model. Where parameters stand at the reason's columns, it has no multipliers;
+ * those by the constant side are then one choice of possibly many, as that side is. */
+static void explain(const uint8_t *file, size_t length, const uint8_t *layered)
+{
+    uint8_t answer[WUNDRESKA_REASON_SIZE];
+    const uint8_t *placed = layered + WUNDRESKA_PLACED;
+    int column = 0;
+    while (placed[column / 8] >> column % 8 & 1)
+        column++;
+    if (wundreska_reason(file, length, (size_t)column, answer, sizeof answer) != WUNDRESKA_ACCEPTED)
+        return;
+    printf("column %d is blocked: one equation is lacking for columns", column);
+    print_columns(answer + WUNDRESKA_REASON, 0);
+    if (answer[WUNDRESKA_GIVEN])
+        print_sum(column, answer + WUNDRESKA_REASON_MULTIPLIERS, file);
+    else
+        print_dependence(file, length, layered + WUNDRESKA_CONSTANTS, column);
 }
 
 static int treat_layered(const uint8_t *file, size_t length)

@@ -2,7 +2,8 @@
  *
  * A call judges a model file and, if it is accepted, answers a question about the model. wundreska_check for a layered model and
  * wundreska_mixed for a mixed one say whether it determines all its unknowns with no equation left over: start a solver on
- * WUNDRESKA_DETERMINED alone. wundreska_multipliers says how the constants of one column depend on those of others.
+ * WUNDRESKA_DETERMINED alone. wundreska_reason says what blocks a column that wundreska_check does not place, and
+ * wundreska_multipliers how the constants of one column depend on those of others.
  *
  * Words. A model has a prime p, n columns (the unknowns), a constant rows and b parameter rows. Rows and columns count
  * from 0. A constant is a whole number from 0 to p - 1 (minus one is p - 1); a parameter row only says at which columns it
@@ -31,7 +32,7 @@
  * in the file: column c is bit c % 8 (lowest is 0) of byte c / 8.
  *
  * Every call. It takes the bytes of a file and an answer area, and returns WUNDRESKA_ACCEPTED or the number of the refusal.
- * wundreska_multipliers also takes the bytes of a set, held, and the number of a column.
+ * wundreska_multipliers and wundreska_reason also take the number of a column, and the first of them the bytes of a set, held.
  * - Accepted: exactly the bytes of the answer are written, over the front of the area; the surplus is left as it was.
  * - Refused: no byte of the answer area is changed. The file and the set are never changed.
  * - Pointers: file points to file_len bytes that can be read, held to held_len such bytes, answer to answer_len bytes that can be
@@ -39,8 +40,7 @@
  *   it.
  * - Threads: a call keeps nothing, shares nothing and allocates nothing. It may run on any thread, several at once, the same file
  *   and set included, as long as nothing else writes these or touches the answer area meanwhile.
- * - Stack: a call needs less than WUNDRESKA_STACK_MAX bytes of it (measured: 42 KB, for a mixed question 62 KB, for one about a
- *   column 50 KB).
+ * - Stack: a call needs less than WUNDRESKA_STACK_MAX bytes of it (measured: 43 KB, for a mixed question 62 KB).
  * - Platform: the archive is for x86-64 Linux, can stand in a shared object, and takes memcpy, memmove and memset of the host.
  *
  * Linking: rt staticlib solvability
@@ -59,9 +59,9 @@ extern "C" {
 #endif
 
 /* The version of this header and of the archive that it comes with. */
-#define WUNDRESKA_VERSION "3.2.0"
+#define WUNDRESKA_VERSION "3.3.0"
 #define WUNDRESKA_VERSION_MAJOR 3
-#define WUNDRESKA_VERSION_MINOR 2
+#define WUNDRESKA_VERSION_MINOR 3
 #define WUNDRESKA_VERSION_PATCH 0
 
 /* The limits: p is a prime from 2 to WUNDRESKA_PRIME_MAX, n is 1 to WUNDRESKA_COLUMNS_MAX, a and b are 0 to WUNDRESKA_ROWS_MAX
@@ -98,8 +98,10 @@ extern "C" {
 #define WUNDRESKA_AREA_SHORT 8       /* answer_len is below the size of the call's answer, or held_len below WUNDRESKA_SET_SIZE */
 /* The modeller with a mixed question causes this one, in wundreska_mixed alone. It comes last. */
 #define WUNDRESKA_NOT_MIXED 10       /* a differs from b, or a + n exceeds WUNDRESKA_COLUMNS_MAX */
-/* Whoever asks about a column causes this one, in wundreska_multipliers alone. It comes last. */
+/* Whoever asks about a column causes these: the first in wundreska_multipliers and wundreska_reason, the second in wundreska_reason
+ * alone. They come last, in this order. */
 #define WUNDRESKA_COLUMN_BEYOND 11   /* the named column, or a held one, is n or more */
+#define WUNDRESKA_COLUMN_PLACED 12   /* the named column is placed, so that nothing blocks it */
 
 /* The answer to a layered model: where each part starts, and the size of all. */
 #define WUNDRESKA_VERDICT 0 /* 1 byte: one of the verdicts above */
@@ -159,6 +161,27 @@ uint32_t wundreska_mixed(const uint8_t *file, size_t file_len, uint8_t *answer, 
  *   included, and all multipliers are 0. */
 uint32_t wundreska_multipliers(const uint8_t *file, size_t file_len, const uint8_t *held, size_t held_len, size_t column,
                                uint8_t *answer, size_t answer_len);
+
+/* The answer about a column that is not placed: where each part starts, and the size of all. */
+#define WUNDRESKA_REASON 0 /* a set: the columns that block one another, the named one among them */
+#define WUNDRESKA_GIVEN (WUNDRESKA_REASON + WUNDRESKA_SET_SIZE) /* 1 byte: 1 where multipliers are given, else 0 */
+#define WUNDRESKA_REASON_MULTIPLIERS (WUNDRESKA_GIVEN + 1) /* the multiplier of each column, laid out as those above */
+#define WUNDRESKA_REASON_SIZE (WUNDRESKA_REASON_MULTIPLIERS + 2 * WUNDRESKA_COLUMNS_MAX) /* 205 */
+
+/* The question about a column that is not placed: what blocks the one named, column. The placed columns are those of
+ * wundreska_check. Of an accepted model:
+ * - the reason is the set of columns, drawn from the named one and the placed ones, that cannot be placed at once, while dropping
+ *   any one column of it leaves columns that can. No other set drawn from these is so. The named column is in it;
+ * - the equations that touch the reason thus determine one unknown fewer than it has columns. The reasons for all columns that are
+ *   not placed, taken together, are the short set of wundreska_check;
+ * - where no parameter row has a parameter at a column of the reason, multipliers are given: in every constant row the constants of
+ *   the reason's other columns, each times its column's multiplier, sum to the constant of the named column modulo p. No others do
+ *   so, and each is above 0 and below p. wundreska_multipliers gives the same where it holds the reason's other columns;
+ * - all other multipliers are 0: those of the named column, of columns outside the reason or from n on, and where none are given
+ *   those of all columns;
+ * - a named column whose constants are all 0, and that has no parameter, is the whole reason. Multipliers are given, and all are
+ *   0. */
+uint32_t wundreska_reason(const uint8_t *file, size_t file_len, size_t column, uint8_t *answer, size_t answer_len);
 
 #ifdef __cplusplus
 }

@@ -13,8 +13,8 @@ typedef uint32_t Call(const uint8_t *file, size_t file_len, uint8_t *answer, siz
 typedef struct {
     const char *name;
     Call *call;
-    size_t size;           /* of its answer */
-    unsigned columns, rows; /* of the largest model that it takes with as many rows as columns */
+    size_t size;                                      /* of its answer */
+    unsigned columns, constant_rows, parameter_rows; /* of its models */
 } Entry;
 
 /* The last column by all others. */
@@ -27,19 +27,31 @@ static uint32_t last_column(const uint8_t *file, size_t file_len, uint8_t *answe
     return wundreska_multipliers(file, file_len, others, sizeof others, LAST, answer, answer_len);
 }
 
+static size_t unplaced; /* the last column of the model that is not placed, where there is one */
+
+static uint32_t last_unplaced(const uint8_t *file, size_t file_len, uint8_t *answer, size_t answer_len)
+{
+    return wundreska_reason(file, file_len, unplaced, answer, answer_len);
+}
+
 /* A set of no bytes. */
 static uint32_t no_set(const uint8_t *file, size_t file_len, uint8_t *answer, size_t answer_len)
 {
     return wundreska_multipliers(file, file_len, NULL, 0, 0, answer, answer_len);
 }
 
+/* The largest models that a call takes with as many rows as columns. A reason is asked for in one with a row less than columns in all,
+ * and in one without parameters, where multipliers are given. */
+#define HALF (WUNDRESKA_COLUMNS_MAX / 2)
 static const Entry entries[] = {
-    {"wundreska_check", wundreska_check, WUNDRESKA_ANSWER_SIZE, WUNDRESKA_COLUMNS_MAX, WUNDRESKA_ROWS_MAX},
-    {"wundreska_mixed", wundreska_mixed, WUNDRESKA_MIXED_SIZE, WUNDRESKA_COLUMNS_MAX / 2, WUNDRESKA_COLUMNS_MAX / 2},
-    {"wundreska_multipliers", last_column, WUNDRESKA_MULTIPLIERS_SIZE, WUNDRESKA_COLUMNS_MAX, WUNDRESKA_ROWS_MAX},
+    {"wundreska_check", wundreska_check, WUNDRESKA_ANSWER_SIZE, WUNDRESKA_COLUMNS_MAX, WUNDRESKA_ROWS_MAX, WUNDRESKA_ROWS_MAX},
+    {"wundreska_mixed", wundreska_mixed, WUNDRESKA_MIXED_SIZE, HALF, HALF, HALF},
+    {"wundreska_multipliers", last_column, WUNDRESKA_MULTIPLIERS_SIZE, WUNDRESKA_COLUMNS_MAX, WUNDRESKA_ROWS_MAX, WUNDRESKA_ROWS_MAX},
+    {"wundreska_reason", last_unplaced, WUNDRESKA_REASON_SIZE, WUNDRESKA_COLUMNS_MAX, HALF, HALF - 1},
+    {"wundreska_reason with multipliers", last_unplaced, WUNDRESKA_REASON_SIZE, WUNDRESKA_COLUMNS_MAX, WUNDRESKA_COLUMNS_MAX - 1, 0},
 };
 enum { ENTRIES = sizeof entries / sizeof *entries, MODELS = 12, NUMBERED = MODELS, THREADS = 8, TURNS = 200, PAINT = 0xA5 };
-enum { STACK = 1 << 20, LONGEST = WUNDRESKA_MULTIPLIERS_SIZE }; /* bytes of a thread's stack, and of the longest answer */
+enum { STACK = 1 << 20, LONGEST = WUNDRESKA_REASON_SIZE }; /* bytes of a thread's stack, and of the longest answer */
 
 static int passed, failed;
 
@@ -76,7 +88,7 @@ static unsigned drawn(unsigned below)
 }
 
 /* Fills `file` with a model in which about `share` of 100 places are not empty; its parameters may be numbered, from 0 on. */
-static void make_model(unsigned p, unsigned n, unsigned rows, unsigned share, int numbered)
+static void make_model(unsigned p, unsigned n, unsigned constant_rows, unsigned parameter_rows, unsigned share, int numbered)
 {
     unsigned row, c, number = 0, end;
     file_len = 0;
@@ -85,9 +97,9 @@ static void make_model(unsigned p, unsigned n, unsigned rows, unsigned share, in
     put(p >> 8);
     put_head(2, 3);
     put(n);
-    put(rows);
-    put(rows);
-    for (row = 0; row < rows; row++) {
+    put(constant_rows);
+    put(parameter_rows);
+    for (row = 0; row < constant_rows; row++) {
         put_head(3, 2 * n);
         for (c = 0; c < n; c++) {
             unsigned constant = drawn(100) < share ? drawn(p) : 0;
@@ -95,7 +107,7 @@ static void make_model(unsigned p, unsigned n, unsigned rows, unsigned share, in
             put(constant >> 8);
         }
     }
-    for (row = 0; row < rows; row++) {
+    for (row = 0; row < parameter_rows; row++) {
         uint8_t set[WUNDRESKA_SET_SIZE] = {0};
         put_head(4, WUNDRESKA_ROW_SIZE(n));
         for (c = 0, end = number; c < n; c++)
@@ -114,11 +126,23 @@ static void make_model(unsigned p, unsigned n, unsigned rows, unsigned share, in
     put_head(5, 0);
 }
 
+static void find_unplaced(void)
+{
+    uint8_t answer[WUNDRESKA_ANSWER_SIZE];
+    size_t c;
+    wundreska_check(file, file_len, answer, sizeof answer);
+    for (c = 0; c < WUNDRESKA_COLUMNS_MAX; c++)
+        if (!(answer[WUNDRESKA_PLACED + c / 8] >> c % 8 & 1))
+            unplaced = c;
+}
+
 /* Those from NUMBERED on are the ones before, numbered. */
 static void make_nth_model(int nth, const Entry *entry)
 {
     static const unsigned primes[] = {2, 1021, WUNDRESKA_PRIME_MAX}, shares[] = {2, 5, 40, 100};
-    make_model(primes[nth % 3], entry->columns, entry->rows, shares[nth % NUMBERED / 3], nth >= NUMBERED);
+    make_model(primes[nth % 3], entry->columns, entry->constant_rows, entry->parameter_rows, shares[nth % NUMBERED / 3],
+               nth >= NUMBERED);
+    find_unplaced();
 }
 
 /* --- the call on a thread of its own */

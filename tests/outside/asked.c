@@ -4,6 +4,8 @@
 #include "multipliers.h"
 #include "numbers.h"
 
+#include <string.h>
+
 /* ---- the columns of a question, as bytes ---- */
 
 Columns columns_of(Set held, size_t named, size_t read, size_t length)
@@ -38,13 +40,16 @@ Columns columns_to_hand(Set held, size_t named)
 
 /* ---- complaints ---- */
 
+void get_multipliers(const uint8_t *bytes, uint16_t *multipliers)
+{
+    for (size_t c = 0; c < WUNDRESKA_COLUMNS_MAX; c++)
+        multipliers[c] = bytes[2 * c] | bytes[2 * c + 1] << 8;
+}
+
 static Multipliers answer_in(const uint8_t *bytes)
 {
     Multipliers answer = {.outcome = bytes[WUNDRESKA_OUTCOME]};
-    for (size_t c = 0; c < WUNDRESKA_COLUMNS_MAX; c++) {
-        const uint8_t *multiplier = bytes + WUNDRESKA_MULTIPLIERS + 2 * c;
-        answer.multipliers[c] = multiplier[0] | multiplier[1] << 8;
-    }
+    get_multipliers(bytes + WUNDRESKA_MULTIPLIERS, answer.multipliers);
     return answer;
 }
 
@@ -94,9 +99,16 @@ void try_asked(const uint8_t *file, size_t length, Columns columns, size_t answe
     count_case(complaint, &m);
 }
 
-size_t draw_room(void)
+size_t draw_room(size_t size)
 {
-    return WUNDRESKA_MULTIPLIERS_SIZE + (one_in(3) ? draw(100) : 0);
+    return size + (one_in(3) ? draw(100) : 0);
+}
+
+size_t draw_length(size_t needed)
+{
+    if (one_in(4))
+        return one_in(2) ? needed - 1 : draw(needed);
+    return needed + (one_in(3) ? draw(MORE + 1) : 0);
 }
 
 const File *file_of(const Model *m)
@@ -109,9 +121,12 @@ const File *file_of(const Model *m)
 
 void try_sound(const Model *m, const File *file, Set held, size_t named)
 {
-    count_case(asked_handed_complaint(m, columns_to_hand(held, named), exact_lengths(m, draw_room())), m);
-    try_asked(file->bytes, file->length, columns_for_file(held, named), draw_room());
+    size_t handed_room = draw_room(WUNDRESKA_MULTIPLIERS_SIZE), room = draw_room(WUNDRESKA_MULTIPLIERS_SIZE);
+    count_case(asked_handed_complaint(m, columns_to_hand(held, named), exact_lengths(m, handed_room)), m);
+    try_asked(file->bytes, file->length, columns_for_file(held, named), room);
 }
+
+/* ---- models and columns to ask about ---- */
 
 Model numbered_or_not(Model m)
 {
@@ -130,6 +145,40 @@ Model draw_sized(size_t n, size_t a, size_t b)
     uint32_t p = all_primes[draw(COUNT(all_primes))];
     size_t most = n < a + b ? n : a + b;
     return numbered_or_not(draw_of_rank(LAYERED, p, n, a, b, draw(most + 1)));
+}
+
+Model draw_with_twice(void)
+{
+    Model m = draw_any(FEW, FEW);
+    if (m.numbered && one_in(2))
+        plant_twice(&m);
+    return m;
+}
+
+size_t draw_edge(void)
+{
+    static const size_t edges[] = {WORD - 1, WORD, WORD + 1, WUNDRESKA_COLUMNS_MAX - 1, WUNDRESKA_COLUMNS_MAX};
+    return edges[draw(COUNT(edges))];
+}
+
+size_t draw_wide(void)
+{
+    return one_in(3) ? draw_edge() : WORD + 1 + draw(WUNDRESKA_COLUMNS_MAX - WORD);
+}
+
+size_t draw_faulty_named(size_t n)
+{
+    if (!one_in(4))
+        return draw(n);
+    return one_in(2) ? n + draw(3) : SIZE_MAX - draw(SIZE_MAX - n);
+}
+
+void list_named(size_t n, size_t *named)
+{
+    size_t last = n - 1, byte = 1 << 8, half = (size_t)1 << 32, most = WUNDRESKA_COLUMNS_MAX;
+    size_t list[NAMED] = {0,        last, last + 1,    last + 2, most - 1,    most,            WIDTH - 1,        WIDTH,
+                          byte - 1, byte, byte + last, half,     half + last, SIZE_MAX - half, SIZE_MAX / 2 + 1, SIZE_MAX};
+    memcpy(named, list, sizeof list);
 }
 
 Set draw_held(size_t bound)

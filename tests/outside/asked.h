@@ -1,5 +1,5 @@
-/* Questions about a column and held ones, as both calls take them: what is lent, the complaints about a call, and models to ask
- * about. */
+/* Questions about a column and held ones, as both calls take them: what is lent, the complaints about a call, and models and columns
+ * to ask about. */
 #ifndef ASKED_H
 #define ASKED_H
 
@@ -37,17 +37,35 @@ const File *file_of(const Model *model);
 /* Counts two cases: a sound model handed over, and its file, with areas that are just right or longer. */
 void try_sound(const Model *model, const File *file, Set held, size_t named);
 
-/* The length of an answer area that is just right or longer. */
-size_t draw_room(void);
+/* The multipliers of an answer, from where they start. */
+void get_multipliers(const uint8_t *bytes, uint16_t *multipliers);
+
+/* The length of an answer area that is just right or longer, for so many bytes. */
+size_t draw_room(size_t size);
+
+/* The length of an area, mostly what is needed or more, else less, and often by one. */
+size_t draw_length(size_t needed);
 
 /* Every other model becomes numbered, which changes no answer. */
 Model numbered_or_not(Model model);
 
-/* Such models, with sizes up to the limits given, and of the sizes given. */
+/* Such models, with sizes up to the limits given, and of the sizes given; and small ones in which a number may stand twice. */
 Model draw_any(size_t columns, size_t rows);
 Model draw_sized(size_t n, size_t a, size_t b);
+Model draw_with_twice(void);
+
+/* Sizes about a word's and the most, and more columns than a word has bits, but for some about these. */
+size_t draw_edge(void);
+size_t draw_wide(void);
 
 /* Columns below a bound: many, few, or none. */
 Set draw_held(size_t bound);
+
+/* A column below n, or else about n or far behind. */
+size_t draw_faulty_named(size_t n);
+
+/* Columns about n, about the limits, and where a number cut to 8 or 32 bits is below n. */
+enum { NAMED = 16 };
+void list_named(size_t n, size_t *named);
 
 #endif

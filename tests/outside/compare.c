@@ -27,6 +27,8 @@ static int compare_all(const char *models)
     compare_numbers();
     compare_multipliers();
     compare_columns();
+    compare_reasons(models);
+    compare_placed();
     return end_tally() > 0;
 }
 

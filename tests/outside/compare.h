@@ -9,6 +9,11 @@
 /* The columns that a word and a set's words have room for; columns or rows of a small model, and of one that is smaller still. */
 enum { WORD = 64, WIDTH = WORD * ROW_WORDS, SMALL = 12, FEW = 8 };
 
+static inline size_t smaller(size_t x, size_t y)
+{
+    return x < y ? x : y;
+}
+
 /* ---- complaints.c: NULL where there is none ---- */
 
 /* About the refusal number and the bytes that must not change. */
@@ -52,13 +57,18 @@ enum { SIZES_AT = 8 };
 void try_area(const Question *question, const uint8_t *file, size_t length, size_t answer_length);
 void try_file(const Question *question, const uint8_t *file, size_t length);
 
-/* Every prefix of a file, every bit of it turned, and so many random damages, each asked the layered question. */
-void try_prefixes(const uint8_t *file, size_t length);
-void try_flips(uint8_t *file, size_t length);
-void try_damages(const uint8_t *file, size_t length, size_t count);
+/* Every prefix of a file, every bit of it turned, and so many random damages, each asked the question. */
+void try_prefixes(const Question *question, const uint8_t *file, size_t length);
+void try_flips(const Question *question, uint8_t *file, size_t length);
+void try_damages(const Question *question, const uint8_t *file, size_t length, size_t count);
 
 /* On small models, with areas from nothing to twice the answer. */
 void try_areas_of_every_length(const Question *question);
+
+/* ---- compare_models.c ---- */
+
+/* The refusal of a bench model's file, or 0 with its model. */
+uint32_t load_model(const char *folder, const char *name, Model *model);
 
 /* ---- compare_refusals.c ---- */
 
@@ -95,5 +105,7 @@ void compare_wide(void); /* compare_wide.c */
 void compare_numbers(void); /* compare_numbers.c */
 void compare_multipliers(void); /* compare_multipliers.c */
 void compare_columns(void); /* compare_columns.c */
+void compare_reasons(const char *folder); /* compare_reasons.c */
+void compare_placed(void); /* compare_placed.c */
 
 #endif

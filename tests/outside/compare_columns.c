@@ -37,20 +37,19 @@ static void try_held_everywhere(const Model *m)
     const File *file = file_of(m);
     for (size_t column = 0; column < WIDTH; column++) {
         Set held = just(column) | (one_in(2) ? draw_held(m->n) : 0);
-        count_case(asked_handed_complaint(m, columns_to_hand(held, draw(m->n)), exact_lengths(m, draw_room())), m);
+        size_t room = draw_room(WUNDRESKA_MULTIPLIERS_SIZE);
+        count_case(asked_handed_complaint(m, columns_to_hand(held, draw(m->n)), exact_lengths(m, room)), m);
         if (column < WUNDRESKA_COLUMNS_MAX)
-            try_asked(file->bytes, file->length, columns_for_file(held, draw(m->n)), draw_room());
+            try_asked(file->bytes, file->length, columns_for_file(held, draw(m->n)), room);
     }
 }
 
-/* About n, about the limits, and where a number cut to 8 or 32 bits is below n. */
 static void try_named_anywhere(const Model *m)
 {
     const File *file = file_of(m);
-    size_t last = m->n - 1, byte = 1 << 8, half = (size_t)1 << 32, most = WUNDRESKA_COLUMNS_MAX;
-    size_t named[] = {0,        last, last + 1,    last + 2, most - 1,    most,            WIDTH - 1,        WIDTH,
-                      byte - 1, byte, byte + last, half,     half + last, SIZE_MAX - half, SIZE_MAX / 2 + 1, SIZE_MAX};
-    for (size_t i = 0; i < COUNT(named); i++)
+    size_t named[NAMED];
+    list_named(m->n, named);
+    for (size_t i = 0; i < NAMED; i++)
         try_sound(m, file, draw_held(m->n), named[i]);
 }
 
@@ -76,21 +75,6 @@ static Set draw_faulty_held(size_t n, size_t width)
     return draw_held(n) | beyond;
 }
 
-static size_t draw_faulty_named(size_t n)
-{
-    if (!one_in(4))
-        return draw(n);
-    return one_in(2) ? n + draw(3) : SIZE_MAX - draw(SIZE_MAX - n);
-}
-
-/* Mostly what is needed or more, else less, and often by one. */
-static size_t draw_length(size_t needed)
-{
-    if (one_in(4))
-        return one_in(2) ? needed - 1 : draw(needed);
-    return needed + (one_in(3) ? draw(MORE + 1) : 0);
-}
-
 static void compare_areas(void)
 {
     begin_category("questions with areas of every length, of the held columns and of the answer");
@@ -103,14 +87,6 @@ static void compare_areas(void)
             try_asked(file->bytes, file->length, columns_of(held, named, READ_BY_FILE, length), room);
             count_case(asked_handed_complaint(&m, columns_of(held, named, READ_HANDED, length), exact_lengths(&m, room)), &m);
         }
-}
-
-static Model draw_with_twice(void)
-{
-    Model m = draw_any(FEW, FEW);
-    if (m.numbered && one_in(2))
-        plant_twice(&m);
-    return m;
 }
 
 static void try_faulty_file(const Model *m)

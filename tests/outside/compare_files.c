@@ -24,27 +24,27 @@ void compare_files(void)
 
 /* ---- damaged files ---- */
 
-void try_prefixes(const uint8_t *file, size_t length)
+void try_prefixes(const Question *q, const uint8_t *file, size_t length)
 {
     for (size_t cut = 0; cut < length; cut++)
-        try_file(&layered_question, file, cut);
+        try_file(q, file, cut);
 }
 
-void try_flips(uint8_t *file, size_t length)
+void try_flips(const Question *q, uint8_t *file, size_t length)
 {
     for (size_t bit = 0; bit < 8 * length; bit++) {
         file[bit / 8] ^= 1 << bit % 8;
-        try_file(&layered_question, file, length);
+        try_file(q, file, length);
         file[bit / 8] ^= 1 << bit % 8;
     }
 }
 
-void try_damages(const uint8_t *file, size_t length, size_t count)
+void try_damages(const Question *q, const uint8_t *file, size_t length, size_t count)
 {
     static uint8_t damaged[WUNDRESKA_FILE_MAX + DAMAGE_ROOM];
     for (size_t i = 0; i < count; i++) {
         memcpy(damaged, file, length);
-        try_file(&layered_question, damaged, damage_file(damaged, length));
+        try_file(q, damaged, damage_file(damaged, length));
     }
 }
 
@@ -55,16 +55,16 @@ void compare_damaged_files(void)
     for (int i = 0; i < 100; i++) {
         Model m = draw_model(all_primes, COUNT(all_primes), 8, 6);
         size_t length = write_file(&m, file);
-        try_prefixes(file, length);
-        try_flips(file, length);
-        try_damages(file, length, 3 * length);
+        try_prefixes(&layered_question, file, length);
+        try_flips(&layered_question, file, length);
+        try_damages(&layered_question, file, length, 3 * length);
     }
     begin_category("damaged large files: every prefix, random damage");
     for (int i = 0; i < 12; i++) {
         Model m = draw_model(all_primes, COUNT(all_primes), WUNDRESKA_COLUMNS_MAX, WUNDRESKA_ROWS_MAX);
         size_t length = write_file(&m, file);
-        try_prefixes(file, length);
-        try_damages(file, length, 400);
+        try_prefixes(&layered_question, file, length);
+        try_damages(&layered_question, file, length, 400);
     }
 }
 

@@ -38,8 +38,7 @@ static const struct {
     {"heat_recovery_open", LAYERED, WUNDRESKA_OPEN, 95, NOT_STATED, NOT_STATED},
 };
 
-/* The refusal of a model file, or 0 with its model. */
-static uint32_t load(const char *folder, const char *name, Model *m)
+uint32_t load_model(const char *folder, const char *name, Model *m)
 {
     char path[512];
     static uint8_t file[WUNDRESKA_FILE_MAX + 1];
@@ -58,7 +57,7 @@ static int stated_and_other(int stated, Set found)
 
 static const char *bench_complaint(const char *folder, size_t i, Model *m)
 {
-    if (load(folder, bench_models[i].name, m) != 0)
+    if (load_model(folder, bench_models[i].name, m) != 0)
         return "the file is not a model";
     if (bench_models[i].kind == MIXED) {
         static uint8_t file[WUNDRESKA_FILE_MAX];
@@ -95,7 +94,7 @@ void compare_bench_models(const char *folder)
     }
     for (size_t i = 0; i < COUNT(all_primes); i++) {
         Model m = {0};
-        load(folder, "s12", &m);
+        load_model(folder, "s12", &m);
         change_prime(&m, all_primes[i]);
         Model form = layered_form(&m);
         count_case(mixed_complaint(&m, 6, layered_truth(&form)), &m);
@@ -120,22 +119,6 @@ static const char *definition_complaint(const Model *m)
         if (e.sums[set] < e.rank || e.sums[set] != sum_of(m, set))
             return "the sum of a column set";
     return layered_complaint(m, truth);
-}
-
-/* The next filling of all places, counting constants to the base p and parameters to the base 2; whether there is one. */
-static int next_filling(Model *m)
-{
-    for (size_t i = 0; i < m->a * m->n; i++) {
-        if (++m->constants[i] < m->p)
-            return 1;
-        m->constants[i] = 0;
-    }
-    for (size_t r = 0; r < m->b; r++) {
-        if (++m->parameters[r] <= all_below(m->n))
-            return 1;
-        m->parameters[r] = 0;
-    }
-    return 0;
 }
 
 static void compare_every_model(uint32_t p, size_t columns, size_t rows)

@@ -3,6 +3,7 @@
 #include "asked.h"
 #include "brute.h"
 #include "multipliers.h"
+#include "planted.h"
 
 /* A question whose answer is known. */
 static void try_known(const Model *m, const File *file, Set held, size_t named, const Multipliers *due)
@@ -12,11 +13,6 @@ static void try_known(const Model *m, const File *file, Set held, size_t named, 
         try_sound(m, file, held, named);
     else
         count_case("the reference's answer is not the one due", m);
-}
-
-static size_t smaller(size_t x, size_t y)
-{
-    return x < y ? x : y;
 }
 
 /* ---- against the definition ---- */
@@ -29,17 +25,6 @@ static void try_every_question(const Model *m)
             Multipliers enumerated = enumerate_multipliers(m, held, named);
             try_known(m, file, held, named, &enumerated);
         }
-}
-
-/* The next constants, counting to the base p; whether there are any. */
-static int next_filling(Model *m)
-{
-    for (size_t i = 0; i < m->a * m->n; i++) {
-        if (++m->constants[i] < m->p)
-            return 1;
-        m->constants[i] = 0;
-    }
-    return 0;
 }
 
 static void try_every_model(uint32_t p, size_t columns, size_t rows)
@@ -80,52 +65,28 @@ typedef struct {
     size_t count;                        /* so many are */
 } Planted;
 
-static uint16_t *at(Model *m, size_t row, size_t column)
-{
-    return &m->constants[row * m->n + column];
-}
-
-/* The first columns of the order become a triangle on as many rows, with no 0 on its diagonal: they are independent. */
-static void plant_triangle(Planted *t, size_t count)
-{
-    Model *m = &t->model;
-    size_t rows[WUNDRESKA_ROWS_MAX];
-    shuffle(rows, m->a);
-    for (size_t i = 0; i < count; i++) {
-        *at(m, rows[i], t->order[i]) = 1 + draw(m->p - 1);
-        for (size_t k = i + 1; k < count; k++)
-            *at(m, rows[k], t->order[i]) = 0;
-    }
-}
-
 /* A column becomes the sum of the first ones, each times a multiplier that is drawn, and often 0. */
-static Multipliers plant_sum(Planted *t, size_t column, size_t count)
+static Multipliers draw_sum(Planted *t, size_t column, size_t count)
 {
-    Model *m = &t->model;
     Multipliers due = {.outcome = WUNDRESKA_DEPENDS};
     for (size_t i = 0; i < count; i++)
-        due.multipliers[t->order[i]] = one_in(3) ? 0 : draw(m->p);
-    for (size_t r = 0; r < m->a; r++) {
-        uint64_t total = 0;
-        for (size_t i = 0; i < count; i++)
-            total += (uint64_t)*at(m, r, t->order[i]) * due.multipliers[t->order[i]];
-        *at(m, r, column) = total % m->p;
-    }
+        due.multipliers[t->order[i]] = one_in(3) ? 0 : draw(t->model.p);
+    plant_sum(&t->model, column, due.multipliers);
     return due;
 }
 
 static void plant_independent(Planted *t)
 {
-    plant_triangle(t, t->count + 1);
+    plant_triangle(&t->model, t->order, t->count + 1);
     t->named = t->order[t->count];
     t->due.outcome = WUNDRESKA_INDEPENDENT;
 }
 
 static void plant_zero(Planted *t)
 {
-    plant_triangle(t, t->count);
+    plant_triangle(&t->model, t->order, t->count);
     t->named = t->order[t->count];
-    t->due = plant_sum(t, t->named, 0);
+    t->due = draw_sum(t, t->named, 0);
 }
 
 static void plant_none_held(Planted *t)
@@ -136,14 +97,14 @@ static void plant_none_held(Planted *t)
 
 static void plant_depending(Planted *t)
 {
-    plant_triangle(t, t->count);
+    plant_triangle(&t->model, t->order, t->count);
     t->named = t->order[t->count];
-    t->due = plant_sum(t, t->named, t->count);
+    t->due = draw_sum(t, t->named, t->count);
 }
 
 static void name_held(Planted *t)
 {
-    plant_triangle(t, t->count);
+    plant_triangle(&t->model, t->order, t->count);
     t->named = t->order[draw(t->count)];
     t->due.outcome = WUNDRESKA_DEPENDS;
     t->due.multipliers[t->named] = 1;
@@ -155,7 +116,7 @@ static void plant_spanning(Planted *t)
     size_t named = draw(t->model.n);
     name_held(t);
     for (size_t i = t->count; i < t->model.n; i++) {
-        Multipliers due = plant_sum(t, t->order[i], t->count);
+        Multipliers due = draw_sum(t, t->order[i], t->count);
         if (i == named) {
             t->named = t->order[i];
             t->due = due;
@@ -166,8 +127,8 @@ static void plant_spanning(Planted *t)
 /* One more column is held, a sum of the others; any column is named. */
 static void plant_dependent(Planted *t)
 {
-    plant_triangle(t, t->count);
-    plant_sum(t, t->order[t->count], one_in(4) ? 0 : t->count);
+    plant_triangle(&t->model, t->order, t->count);
+    draw_sum(t, t->order[t->count], one_in(4) ? 0 : t->count);
     t->count++;
     t->named = draw(t->model.n);
     t->due.outcome = WUNDRESKA_HELD_DEPENDENT;
@@ -187,17 +148,6 @@ static const struct {
     {"questions with dependent held columns", plant_dependent, 0, 1},
 };
 
-/* Multiples of rows are added to other rows, after which columns that made others still make them. */
-static void stir(Model *m)
-{
-    for (size_t i = 0; i < m->a; i++) {
-        size_t to = draw(m->a), from = draw(m->a);
-        uint64_t factor = draw(m->p);
-        for (size_t c = 0; c < m->n && to != from; c++)
-            *at(m, to, c) = (*at(m, to, c) + factor * *at(m, from, c)) % m->p;
-    }
-}
-
 /* A question of a kind about a model, with as many held columns as there is room for, or fewer. */
 static void try_planted(size_t kind, Model model)
 {
@@ -214,19 +164,6 @@ static void try_planted(size_t kind, Model model)
     if (one_in(2))
         stir(&t.model);
     try_known(&t.model, file_of(&t.model), t.held, t.named, &t.due);
-}
-
-static const size_t edges[] = {WORD - 1, WORD, WORD + 1, WUNDRESKA_COLUMNS_MAX - 1, WUNDRESKA_COLUMNS_MAX};
-
-static size_t draw_edge(void)
-{
-    return edges[draw(COUNT(edges))];
-}
-
-/* More columns than a word has bits, but for some at the edge. */
-static size_t draw_wide(void)
-{
-    return one_in(3) ? draw_edge() : WORD + 1 + draw(WUNDRESKA_COLUMNS_MAX - WORD);
 }
 
 static void compare_planted(void)
@@ -272,7 +209,8 @@ static void try_every_constant(uint32_t p)
     for (uint32_t constant = 1; constant < p; constant++) {
         m.constants[0] = constant;
         m.constants[1] = one_in(3) ? p - 1 : draw(p);
-        count_case(asked_handed_complaint(&m, columns_to_hand(just(0), 1), exact_lengths(&m, draw_room())), &m);
+        size_t room = draw_room(WUNDRESKA_MULTIPLIERS_SIZE);
+        count_case(asked_handed_complaint(&m, columns_to_hand(just(0), 1), exact_lengths(&m, room)), &m);
     }
 }
 

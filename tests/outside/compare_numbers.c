@@ -460,16 +460,16 @@ static void compare_damaged_numbers(void)
     for (int i = 0; i < 24; i++) {
         Model m = draw_numbered(FEW, 6);
         write_fields(&m, &f);
-        try_prefixes(f.bytes, f.length);
-        try_flips(f.bytes, f.length);
-        try_damages(f.bytes, f.length, 2 * f.length);
+        try_prefixes(&layered_question, f.bytes, f.length);
+        try_flips(&layered_question, f.bytes, f.length);
+        try_damages(&layered_question, f.bytes, f.length, 2 * f.length);
     }
     begin_category("damaged large numbered files: cut at every field, random damage");
     for (int i = 0; i < 8; i++) {
         Model m = draw_numbered(WUNDRESKA_COLUMNS_MAX, WUNDRESKA_ROWS_MAX);
         write_fields(&m, &f);
         try_cuts(&f);
-        try_damages(f.bytes, f.length, 100);
+        try_damages(&layered_question, f.bytes, f.length, 100);
     }
 }
 

@@ -103,11 +103,6 @@ static void compare_row_lengths(void)
 
 static const size_t edges[] = {WORD - 1, WORD, WORD + 1, WUNDRESKA_COLUMNS_MAX - 1, WUNDRESKA_COLUMNS_MAX};
 
-static size_t smaller(size_t x, size_t y)
-{
-    return x < y ? x : y;
-}
-
 static Model draw_at(Kind kind, size_t n, size_t a, size_t b)
 {
     size_t rows = kind == LAYERED ? a + b : a;

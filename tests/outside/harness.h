@@ -33,6 +33,12 @@ uint32_t harness_multipliers(uint32_t p, size_t n, size_t a, size_t b, const uin
                              size_t numbers_len, const uint8_t *held, size_t held_len, size_t column, uint8_t *out,
                              size_t out_len);
 
+/* The bytes of wundreska_reason's answer. It takes the column before the area to write to. It returns 0 or the refusal: that of a
+ * ModelCall as far as 13, then 11, then 12, and last 8 for the area written. */
+uint32_t harness_reason(uint32_t p, size_t n, size_t a, size_t b, const uint16_t *constants, size_t constants_len,
+                        const uint64_t *parameters, size_t parameters_len, bool numbered, const uint16_t *numbers,
+                        size_t numbers_len, size_t column, uint8_t *out, size_t out_len);
+
 /* The model of a file, written to the front of areas laid out as above; the numbers are written where it is numbered, 0 where no
  * parameter stands. It returns 0 or the refusal: the file's, then 8 for the areas. */
 uint32_t harness_read(const uint8_t *file, size_t file_len, uint16_t *constants, size_t constants_len, uint64_t *parameters,

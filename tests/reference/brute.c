@@ -141,6 +141,31 @@ static void find_short(const Tables *t, Enumerated *e)
     e->short_is_least = e->sums[e->short_set] == e->rank;
 }
 
+/* Whether a set has no legal assignment while dropping any one column leaves a set that has one. */
+static int blocks(const Tables *t, Set set)
+{
+    int dropping_helps = 1;
+    for (size_t c = 0; c < t->model->n; c++)
+        if (has(set, c) && !t->placeable[set & ~just(c)])
+            dropping_helps = 0;
+    return !t->placeable[set] && dropping_helps;
+}
+
+static void find_reasons_of_all(const Tables *t, Enumerated *e)
+{
+    e->reasons_are_single = 1;
+    for (size_t x = 0; x < t->model->n; x++) {
+        size_t found = 0;
+        for (Set set = 0; set <= all_below(t->model->n) && !has(e->placed, x); set++)
+            if (subset(set, e->placed | just(x)) && blocks(t, set)) {
+                e->reasons[x] = set;
+                found++;
+            }
+        if (found != !has(e->placed, x))
+            e->reasons_are_single = 0;
+    }
+}
+
 Enumerated enumerate_layered(const Model *model)
 {
     Tables t = {.model = model};
@@ -149,6 +174,7 @@ Enumerated enumerate_layered(const Model *model)
     seat_from(&t, 0, 0, 0, 0);
     find_rank_and_placed(&t, &e);
     find_short(&t, &e);
+    find_reasons_of_all(&t, &e);
     e.verdict = verdict_by(t.full);
     return e;
 }

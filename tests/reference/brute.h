@@ -14,6 +14,8 @@ typedef struct {
     Set placed, short_set;
     size_t sums[SETS];  /* of every column set */
     int short_is_least; /* whether the smallest set whose sum is the rank is one set */
+    Set reasons[BRUTE_COLUMNS]; /* of each column that is not placed, the set that blocks it; of others none */
+    int reasons_are_single;     /* whether one set alone blocks each of them */
 } Enumerated;
 
 Enumerated enumerate_layered(const Model *model);

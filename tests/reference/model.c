@@ -230,3 +230,34 @@ Model layered_form(const Model *mixed)
     }
     return form;
 }
+
+Model only_columns(const Model *model, Set columns)
+{
+    Model kept = {.p = model->p, .n = size_of_set(columns), .a = model->a, .b = model->b};
+    size_t column = 0;
+    for (size_t c = 0; c < model->n; c++) {
+        if (!has(columns, c))
+            continue;
+        for (size_t r = 0; r < model->a; r++)
+            *at(&kept, r, column) = model->constants[r * model->n + c];
+        for (size_t r = 0; r < model->b; r++)
+            kept.parameters[r] |= has(model->parameters[r], c) ? just(column) : 0;
+        column++;
+    }
+    return kept;
+}
+
+int next_filling(Model *m)
+{
+    for (size_t i = 0; i < m->a * m->n; i++) {
+        if (++m->constants[i] < m->p)
+            return 1;
+        m->constants[i] = 0;
+    }
+    for (size_t r = 0; r < m->b; r++) {
+        if (++m->parameters[r] <= all_below(m->n))
+            return 1;
+        m->parameters[r] = 0;
+    }
+    return 0;
+}

@@ -74,6 +74,12 @@ static const uint32_t all_primes[] = {2, 3, 5, 7, 1021, 65519, WUNDRESKA_PRIME_M
 /* The layered form of a mixed model. */
 Model layered_form(const Model *mixed);
 
+/* The model of these columns alone, without numbers. */
+Model only_columns(const Model *model, Set columns);
+
+/* The next filling of all places, counting constants to the base p and parameters to the base 2; whether there is one. */
+int next_filling(Model *model);
+
 /* ---- judge.c ---- */
 
 /* The file's bytes; its length. */
@@ -90,6 +96,9 @@ uint32_t judge_mixed(const Model *model);
 
 /* The refusal of a question about a column and held ones, of a model that is not refused, or 0. */
 uint32_t judge_columns(const Model *model, Set held, size_t column);
+
+/* The refusal of a question about a column that is not to be placed, of a model that is not refused, or 0. */
+uint32_t judge_unplaced(const Model *model, Set placed, size_t column);
 
 /* ---- damage.c ---- */
 

@@ -19,7 +19,8 @@ size_t constant_rank(const Model *model, Set rows, Set columns);
 /* The largest number of parameters, no two in a row or column, on these rows and columns. */
 size_t largest_matching(const Model *model, Set rows, Set columns);
 
-/* The sum of a column set. */
+/* How many parameter rows have a parameter in a column set, and the sum of the set. */
+size_t rows_touching(const Model *model, Set set);
 size_t sum_of(const Model *model, Set set);
 
 /* The verdict on a rank, with so many columns and rows. */

@@ -34,6 +34,12 @@ void count_case(const char *complaint, const Model *m)
                m->b, complaint);
 }
 
+void print_count(unsigned long count, const char *what)
+{
+    begin_category(NULL);
+    printf("%8lu  %s\n", count, what);
+}
+
 unsigned long end_tally(void)
 {
     end_category();
