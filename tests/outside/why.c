@@ -74,7 +74,7 @@ static const char *accepted_complaint(const Called *c, const Reason *due)
     return complaint ? complaint : due_complaint(c, due);
 }
 
-/* The definition is that of the due answer, which both calls must give. */
+/* The due answer is held against the definition, and both calls against the due answer. */
 static void try_column(const Model *m, const File *file, const Reasons *reasons, size_t column)
 {
     enum { SIZE = WUNDRESKA_REASON_SIZE };

@@ -1,4 +1,5 @@
-/* Reports as document 01 has them, and those of reasons likewise: one word, then items with one space before each; each line ends in a line feed. */
+/* Reports as document 01 has them, and those of reasons likewise: one word, then items with one space before each; each line ends in
+ * a line feed. */
 #include "text.h"
 
 #include <ctype.h>

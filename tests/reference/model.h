@@ -97,7 +97,7 @@ uint32_t judge_mixed(const Model *model);
 /* The refusal of a question about a column and held ones, of a model that is not refused, or 0. */
 uint32_t judge_columns(const Model *model, Set held, size_t column);
 
-/* The refusal of a question about a column that is not to be placed, of a model that is not refused, or 0. */
+/* The refusal of the question why a column is not placed, of a model that is not refused, or 0. */
 uint32_t judge_unplaced(const Model *model, Set placed, size_t column);
 
 /* ---- damage.c ---- */

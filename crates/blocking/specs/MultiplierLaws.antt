@@ -10,7 +10,7 @@ use Rattle.residue.specs.Fields.{Field}
 use Rattle.residue.specs.Residues.{residues, res, res-num-of, res-zero}
 use Rattle.counting.specs.Bools.{not-both}
 use Rattle.counting.specs.Sets.{Set, _∈_, _⊆_, set, touching}
-use Rattle.counting.specs.Counts.{_⊖_, ⊖-other, set-same, set-other, all-iff, touching-iff}
+use Rattle.counting.specs.Counts.{_⊖_, ⊖-in, ⊖-other, set-same, set-other, all-iff, touching-iff}
 use Rattle.counting.specs.ChoiceLaws.{cond-true, cond-false}
 use Rattle.rank.specs.Linear.Independence.{Indep}
 use Rattle.rank.specs.Linear.Kernels.{indep-sub}
@@ -23,7 +23,6 @@ use Rattle.rank.specs.IndependentLaws.{independent-iff}
 use Rattle.rank.specs.ModelModulo.{model-modulo}
 use Rattle.dependence.specs.ConstantSide.{all-constant, all-constant-places, all-constant-legal, placed-constant}
 use Rattle.blocking.specs.Reason.{reason, untouched, reason-multiplier}
-use Rattle.blocking.specs.OfferingLaws.{less-in}
 use Rattle.blocking.specs.ReasonLaws.{reason-blocking, reason-self, reason-in-short}
 use Rattle.dependence.specs.Multipliers.{Depends, depends, multiplier, given}
 use Rattle.dependence.specs.MultiplierLaws.{lacks-one}
@@ -48,14 +47,14 @@ module _ (M : Model) (x : ℕ) (l : x < M .n) (o : x ∈ M .E) (unplaced : x ∈
       not-both (touching n T R r) (all-iff b (λ r. not (touching n T R r)) .0 free r lr) (touching-iff n T R r .1 (y, R-below y e, (e, t)))
 
   -- without any one column it has a legal assignment, all on the constant side
-  less-indep : (y : ℕ) → y ∈ R → Indep K a n Q (R ⊖ y)
+  ⊖-indep : (y : ℕ) → y ∈ R → Indep K a n Q (R ⊖ y)
   unfolding R
-  less-indep y e =
+  ⊖-indep y e =
       let w : (A : Assignment) × Legal M A × ((z : ℕ) → z < n → placing A z ≡ (R ⊖ y) z)
       = placeable-iff M (R ⊖ y) .0 (reason-blocking M x l o unplaced .dropping-one y e) in
       indep-sub {T = constants (w .0)} (λ z d. placed-constant M (w .0) (w .1)
-      (λ u r lr p. no-parameter u r lr (less-in R y u (sym (w .2 u (w .1 .offered u p .0)) ∙ p) .0))
-      z (w .2 z (R-below z (less-in R y z d .0)) ∙ d)) (w .1 .independent)
+      (λ u r lr p. no-parameter u r lr (⊖-in R y u (sym (w .2 u (w .1 .offered u p .0)) ∙ p) .0))
+      z (w .2 z (R-below z (⊖-in R y z d .0)) ∙ d)) (w .1 .independent)
 
   -- but it has none itself
   dependent : Indep K a n Q R → ⊥
@@ -71,15 +70,15 @@ module _ (M : Model) (x : ℕ) (l : x < M .n) (o : x ∈ M .E) (unplaced : x ∈
       × ((c : ℕ → F) × Depends K a n Q (reason M x ⊖ x) x c × ((y : ℕ) → y ∈ reason M x → y ≢ x → c y ≢ 𝟘))
   unfolding R
   depends-on-reason = (
-    less-indep x has-x,
-    elim (depends-or-independent M (R ⊖ x) (λ j e. R-below j (less-in R x j e .0)) (less-indep x has-x) x l) [
+    ⊖-indep x has-x,
+    elim (depends-or-independent M (R ⊖ x) (λ j e. R-below j (⊖-in R x j e .0)) (⊖-indep x has-x) x l) [
       | inr k ↦ absurd (dependent (indep-sub {T = set (R ⊖ x) x true} back (k .1)))
       | inl m ↦ (
         m .0,
         m .1,
-        λ y e ne z. lacks-one Q (R ⊖ x) (R ⊖ y) x (m .0) l (m .1) (less-indep y e) (⊖-other R y x (λ d. ne (sym d)) ∙ has-x)
-            (λ j nj. elim (ℕ-discrete j y) [ yes d ↦ rw d z | no nd ↦ m .1 .only-held j (λ d. nj (⊖-other R y j nd ∙ less-in R x j d .0)) ])
-            (m .1 .only-held x (λ d. less-in R x x d .1 refl)),
+        λ y e ne z. lacks-one Q (R ⊖ x) (R ⊖ y) x (m .0) l (m .1) (⊖-indep y e) (⊖-other R y x (λ d. ne (sym d)) ∙ has-x)
+            (λ j nj. elim (ℕ-discrete j y) [ yes d ↦ rw d z | no nd ↦ m .1 .only-held j (λ d. nj (⊖-other R y j nd ∙ ⊖-in R x j d .0)) ])
+            (m .1 .only-held x (λ d. ⊖-in R x x d .1 refl)),
       )
     ],
   )
@@ -113,7 +112,7 @@ module _ (q : ℕ) (P : Prime q) (n a b : ℕ) (Q : ℕ → ℕ → residues q P
         independent-iff q P a n Q (reason M x ⊖ x) .1 (w .0),
         depends-iff q P a n Q (reason M x ⊖ x) x .1 (w .1 .0, w .1 .1),
         λ y e z.
-            let k : (y ∈ reason M x) × (y ≢ x) = less-in (reason M x) x y e in
+            let k : (y ∈ reason M x) × (y ≢ x) = ⊖-in (reason M x) x y e in
             w .1 .2 y (k .0) (k .1) (sym (res-num-of q P (w .1 .0 y))
             ∙ ap (res q P)
             (sym (multipliers-are q P a n Q (reason M x ⊖ x) x (w .0) (w .1 .0) (w .1 .1) y (reason-blocking M x l o unplaced .drawn y (k .0) .0)) ∙ z)

@@ -7,7 +7,7 @@ use native.Mathlib.Omega.{arith}
 use native.Mathlib.Decide.{ℕ-discrete, decLt}
 use Rattle.counting.specs.Bools.{true?, not-true, iff-eq, and-in, and-left, and-right, in-not}
 use Rattle.counting.specs.Sets.{Set, _∈_, _∩_, ∁, #, touching}
-use Rattle.counting.specs.Counts.{_⊖_, ⊖-at, ⊖-other, #-ext, #-⊖, #-split}
+use Rattle.counting.specs.Counts.{_⊖_, ⊖-at, ⊖-other, ⊖-in, #-ext, #-⊖, #-split}
 use Rattle.counting.specs.Injections.{#-mono, #-strict}
 use Rattle.counting.specs.Choices.{Part}
 use Rattle.rank.specs.Layered.Model.{Model, Assignment, is-placed, placing, Legal, size}
@@ -18,16 +18,11 @@ use Rattle.rank.specs.Layered.Duality.{placed-in, size-lt-sum, rank-reached}
 use Rattle.rank.specs.Layered.Minimax.{short-of-E, sum-short, rank-le-sum}
 use Rattle.blocking.specs.Offering.{offering}
 
-pub less-in : (S : Set) (y z : ℕ) → z ∈ S ⊖ y → (z ∈ S) × (z ≢ y)
-less-in S y z e =
-    let ne : z ≢ y = λ d. true≢false (sym e ∙ ap (S ⊖ y) d ∙ ⊖-at S y) in
-    (sym (⊖-other S y z ne) ∙ e, ne)
-
 module _ (M : Model) where
   open Model M using (n, E)
 
   -- what a legal assignment places, and each part of it, has a legal assignment
-  pub part-placeable : (D : Set) (A : Assignment) → Legal M A → ((y : ℕ) → y < n → y ∈ D → y ∈ placing A) → placeable M D ≡ true
+  part-placeable : (D : Set) (A : Assignment) → Legal M A → ((y : ℕ) → y < n → y ∈ D → y ∈ placing A) → placeable M D ≡ true
   part-placeable D A h inside = placeable-iff M D .1 (
     restrict D A,
     legal-less M (restrict D A) A (restrict-less D A) h,
@@ -61,7 +56,7 @@ module _ (M : Model) where
     }
 
     -- where they have no legal assignment, the rank is less than their number
-    pub offering-less : placeable M S ≡ false → rank (offering M S) < # n S
+    offering-less : placeable M S ≡ false → rank (offering M S) < # n S
     offering-less none =
         let r : (A : Assignment) × Legal (offering M S) A × (size (offering M S) A ≡ rank (offering M S)) = rank-reached (offering M S) in
         elim (decLt (rank (offering M S)) (# n S)) [
@@ -108,7 +103,7 @@ module _ (M : Model) (C : Set) (part : Part (M .n) (M .E) C) (none : placeable M
       smaller : (y : ℕ) → y < n → y ∈ C → placeable M (C ⊖ y) ≡ true → (J : Set) → sum (offering M C) J ≡ rank (offering M C) → J y ≡ false → ⊥
       smaller y l e k J t nj =
           let w : (A : Assignment) × Legal M A × ((z : ℕ) → z < n → placing A z ≡ (C ⊖ y) z) = placeable-iff M (C ⊖ y) .0 k in
-          let h : Legal (offering M C) (w .0) = legal-offering M C part (w .0) (w .1) (λ z lz p. less-in C y z (sym (w .2 z lz) ∙ p) .0) in
+          let h : Legal (offering M C) (w .0) = legal-offering M C part (w .0) (w .1) (λ z lz p. ⊖-in C y z (sym (w .2 z lz) ∙ p) .0) in
           omega (
             arith,
             t,
@@ -128,12 +123,12 @@ module _ (M : Model) (C : Set) (part : Part (M .n) (M .E) C) (none : placeable M
               arith,
               sum-one-more M C part y l k J p,
               sum-short (offering M (C ⊖ y)),
-              offering-less M (C ⊖ y) (λ z d. part z (less-in C y z d .0)) (not-true _ nt),
+              offering-less M (C ⊖ y) (λ z d. part z (⊖-in C y z d .0)) (not-true _ nt),
               #-⊖ n C y l k,
               offering-rank,
               rank-le-sum (offering M C) J,
             ) in
-            absurd (true≢false (sym (p y (short-iff (offering M C) y .0 e J (λ z j. (p z j .0, less-in C y z (p z j .1) .0)) tight) .1) ∙ ⊖-at C y))
+            absurd (true≢false (sym (p y (short-iff (offering M C) y .0 e J (λ z j. (p z j .0, ⊖-in C y z (p z j .1) .0)) tight) .1) ∙ ⊖-at C y))
       ]
 
   -- the short set has no legal assignment

@@ -7,7 +7,7 @@ use native.Mathlib.Omega.{arith}
 use native.Mathlib.Decide.{ℕ-discrete, decLt}
 use Rattle.counting.specs.Bools.{true?, not-true, not-both, in-not, iff-eq, and-in, and-left, and-right}
 use Rattle.counting.specs.Sets.{Set, _∈_, _⊆_, #, touching}
-use Rattle.counting.specs.Counts.{_⊖_, ⊖-at, ⊖-other, set-same, set-other, all-iff, #-ext, #-none, #-⊖, #-insert}
+use Rattle.counting.specs.Counts.{_⊖_, ⊖-in, ⊖-at, ⊖-other, set-same, set-other, all-iff, #-ext, #-none, #-⊖, #-insert}
 use Rattle.counting.specs.Choices.{Part}
 use Rattle.rank.specs.Layered.Model.{Model, Assignment, placing, Legal}
 use Rattle.rank.specs.Layered.Rank.{constant-rank, rank, placeable, placed, short}
@@ -16,7 +16,7 @@ use Rattle.rank.specs.Layered.Duality.{size-le-rank, size-lt-sum}
 use Rattle.rank.specs.Layered.ColumnOrder.{placed-below, placed-legal, placed-first, placed-size}
 use Rattle.blocking.specs.Offering.{offering}
 use Rattle.blocking.specs.Reason.{drawn-from, Blocking, reason, untouched}
-use Rattle.blocking.specs.OfferingLaws.{less-in, smaller-placeable, offering-legal, legal-offering, offering-rank, short-offering, short-none, short-lacks-one}
+use Rattle.blocking.specs.OfferingLaws.{smaller-placeable, offering-legal, legal-offering, offering-rank, short-offering, short-none, short-lacks-one}
 
 module _ (M : Model) where
   open Model M using (b, n, T)
@@ -107,7 +107,7 @@ module _ (M : Model) (x : ℕ) (l : x < M .n) (o : x ∈ M .E) (unplaced : x ∈
     drawn = λ y e. let w : (y < n) × (y ∈ drawn-from M x) × (placeable M (drawn-from M x ⊖ y) ≡ true) = reason-iff M x y .0 e in (w .0, w .1);
     has-none = ap (placeable M) (fun-ext reason-short) ∙ short-none M (drawn-from M x) drawn-part drawn-none enough;
     dropping-one = λ y e. smaller-placeable M (reason M x ⊖ y) (drawn-from M x ⊖ y) (reason-iff M x y .0 e .2) (λ z lz d.
-        let w : (z ∈ reason M x) × (z ≢ y) = less-in (reason M x) y z d in ⊖-other (drawn-from M x) y z (w .1) ∙ reason-iff M x z .0 (w .0) .1);
+        let w : (z ∈ reason M x) × (z ≢ y) = ⊖-in (reason M x) y z d in ⊖-other (drawn-from M x) y z (w .1) ∙ reason-iff M x z .0 (w .0) .1);
   }
 
   -- lacks one equation,
@@ -137,7 +137,7 @@ module _ (M : Model) (x : ℕ) (l : x < M .n) (o : x ∈ M .E) (unplaced : x ∈
     l,
     set-same (placed M) x true,
     smaller-placeable M (drawn-from M x ⊖ x) (placed M) placed-placeable
-        (λ y ly e. let w : (y ∈ drawn-from M x) × (y ≢ x) = less-in (drawn-from M x) x y e in sym (set-other (placed M) x true y (w .1)) ∙ w .0),
+        (λ y ly e. let w : (y ∈ drawn-from M x) × (y ≢ x) = ⊖-in (drawn-from M x) x y e in sym (set-other (placed M) x true y (w .1)) ∙ w .0),
   )
     where
       placed-placeable : placeable M (placed M) ≡ true

@@ -7,7 +7,7 @@ use native.Mathlib.Omega.{arith}
 use native.Mathlib.Decide.{ℕ-discrete, decLt}
 use Rattle.counting.specs.Bools.{true?, iff-eq, and-in, and-left, and-right}
 use Rattle.counting.specs.Sets.{Set, _∈_, _∩_, ∁}
-use Rattle.counting.specs.Counts.{_⊖_, ⊖-at, ⊖-other, set-same, set-other, #-ext, #-⊖}
+use Rattle.counting.specs.Counts.{_⊖_, ⊖-in, ⊖-at, ⊖-other, set-same, set-other, #-ext, #-⊖}
 use Rattle.counting.specs.Choices.{Part}
 use Rattle.rank.specs.Layered.Model.{Model, Assignment, OneMoreThan, placing, Legal}
 use Rattle.rank.specs.Layered.Rank.{constant-rank, sum, rank, placed, short}
@@ -16,7 +16,7 @@ use Rattle.rank.specs.Layered.Minimax.{short-of-E, sum-short, rank-le-sum, exte
 use Rattle.rank.specs.Layered.ColumnOrder.{placed-legal, placed-size}
 use Rattle.blocking.specs.Offering.{offering}
 use Rattle.blocking.specs.Reason.{drawn-from, BlockedWith}
-use Rattle.blocking.specs.OfferingLaws.{less-in, smaller-placeable, offering-legal, legal-offering, sum-one-more}
+use Rattle.blocking.specs.OfferingLaws.{smaller-placeable, offering-legal, legal-offering, sum-one-more}
 use Rattle.blocking.specs.ReasonLaws.{reason-iff, reason-self}
 
 module _ (M : Model) where
@@ -43,7 +43,7 @@ module _ (M : Model) where
     N = offering M (F ⊖ y)
 
     part : Part n E (F ⊖ y)
-    part z e = F-iff z .0 (less-in F y z e .0)
+    part z e = F-iff z .0 (⊖-in F y z e .0)
 
     -- has the same rank: else its short set, to which y is one more, would be a set of M without y whose sum is the rank
     same-rank : rank M ≤ rank N
@@ -70,11 +70,11 @@ module _ (M : Model) where
 
     -- so the placed columns without y can take one more in it
     others : (A : Assignment) × Legal M A × ((z : ℕ) → z < n → placing A z ≡ (placed M ⊖ y) z)
-    others = placeable-iff M (placed M ⊖ y) .0 (smaller-placeable M (placed M ⊖ y) (placed M) (placeable-iff M (placed M) .1 (placed-legal M)) (λ z lz e. less-in (placed M) y z e .0))
+    others = placeable-iff M (placed M ⊖ y) .0 (smaller-placeable M (placed M ⊖ y) (placed M) (placeable-iff M (placed M) .1 (placed-legal M)) (λ z lz e. ⊖-in (placed M) y z e .0))
 
     others-legal : Legal N (others .0)
     others-legal = legal-offering M (F ⊖ y) part (others .0) (others .1) (λ z lz e.
-        let w : (z ∈ placed M) × (z ≢ y) = less-in (placed M) y z (sym (others .2 z lz) ∙ e) in
+        let w : (z ∈ placed M) × (z ≢ y) = ⊖-in (placed M) y z (sym (others .2 z lz) ∙ e) in
         ⊖-other F y z (w .1) ∙ F-iff z .1 (others .1 .offered z e))
 
     more : OneMoreThan N (others .0)
@@ -88,7 +88,7 @@ module _ (M : Model) where
     taken = more .is-legal .offered c (more .places c ∙ set-same (placing (others .0)) c true)
 
     apart : c ≢ y
-    apart = less-in F y c (taken .1) .1
+    apart = ⊖-in F y c (taken .1) .1
 
     out : c ∈ placed M → ⊥
     out e = true≢false (sym e ∙ sym (⊖-other (placed M) y c apart) ∙ sym (others .2 c (taken .0)) ∙ more .was-out)
@@ -102,7 +102,7 @@ module _ (M : Model) where
       ]
     ]
 
-    pub placed-blocked : BlockedWith M y
+    placed-blocked : BlockedWith M y
     placed-blocked = record {
       column = c;
       below = taken .0;

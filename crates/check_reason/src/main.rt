@@ -8,6 +8,7 @@ use reason_report::LONGEST_REASON_REPORT;
 
 const INPUT: usize = LONGEST_FILE + 1;
 
+// The digits of the largest number of 64 bits.
 const ARGUMENT: usize = 20;
 
 fn main() {

@@ -1,7 +1,7 @@
 -- The laws of sets and counts: bounded choices and tests, updates, and how counts change with the set. Assumes nothing.
 use Prim.Native.Nat.{ℕ, zero, suc, _+_, _≤_, _<_}
 use mathlib.Core.Path.{_≡_, refl, sym, _∙_, ap, fun-ext}
-use mathlib.Core.Bool.{Bool, true, false, not, _&&_, _||_, or-true, or-false, false≢true}
+use mathlib.Core.Bool.{Bool, true, false, not, _&&_, _||_, or-true, or-false, false≢true, true≢false}
 use mathlib.Core.Logic.{_≢_, _↔_, inl, inr, by-cases}
 use native.Mathlib.Omega.{arith}
 use native.Mathlib.Decide.{ℕ-discrete}
@@ -107,6 +107,11 @@ pub ⊖-at : (S : Set) (j : ℕ) → (S ⊖ j) j ≡ false
 
 pub ⊖-other : (S : Set) (j i : ℕ) → i ≢ j → (S ⊖ j) i ≡ S i
 ⊖-other S j i h = set-other S j false i h
+
+pub ⊖-in : (S : Set) (j i : ℕ) → i ∈ S ⊖ j → (i ∈ S) × (i ≢ j)
+⊖-in S j i e =
+    let ne : i ≢ j = λ d. true≢false (sym e ∙ ap (S ⊖ j) d ∙ ⊖-at S j) in
+    (sym (⊖-other S j i ne) ∙ e, ne)
 
 -- ---- counts
 

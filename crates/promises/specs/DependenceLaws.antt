@@ -53,8 +53,8 @@ module _ {p n a : ℕ} {cs : List ℕ} {H : Set} {x the-outcome : ℕ} {ms : Lis
         ∙ sym (given-not-held q P a n Q H x j (λ e. omega (arith, s .below j e, s .n-most)))
   ]
 
-  pub number-below : (j : ℕ) → getD ms j 0 < p
-  number-below j = omega (arith, at j, q-is, given-below q P a n Q H x j)
+  pub number-below-p : (j : ℕ) → getD ms j 0 < p
+  number-below-p j = omega (arith, at j, q-is, given-below q P a n Q H x j)
 
   pub number-not-held : (j : ℕ) → (j ∈ H → ⊥) → getD ms j 0 ≡ 0
   number-not-held j nj = at j ∙ given-not-held q P a n Q H x j nj

@@ -49,7 +49,7 @@ module _ (p n a b : ℕ) (cs ws : List ℕ) (ns : Option (List ℕ)) (held : Col
   pub held-below : (j : ℕ) → j ∈ H → j < n
   held-below j e = within-iff n (whole held) .0 (unless-zero (within n (whole held)) column-beyond (columns .1)) j (columns-below held j fits e) e
 
-  pub answer : ListedDependenceShown p n a cs H x (r .outcome) (r .multipliers)
+  answer : ListedDependenceShown p n a cs H x (r .outcome) (r .multipliers)
   answer = call .if-accepted (sym (call .is-refusal) ∙ ok)
 
   -- so its numbers say how x depends on the held columns

@@ -11,7 +11,7 @@ use lib.ListN.{length, getD, List·getD-eq-default}
 use Rattle.limits.specs.Limits.{most-columns}
 use Rattle.counting.specs.Bools.{not-both, in-not, not-true}
 use Rattle.counting.specs.Sets.{Set, _∈_, _⊆_, #, touching}
-use Rattle.counting.specs.Counts.{_⊖_, ⊖-other, all-iff, touching-iff}
+use Rattle.counting.specs.Counts.{_⊖_, ⊖-in, ⊖-other, all-iff, touching-iff}
 use Rattle.columns.specs.Columns.{members}
 use Rattle.columns.specs.ColumnSets.{whole}
 use Rattle.columns.specs.declared.ColumnSet.{ColumnSet}
@@ -26,7 +26,6 @@ use Rattle.dependence.specs.Listing.{listing}
 use Rattle.dependence.specs.ListingLaws.{listing-at, listing-length, listing-same}
 use Rattle.dependence.specs.Theorems.{outcome-1}
 use Rattle.blocking.specs.Reason.{Blocking, reason, untouched, reason-multiplier}
-use Rattle.blocking.specs.OfferingLaws.{less-in}
 use Rattle.blocking.specs.MultiplierLaws.{untouched-multiplier, touched-multiplier}
 use Rattle.blocking.specs.Theorems as Theory
 use Rattle.exchange.specs.DependenceCall.{ListedDependenceShown}
@@ -53,7 +52,7 @@ module _ (p n a b : ℕ) (cs ws : List ℕ) (ns : Option (List ℕ)) (x : ℕ) (
   each : (first-refusal (model-tests p n a b cs ws ns) ≡ 0) × (first-refusal (reason-question M x) ≡ 0)
   each = then-zero (model-tests p n a b cs ws ns) (reason-question M x) (sym (call .is-refusal) ∙ ok)
 
-  pub judged : refusal p n a b cs ws ns ≡ 0
+  judged : refusal p n a b cs ws ns ≡ 0
   unfolding refusal
   judged = each .0
 
@@ -66,10 +65,10 @@ module _ (p n a b : ℕ) (cs ws : List ℕ) (ns : Option (List ℕ)) (x : ℕ) (
   pub column-below : x < n
   column-below = column-reads x n .0 (unless-zero (column-test x n) column-beyond (column .0))
 
-  pub not-placed : x ∈ placed M → ⊥
+  not-placed : x ∈ placed M → ⊥
   not-placed = not-both (placed M x) (unless-zero (not (placed M x)) column-placed (column .1))
 
-  pub answer : ReasonAnswered p n a b cs ws x r
+  answer : ReasonAnswered p n a b cs ws x r
   answer = call .if-accepted (sym (call .is-refusal) ∙ ok)
 
   the-set : R ≡ reason M x
@@ -129,7 +128,7 @@ module _ (p n a b : ℕ) (cs ws : List ℕ) (ns : Option (List ℕ)) (x : ℕ) (
       prime = accepted .prime;
       n-most = accepted .n-most;
       x-below = column-below;
-      below = λ j e. set-blocks .drawn j (less-in R x j e .0) .0;
+      below = λ j e. set-blocks .drawn j (⊖-in R x j e .0) .0;
       answer = subst (λ (S : Set). ListedDependenceShown p n a cs (S ⊖ x) x 1 (r .multipliers)) (sym the-set) shown;
     }
       where

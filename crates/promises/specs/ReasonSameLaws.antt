@@ -10,7 +10,7 @@ use native.Mathlib.Decide.{ℕ-discrete, decLt}
 use lib.ListN.{take}
 use Rattle.limits.specs.Limits.{most-columns}
 use Rattle.counting.specs.Sets.{Set}
-use Rattle.counting.specs.Counts.{_⊖_}
+use Rattle.counting.specs.Counts.{_⊖_, ⊖-in}
 use Rattle.columns.specs.Columns.{width, word-of}
 use Rattle.columns.specs.ColumnSets.{whole}
 use Rattle.rank.specs.Modulus.{modulus}
@@ -20,7 +20,6 @@ use Rattle.dependence.specs.Multipliers.{given}
 use Rattle.dependence.specs.NumberLaws.{given-not-held, given-same}
 use Rattle.dependence.specs.ListingLaws.{listing-same}
 use Rattle.blocking.specs.Reason.{reason, untouched, reason-multiplier}
-use Rattle.blocking.specs.OfferingLaws.{less-in}
 use Rattle.blocking.specs.ReasonLaws.{reason-iff}
 use Rattle.format.specs.Refusals.{unless, _then_, first-refusal, column-placed, named-column, model-tests, refusal}
 use Rattle.format.specs.RefusalLaws.{then-refused, then-passed}
@@ -48,8 +47,8 @@ module _ (p n a b : ℕ) (cs ds ws vs : List ℕ) (ec : take (a * n) cs ≡ take
   same-given : x < n → (j : ℕ) → given (modulus p .0) (modulus p .1) a n (M .Q) (reason M x ⊖ x) x j ≡ given (modulus p .0) (modulus p .1) a n (N .Q) (reason N x ⊖ x) x j
   same-given l j = elim (decLt j n) [
     | yes lj ↦ given-same (modulus p .0) (modulus p .1) a n (M .Q) (N .Q) (agree p n a b cs ds ws vs ec ew .constants) (reason M x ⊖ x) x l j lj ∙ ap (λ (S : Set). given (modulus p .0) (modulus p .1) a n (N .Q) (S ⊖ x) x j) same-reason
-    | no nj ↦ given-not-held (modulus p .0) (modulus p .1) a n (M .Q) (reason M x ⊖ x) x j (λ e. nj (reason-iff M x j .0 (less-in (reason M x) x j e .0) .0))
-        ∙ sym (given-not-held (modulus p .0) (modulus p .1) a n (N .Q) (reason N x ⊖ x) x j (λ e. nj (reason-iff N x j .0 (less-in (reason N x) x j e .0) .0)))
+    | no nj ↦ given-not-held (modulus p .0) (modulus p .1) a n (M .Q) (reason M x ⊖ x) x j (λ e. nj (reason-iff M x j .0 (⊖-in (reason M x) x j e .0) .0))
+        ∙ sym (given-not-held (modulus p .0) (modulus p .1) a n (N .Q) (reason N x ⊖ x) x j (λ e. nj (reason-iff N x j .0 (⊖-in (reason N x) x j e .0) .0)))
   ]
 
   same-multiplier : x < n → (j : ℕ) → reason-multiplier (modulus p .0) (modulus p .1) n a b (M .Q) (M .T) (M .E) x j ≡ reason-multiplier (modulus p .0) (modulus p .1) n a b (N .Q) (N .T) (N .E) x j

@@ -63,11 +63,10 @@ use Rattle.promises.specs.AnswerLaws.{refusal-same, mixed-refusal-same, 
 use Rattle.promises.specs.NumberingLaws.{numbers-front, front-same, named, mixed-unnumbered, picked-same, without-numbers, file-unnumbered}
 use Rattle.promises.specs.RowLaws.{determined-rows, surplus-rows}
 use Rattle.promises.specs.ShownLaws.{ShownWhole, answer-shown-whole, mixed-shown-whole, reason-shown-whole}
-use Rattle.promises.specs.DependenceLaws.{says-dependent, says-depends, says-independent, none-given-otherwise, numbers-sum, numbers-only, number-below, number-not-held, held-itself, zero-by-nothing}
+use Rattle.promises.specs.DependenceLaws.{says-dependent, says-depends, says-independent, none-given-otherwise, numbers-sum, numbers-only, number-below-p, number-not-held, held-itself, zero-by-nothing}
 use Rattle.promises.specs.MultiplierLaws.{says, constants-decide}
 use Rattle.promises.specs.MultiplierCallLaws.{file-call, host-call, held-surplus}
-use Rattle.promises.specs.ReasonLaws.{set-blocks, set-unique, set-lacks-one, set-has-the-column, set-inside-short, set-inside-reported, given-iff, none-given, not-zero, as-multipliers-call}
-use Rattle.promises.specs.ReasonLaws.{says as reason-says}
+use Rattle.promises.specs.ReasonLaws.{set-blocks, set-unique, set-lacks-one, set-has-the-column, set-inside-short, set-inside-reported, given-iff, none-given, not-zero, as-multipliers-call, says as reason-says}
 use Rattle.promises.specs.ReasonCallLaws.{reason-file-call, reason-host-call}
 use Rattle.promises.specs.ReasonSameLaws.{reason-calls-same}
 use Rattle.promises.specs.DocumentFile.{document-file, document-accepted, document-model}
@@ -264,7 +263,7 @@ module _ (p n a b : ℕ) (cs ws : List ℕ) (ns : Option (List ℕ)) (held : Col
 
   -- Each is below p, and 0 at a column that is not held.
   pub multipliers-below-p : (j : ℕ) → getD (r .multipliers) j 0 < p
-  multipliers-below-p = number-below (says p n a b cs ws ns held fits x r call ok)
+  multipliers-below-p = number-below-p (says p n a b cs ws ns held fits x r call ok)
 
   pub multipliers-of-held-columns : (j : ℕ) → (j ∈ members (whole held) → ⊥) → getD (r .multipliers) j 0 ≡ 0
   multipliers-of-held-columns = number-not-held (says p n a b cs ws ns held fits x r call ok)
@@ -342,7 +341,7 @@ module _ (p n a b : ℕ) (cs ws : List ℕ) (ns : Option (List ℕ)) (x : ℕ) (
   reason-multipliers-only-these g = numbers-only (reason-says p n a b cs ws ns x r call ok g) refl
 
   pub reason-multipliers-below-p : r .given ≡ true → (j : ℕ) → getD (r .multipliers) j 0 < p
-  reason-multipliers-below-p g = number-below (reason-says p n a b cs ws ns x r call ok g)
+  reason-multipliers-below-p g = number-below-p (reason-says p n a b cs ws ns x r call ok g)
 
   -- not 0 at those columns, and 0 at all others.
   pub reason-multipliers-not-zero : r .given ≡ true → (y : ℕ) → y ∈ members (whole (r .set)) → y ≢ x → getD (r .multipliers) y 0 ≢ 0

@@ -4,14 +4,13 @@ use mathlib.Core.Path.{_≡_, refl, sym, ap, _∙_, fun-ext}
 use mathlib.Core.Logic.{_≢_, inl, inr}
 use mathlib.Core.Bool.{true, false, true≢false}
 use mathlib.Core.List.{List}
-use mathlib.Core.Option.{none}
 use native.Mathlib.Omega.{arith}
 use native.Mathlib.Decide.{ℕ-discrete}
 use lib.ListN.{replicate}
 use Rattle.limits.specs.Limits.{most-columns}
 use Rattle.counting.specs.Bools.{not-true, iff-eq}
 use Rattle.counting.specs.Sets.{Set, _∈_, set}
-use Rattle.counting.specs.Counts.{_⊖_, ⊖-other, set-same, set-other}
+use Rattle.counting.specs.Counts.{_⊖_, ⊖-in, ⊖-other, set-same, set-other}
 use Rattle.columns.specs.Columns.{width, members, inserted, removed, word-of, within}
 use Rattle.columns.specs.ColumnSets.{whole, Fits}
 use Rattle.columns.specs.declared.ColumnSet.{ColumnSet}
@@ -27,7 +26,6 @@ use Rattle.dependence.specs.Multipliers.{given}
 use Rattle.dependence.specs.Listing.{listing}
 use Rattle.dependence.specs.ListingLaws.{listing-same, zeros-listed}
 use Rattle.blocking.specs.Reason.{drawn-from, reason, untouched, reason-multiplier}
-use Rattle.blocking.specs.OfferingLaws.{less-in}
 use Rattle.blocking.specs.ReasonLaws.{second-call, untouched-count, reason-short, reason-blocking}
 use Rattle.blocking.specs.MultiplierLaws.{untouched-multiplier, touched-multiplier}
 use Rattle.touching.specs.RowCount.{touching-count}
@@ -53,7 +51,7 @@ inserted-set S x l y = iff-eq (inserted S x y) (set S x true y)
 removed-less : (S : Set) (x y : ℕ) → removed S x y ≡ (S ⊖ x) y
 removed-less S x y = iff-eq (removed S x y) ((S ⊖ x) y)
     (λ e. ⊖-other S x y (removed-gone S x y e) ∙ removed-old S x y e)
-    (λ e. let w : (y ∈ S) × (y ≢ x) = less-in S x y e in removed-other S x y (w .0) (w .1))
+    (λ e. let w : (y ∈ S) × (y ≢ x) = ⊖-in S x y e in removed-other S x y (w .0) (w .1))
 
 -- ---- the second call
 
@@ -116,7 +114,7 @@ module _ {p n a b : ℕ} {cs ws : List ℕ} {the-placed : ColumnSet} {x : ℕ} (
       the-others = o ∙ fun-ext (removed-less (members (whole (s .short))) x) ∙ ap (λ (S : Set). S ⊖ x) the-reason
 
       pub others-below : within n (whole others) ≡ true
-      others-below = within-iff n (whole others) .1 (λ y l e. reason-blocking M x (u .below) refl not-placed .drawn y (less-in (reason M x) x y (sym (ap (λ (S : Set). S y) the-others) ∙ e) .0) .0)
+      others-below = within-iff n (whole others) .1 (λ y l e. reason-blocking M x (u .below) refl not-placed .drawn y (⊖-in (reason M x) x y (sym (ap (λ (S : Set). S y) the-others) ∙ e) .0) .0)
 
       pub their-multipliers : true ≡ untouched M (reason M x) → {the-outcome : ℕ} {ms : List ℕ} → ListedDependenceShown p n a cs (members (whole others)) x the-outcome ms
           → ms ≡ listing most-columns (reason-multiplier (modulus p .0) (modulus p .1) n a b (M .Q) (M .T) (M .E) x)

@@ -1,6 +1,5 @@
 // The reason for an unplaced column, of a model handed over or in a file; and the bytes of the answer.
 ghost use mathlib.Core.Path.{_≡_};
-ghost use mathlib.Core.Bool.{false};
 ghost use mathlib.Core.Option.{none};
 ghost use Rattle.counting.specs.Sets.{indicator};
 ghost use Rattle.columns.specs.ColumnSets.{row-numbers};
@@ -46,7 +45,7 @@ fn refuse(number: u32) -> Reason
     }
 }
 
-// The reason for a column that is not placed. Where x and the placed columns are offered alone, the short set is what blocks x.
+// The reason for a column that is not placed. Where it and the placed columns are offered alone, the short set is what blocks it.
 fn explain(
     p: u32,
     n: usize,

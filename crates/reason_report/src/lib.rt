@@ -1,6 +1,6 @@
 // The report of why a column of the model in a file is not placed, as text: one line or two, or a refusal's one.
 ghost use mathlib.Core.Path.{_≡_};
-ghost use Rattle.text.specs.Text.{pair-unless, Puts};
+ghost use Rattle.text.specs.Text.{Puts};
 ghost use Rattle.report.specs.Report.{report-text};
 ghost use Rattle.reason_report.specs.ReasonReport.{multiplier-items, multiplier-line, reason-text, longest-reason-report, ReasonFileReport};
 use columns::WIDTH;
@@ -11,7 +11,7 @@ use text::Printed;
 use text::put_byte;
 use text::put_bytes;
 use text::put_column_line;
-use text::put_pair;
+use text::put_pair_unless;
 use text::put_refused_line;
 
 // How many bytes the longest report has at most: 19 for the two lines without their columns, 4 for each column of the set, and 9 for
@@ -80,17 +80,8 @@ fn put_multipliers(out: &mut [u8], at: usize, multipliers: [u16; MOST_COLUMNS]) 
     let mut place = at;
     let mut x = 0;
     while x < MOST_COLUMNS {
-        place = put_multiplier(out, place, x, multipliers[x]);
+        place = put_pair_unless(out, place, 0, x, multipliers[x] as usize);
         x = x + 1;
     }
     place
-}
-
-fn put_multiplier(out: &mut [u8], at: usize, column: usize, multiplier: u16) -> usize
-    ensures { λ r. ⌜ Puts (pair-unless 0 column multiplier) (now (out .entry)) at (now (out .exit)) r ⌝ }
-{
-    if multiplier == 0 {
-        return at;
-    }
-    put_pair(out, at, column, multiplier as usize)
 }

@@ -133,6 +133,20 @@ host-multipliers-number file held x area = area-number _ _ _ _ area
 pub host-multipliers-refused : (file held : List ℕ) (x : ℕ) (area : List ℕ) (k : ℕ) (area′ : List ℕ) → HostMultipliers file held x area k area′ → k ≢ 0 → area′ ≡ area
 host-multipliers-refused file held x area = area-refused _ _ _ _ area
 
+-- of two areas one is too short
+two-areas : (t u : Bool) (us : Tests) → (t ≡ false) ⊎ (u ≡ false) → first-refusal (unless t area-short then (unless u area-short then us)) ≡ 8
+unfolding first-refusal
+two-areas false u us e = refl
+two-areas true false us e = refl
+two-areas true true us e = absurd (elim e [ inl z ↦ true≢false z | inr z ↦ true≢false z ])
+
+-- which refuses too short an area, of either kind, before it looks at the columns;
+pub areas-before-columns : (file held : List ℕ) (x : ℕ) (area : List ℕ) (k : ℕ) (area′ : List ℕ) → HostMultipliers file held x area k area′ → judge file ≡ 0
+    → (length area < multipliers-length) ⊎ (length held < set-bytes) → k ≡ 8
+unfolding area-refusal area-test judge
+areas-before-columns file held x area k area′ h ok short =
+    h .is-number ∙ sym (then-passed (closed fields file) _ 8 ok (sym (two-areas (leb multipliers-length (length area)) (leb set-bytes (length held)) _ (elim short [ inl l ↦ inl (lt-leb _ _ l) | inr l ↦ inr (lt-leb _ _ l) ]))))
+
 -- and the one about the reason for a column,
 pub host-reason-number : (file : List ℕ) (x : ℕ) (area : List ℕ) (k k′ : ℕ) (area′ area″ : List ℕ) → HostReason file x area k area′ → HostReason file x area k′ area″ → k ≡ k′
 host-reason-number file x area = area-number _ _ _ _ area
@@ -144,20 +158,6 @@ host-reason-refused file x area = area-refused _ _ _ _ area
 pub area-before-column : (file : List ℕ) (x : ℕ) (area : List ℕ) (k : ℕ) (area′ : List ℕ) → HostReason file x area k area′ → judge file ≡ 0 → length area < reason-length → k ≡ 8
 unfolding area-refusal area-test judge first-refusal
 area-before-column file x area k area′ h ok short = h .is-number ∙ sym (then-passed (closed fields file) _ 8 ok (rw (lt-leb reason-length (length area) short) refl))
-
--- of two areas one is too short
-two-areas : (t u : Bool) (us : Tests) → (t ≡ false) ⊎ (u ≡ false) → first-refusal (unless t area-short then (unless u area-short then us)) ≡ 8
-unfolding first-refusal
-two-areas false u us e = refl
-two-areas true false us e = refl
-two-areas true true us e = absurd (elim e [ inl z ↦ true≢false z | inr z ↦ true≢false z ])
-
--- The one about multipliers refuses too short an area, of either kind, before it looks at the columns
-pub areas-before-columns : (file held : List ℕ) (x : ℕ) (area : List ℕ) (k : ℕ) (area′ : List ℕ) → HostMultipliers file held x area k area′ → judge file ≡ 0
-    → (length area < multipliers-length) ⊎ (length held < set-bytes) → k ≡ 8
-unfolding area-refusal area-test judge
-areas-before-columns file held x area k area′ h ok short =
-    h .is-number ∙ sym (then-passed (closed fields file) _ 8 ok (sym (two-areas (leb multipliers-length (length area)) (leb set-bytes (length held)) _ (elim short [ inl l ↦ inl (lt-leb _ _ l) | inr l ↦ inr (lt-leb _ _ l) ]))))
 
 -- the bytes behind an answer are as they were
 pub written-surplus : {A : Type 0} (Holds : A → Type 0) (bytes : A → List ℕ) (area area′ : List ℕ) (w : WrittenOver Holds bytes area area′)

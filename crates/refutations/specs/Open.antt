@@ -7,9 +7,10 @@ use mathlib.Core.Bool.{Bool, true, false, false≢true}
 use mathlib.Core.List.{List, _∷_, _++_}
 use mathlib.Core.Option.{Option}
 use native.Mathlib.Decide.{ℕ-discrete}
-use lib.ListN.{getD}
+use lib.ListN.{length, getD}
 use Rattle.counting.specs.Sets.{Set, _∈_, indicator}
 use Rattle.columns.specs.Bytes.{bytes-of}
+use Rattle.columns.specs.Columns.{members}
 use Rattle.columns.specs.ColumnSets.{whole}
 use Rattle.columns.specs.declared.ColumnSet.{ColumnSet}
 use Rattle.rank.specs.Layered.Model.{Model, Seat, out, constant, row, is-placed, is-constant, constants}
@@ -18,21 +19,23 @@ use Rattle.limits.specs.Limits.{set-bytes, no-column}
 use Rattle.layered.specs.Answers.{Answered, AnswerShown, LayeredCall}
 use Rattle.layered.specs.FileModel.{file-model}
 use Rattle.layered.specs.declared.Answer.{Answer}
-use Rattle.format.specs.Refusals.{refusal, mixed-refusal}
+use Rattle.format.specs.Refusals.{_then_, first-refusal, refusal, mixed-refusal}
 use Rattle.mixed_models.specs.Mixed.{Mixed}
 use Rattle.mixed.specs.MixedAnswers.{MixedAnswered, MixedCall, file-mixed}
 use Rattle.host.specs.AnswerBytes.{answer-bytes, mixed-bytes}
 use Rattle.multipliers.specs.Answers.{MultipliersCall}
 use Rattle.multipliers.specs.declared.Multipliers.{Multipliers}
-use Rattle.reason.specs.Answers.{ReasonCall}
+use Rattle.reason.specs.Answers.{reason-question, FileReason, ReasonCall}
+use Rattle.reason_report.specs.ReasonReport.{multiplier-line, reason-text, ReasonFileReport}
 use Rattle.reason.specs.declared.Reason.{Reason}
 use Rattle.solvability.specs.Host.{HostAnswer, HostMixedAnswer, HostMultipliers, HostReason}
-use Rattle.text.specs.Text.{Prints}
+use Rattle.text.specs.Text.{ascii, line, column-items, print-refusal, printed, Prints}
 use Rattle.text.specs.declared.Printed.{Printed}
 use Rattle.report.specs.Report.{answer-text}
 use Rattle.report.specs.FileReport.{FileReport}
 use Rattle.format.specs.Lists.{over}
-use Rattle.format.specs.File.Format.{entry-bytes, judge}
+use Rattle.format.specs.File.Piece.{closed}
+use Rattle.format.specs.File.Format.{fields, entry-bytes, judge}
 use Rattle.mixed.specs.declared.MixedAnswer.{MixedAnswer}
 use Rattle.promises.specs.Fixed.{SameAnswer, SameShown, SameMixed, SameMixedShown, SameReason, TwoShown}
 use Rattle.promises.specs.AnswerLaws.{layered-same, mixed-same}
@@ -143,10 +146,31 @@ module _ (file area : List ℕ) where
         ∙ ap (λ (ms : List ℕ). over (bytes-of set-bytes (whole (v .answer .set)) ++ (indicator (v .answer .given) ∷ entry-bytes ms)) area) (r .multipliers-are ∙ sym (s .multipliers-are)) ∙ sym (v .is-shown)
   ]
 
-  -- and so is the text of a report
+  -- and the text of a report is that of two answers that agree,
   pub report-fixed : (r s : Printed) (area′ area″ : List ℕ) → FileReport file area r area′ → FileReport file area s area″ → judge file ≡ 0
       → TwoShown SameShown (λ t. Prints (answer-text t) area r area′) (λ t. Prints (answer-text t) area s area″)
   report-fixed r s area′ area″ x y e = two-shown (λ t u. answered-fixed (file-model file)) (x .if-accepted e) (y .if-accepted e)
+
+  -- whose numbers and bytes are the same where it is that of the reason for a column
+  pub reason-report-fixed : (x : ℕ) (r s : Printed) (area′ area″ : List ℕ) → ReasonFileReport file x area r area′ → ReasonFileReport file x area s area″
+      → (r .refusal ≡ s .refusal) × (r .length ≡ s .length) × (area′ ≡ area″)
+  unfolding reason-text
+  reason-report-fixed x r s area′ area″ f g = elim (ℕ-discrete (first-refusal (closed fields file then reason-question (file-model file) x)) 0) [
+    | no nz ↦ printed-fixed refl (f .if-refused nz) (g .if-refused nz)
+    | yes z ↦ let u = f .if-accepted z in let v = g .if-accepted z in printed-fixed (same-text (u .answer) (v .answer) (u .is-answer) (v .is-answer)) (u .is-shown) (v .is-shown)
+  ]
+    where
+      printed-fixed : {t t′ : List ℕ} → t ≡ t′ → Prints t area r area′ → Prints t′ area s area″ → (r .refusal ≡ s .refusal) × (r .length ≡ s .length) × (area′ ≡ area″)
+      printed-fixed e p q = (
+        p .refusal-is ∙ ap (λ (t : List ℕ). print-refusal t area) e ∙ sym (q .refusal-is),
+        p .length-is ∙ ap (λ (t : List ℕ). length (printed t area)) e ∙ sym (q .length-is),
+        p .bytes-are ∙ ap (λ (t : List ℕ). over (printed t area) area) e ∙ sym (q .bytes-are),
+      )
+
+      same-text : (t u : Reason) → FileReason file x t → FileReason file x u → reason-text t ≡ reason-text u
+      same-text t u h k =
+          ap₂ (λ (w : ℕ) (given : Bool). line (ascii "reason") (column-items (members w)) ++ multiplier-line given (t .multipliers)) (h .set-number ∙ sym (k .set-number)) (h .is-given ∙ sym (k .is-given))
+          ∙ ap (λ (ms : List ℕ). line (ascii "reason") (column-items (members (whole (u .set)))) ++ multiplier-line (u .given) ms) (h .multipliers-are ∙ sym (k .multipliers-are))
 
 -- ---- what holds of the side and the rows that an answer shows
 

@@ -10,7 +10,7 @@ use Rattle.text.specs.Text.{refused-line, Prints}
 use Rattle.text.specs.declared.Printed.{Printed}
 use Rattle.report.specs.Report.{answer-text}
 
--- the report of a rank call: the one line of the refusal that is due, or else the text of some answer of which this holds. An area that this very text
+-- the report of a call: the one line of the refusal that is due, or else the text of some answer of which this holds. An area that this very text
 -- has no room in is refused, and stays as it is (`Prints`).
 pub record Reports {A : Type 0} (due : ℕ) (Holds : A → Type 0) (text : A → List ℕ) (area : List ℕ) (r : Printed) (area′ : List ℕ) : Type 0 where
   pub if-refused : due ≢ 0 → Prints (refused-line due) area r area′

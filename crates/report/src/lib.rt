@@ -1,7 +1,6 @@
 // The report of a file, as text: document 01's five lines, or a refusal's one.
 ghost use mathlib.Core.Path.{_≡_};
-ghost use Rattle.limits.specs.Limits.{no-column};
-ghost use Rattle.text.specs.Text.{ascii, line, pair-unless, Puts};
+ghost use Rattle.text.specs.Text.{ascii, line, Puts};
 ghost use Rattle.report.specs.Report.{row-items, answer-text, report-text, longest-report};
 ghost use Rattle.report.specs.FileReport.{FileReport};
 use columns::WIDTH;
@@ -14,7 +13,7 @@ use text::put_byte;
 use text::put_bytes;
 use text::put_column_line;
 use text::put_number_line;
-use text::put_pair;
+use text::put_pair_unless;
 use text::put_refused_line;
 use text::put_verdict_line;
 
@@ -23,6 +22,9 @@ use text::put_verdict_line;
 pub const LONGEST_REPORT: usize = 55 + 2 * (4 * WIDTH) + 8 * MOST_ROWS;
 
 const LINE_FEED: u8 = 10;
+
+// What stands for no column in a list of the rows' columns.
+const NOTHING: usize = NO_COLUMN as usize;
 
 fn longest_tied() -> usize
     ensures { λ r. ⌜ r ≡ longest-report ⌝ }
@@ -78,17 +80,8 @@ fn put_rows(out: &mut [u8], at: usize, rows: [u8; MOST_ROWS]) -> usize
     let mut place = at;
     let mut r = 0;
     while r < MOST_ROWS {
-        place = put_row(out, place, r, rows[r]);
+        place = put_pair_unless(out, place, NOTHING, r, rows[r] as usize);
         r = r + 1;
     }
     place
-}
-
-fn put_row(out: &mut [u8], at: usize, row: usize, column: u8) -> usize
-    ensures { λ r. ⌜ Puts (pair-unless no-column row column) (now (out .entry)) at (now (out .exit)) r ⌝ }
-{
-    if column == NO_COLUMN {
-        return at;
-    }
-    put_pair(out, at, row, column as usize)
 }

@@ -1,6 +1,6 @@
 // Prints S2's report, S9's mixed one, and that of the reason for S3's column 1, into an area a byte longer than the text, one as long and
-// one a byte shorter; then the reports of two models with surplus equations. A report is which number and which length the call gives, and then the whole area, which held full
-// stops before.
+// one a byte shorter; then the reports of two models with surplus equations. A report is which number and which length the call gives, and
+// then the whole area, which held full stops before.
 use text::Printed;
 
 const FULL_STOP: u8 = 46;

@@ -28,41 +28,41 @@ digit-by-least c h = rw (lt-leb 48 c h) refl
 
 -- ---- what is read where x was, and cs are left
 
-unfoldable pub read-on : (most x : ℕ) → List ℕ → ℕ
-read-on most x cs = cond (all-digits cs && ltb (value x cs) most) (value x cs) most
+unfoldable pub read-on : (limit x : ℕ) → List ℕ → ℕ
+read-on limit x cs = cond (all-digits cs && ltb (value x cs) limit) (value x cs) limit
 
 value-grows : (x : ℕ) (cs : List ℕ) → x ≤ value x cs
 unfolding value
 value-grows x [] = omega arith
 value-grows x (c ∷ cs) = omega (arith, value-grows (10 * x + (c - 48)) cs)
 
-pub number-empty : (most : ℕ) (cs : List ℕ) → length cs ≡ 0 → number-below most cs ≡ most
+pub number-empty : (limit : ℕ) (cs : List ℕ) → length cs ≡ 0 → number-below limit cs ≡ limit
 unfolding number-below is-number
-number-empty most [] e = refl
-number-empty most (c ∷ cs) e = absurd (omega arith)
+number-empty limit [] e = refl
+number-empty limit (c ∷ cs) e = absurd (omega arith)
 
-pub number-begun : (most : ℕ) (cs : List ℕ) → length cs ≢ 0 → number-below most cs ≡ read-on most 0 cs
+pub number-begun : (limit : ℕ) (cs : List ℕ) → length cs ≢ 0 → number-below limit cs ≡ read-on limit 0 cs
 unfolding number-below is-number read-on
-number-begun most [] ne = absurd (ne refl)
-number-begun most (c ∷ cs) ne = refl
+number-begun limit [] ne = absurd (ne refl)
+number-begun limit (c ∷ cs) ne = refl
 
-pub read-digit : (most x c : ℕ) (cs : List ℕ) → is-digit c ≡ true → read-on most x (c ∷ cs) ≡ read-on most (10 * x + (c - 48)) cs
+pub read-digit : (limit x c : ℕ) (cs : List ℕ) → is-digit c ≡ true → read-on limit x (c ∷ cs) ≡ read-on limit (10 * x + (c - 48)) cs
 unfolding read-on all-digits value
-read-digit most x c cs e = rw e refl
+read-digit limit x c cs e = rw e refl
 
-pub read-other : (most x c : ℕ) (cs : List ℕ) → is-digit c ≡ false → read-on most x (c ∷ cs) ≡ most
+pub read-other : (limit x c : ℕ) (cs : List ℕ) → is-digit c ≡ false → read-on limit x (c ∷ cs) ≡ limit
 unfolding read-on all-digits
-read-other most x c cs e = rw e refl
+read-other limit x c cs e = rw e refl
 
 -- more digits make no number smaller
-pub read-beyond : (most x : ℕ) (cs : List ℕ) → most ≤ x → read-on most x cs ≡ most
+pub read-beyond : (limit x : ℕ) (cs : List ℕ) → limit ≤ x → read-on limit x cs ≡ limit
 unfolding read-on
-read-beyond most x cs h = rw (le-ltb (value x cs) most (omega (arith, value-grows x cs))) (either (all-digits cs))
+read-beyond limit x cs h = rw (le-ltb (value x cs) limit (omega (arith, value-grows x cs))) (either (all-digits cs))
   where
-    either : (b : Bool) → cond (b && false) (value x cs) most ≡ most
+    either : (b : Bool) → cond (b && false) (value x cs) limit ≡ limit
     either true = refl
     either false = refl
 
-pub read-all : (most x : ℕ) → x ≤ most → read-on most x [] ≡ x
+pub read-all : (limit x : ℕ) → x ≤ limit → read-on limit x [] ≡ x
 unfolding read-on all-digits value
-read-all most x h = by-cases (decLt x most) (λ l. rw (lt-ltb x most l) refl) (λ nl. rw (le-ltb x most (omega arith)) (omega arith))
+read-all limit x h = by-cases (decLt x limit) (λ l. rw (lt-ltb x limit l) refl) (λ nl. rw (le-ltb x limit (omega arith)) (omega arith))

@@ -61,6 +61,6 @@ shows-decimal (suc k) x h =
     let more = shows-more (x / 10) (x % 10) (decimal (x / 10)) (omega arith) (next (omega arith)) in
     subst (Shows x) (sym (decimal-large x (omega arith))) (subst (λ (y : ℕ). Shows y (decimal (x / 10) ++ ((48 + x % 10) ∷ []))) whole more)))
 
-pub decimal-read : (most x : ℕ) → x < most → number-below most (decimal x) ≡ x
+pub decimal-read : (limit x : ℕ) → x < limit → number-below limit (decimal x) ≡ x
 unfolding number-below
-decimal-read most x l = let s = shows-decimal x x (omega arith) in rw (s .is-one, s .stands-for, lt-ltb x most l) refl
+decimal-read limit x l = let s = shows-decimal x x (omega arith) in rw (s .is-one, s .stands-for, lt-ltb x limit l) refl

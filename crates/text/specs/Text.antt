@@ -120,6 +120,6 @@ unfoldable pub value : ℕ → List ℕ → ℕ
 value x [] = x
 value x (c ∷ cs) = value (10 * x + (c - 48)) cs
 
--- the number below `most` that the text stands for; whatever is no such number is read as `most`
-unfoldable pub number-below : (most : ℕ) (text : List ℕ) → ℕ
-number-below most text = cond (is-number text && ltb (value 0 text) most) (value 0 text) most
+-- the number below the limit that the text stands for; whatever is no such number is read as the limit
+unfoldable pub number-below : (limit : ℕ) (text : List ℕ) → ℕ
+number-below limit text = cond (is-number text && ltb (value 0 text) limit) (value 0 text) limit

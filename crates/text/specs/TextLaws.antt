@@ -61,7 +61,7 @@ digits-length (suc k) (suc j) x l =
     let tenth : x / 10 < 10 ^ suc j = omega (arith, pow-suc 10 (suc j)) in
     omega (arith, next tenth)))
 
-pub decimal-length : (j x : ℕ) → x < 10 ^ suc j → length (decimal x) ≤ suc j
+decimal-length : (j x : ℕ) → x < 10 ^ suc j → length (decimal x) ≤ suc j
 unfolding decimal
 decimal-length j x l = digits-length x j x l
 

@@ -6,7 +6,7 @@ ghost use mathlib.Core.List.{[], _∷_};
 ghost use Prim.Native.Nat.{_+_, _-_, _*_, _≤_, _<_};
 ghost use Rattle.columns.specs.Columns.{members};
 ghost use Rattle.columns.specs.ColumnSets.{whole};
-ghost use Rattle.text.specs.Text.{decimal, line, item, pair-item, column-items, verdict-line, refused-line, Puts, Prints, is-digit, number-below};
+ghost use Rattle.text.specs.Text.{decimal, line, item, pair-item, pair-unless, column-items, verdict-line, refused-line, Puts, Prints, is-digit, number-below};
 use columns::ColumnSet;
 use format::refusals;
 
@@ -92,8 +92,24 @@ fn put_columns(out: &mut [u8], at: usize, set: ColumnSet) -> usize
     place
 }
 
+// Two numbers with a colon between them, or nothing where the second is the number that stands for that.
+pub fn put_pair_unless(
+    out: &mut [u8],
+    at: usize,
+    nothing: usize,
+    first: usize,
+    second: usize,
+) -> usize
+    ensures { λ r. ⌜ Puts (pair-unless nothing first second) (now (out .entry)) at (now (out .exit)) r ⌝ }
+{
+    if second == nothing {
+        return at;
+    }
+    put_pair(out, at, first, second)
+}
+
 // Two numbers with a colon between them, and the space before them.
-pub fn put_pair(out: &mut [u8], at: usize, first: usize, second: usize) -> usize
+fn put_pair(out: &mut [u8], at: usize, first: usize, second: usize) -> usize
     ensures { λ r. ⌜ Puts (pair-item first second) (now (out .entry)) at (now (out .exit)) r ⌝ }
 {
     let after_first = put_item(out, at, first);
@@ -149,24 +165,24 @@ pub fn put_byte(out: &mut [u8], at: usize, x: u8) -> usize
     at
 }
 
-// The number below `most` that the digits stand for. Whatever is no such number is read as `most`.
-pub fn read_number(digits: &[u8], most: u16) -> usize
-    ensures { λ r. ⌜ r ≡ number-below most (now (digits .entry)) ⌝ }
+// The number below the limit that the digits stand for. Whatever is no such number is read as the limit.
+pub fn read_number(digits: &[u8], limit: u16) -> usize
+    ensures { λ r. ⌜ r ≡ number-below limit (now (digits .entry)) ⌝ }
 {
-    let limit = most as usize;
+    let past = limit as usize;
     if digits.len() == 0 {
-        return limit;
+        return past;
     }
     let mut x = 0;
     let mut i = 0;
     while i < digits.len() {
         let c = digits[i];
         if !is_digit(c) {
-            return limit;
+            return past;
         }
         x = with_digit(x, c);
-        if x >= limit {
-            return limit;
+        if x >= past {
+            return past;
         }
         i = i + 1;
     }

@@ -20,21 +20,24 @@ abbrev μ-loop : tie.MeasureT-loop
 μ-loop out₀ at multipliers place₀ x₀ out place x = most-columns - x
 
 -- where a turn puts its multiplier
-abbrev multiplier-put : tie.After-slice-known2 Inv-loop μ-loop → tie.After-put-multiplier Inv-loop μ-loop
+abbrev multiplier-put : tie.After-slice-known2 Inv-loop μ-loop → tie.After-put-pair-unless Inv-loop μ-loop
 multiplier-put c = c .before .before
 
 loop-holds : tie.Need-loop-holds Inv-loop μ-loop
 unfolding multiplier-items
 loop-holds c = (omega arith, search needs, putting-none _ _ _)
 
-mul-put-multiplier : tie.Need-mul-put-multiplier Inv-loop μ-loop
-mul-put-multiplier c = search needs
+mul-put-pair-unless : tie.Need-mul-put-pair-unless Inv-loop μ-loop
+mul-put-pair-unless c = search needs
 
-array-read-put-multiplier : tie.Need-array-read-put-multiplier Inv-loop μ-loop
-array-read-put-multiplier c = search needs
+array-read-put-pair-unless : tie.Need-array-read-put-pair-unless Inv-loop μ-loop
+array-read-put-pair-unless c = search needs
 
-put-multiplier-requires : tie.Need-put-multiplier-requires Inv-loop μ-loop
-put-multiplier-requires c κs = search needs
+cast-put-pair-unless : tie.Need-cast-put-pair-unless Inv-loop μ-loop
+cast-put-pair-unless c = search needs
+
+put-pair-unless-requires : tie.Need-put-pair-unless-requires Inv-loop μ-loop
+put-pair-unless-requires c κs = search needs
 
 add-x : tie.Need-add-x Inv-loop μ-loop
 add-x c = search needs
@@ -47,7 +50,7 @@ loop-again c =
     let turn = multiplier-put c .before .before in
     let l = turn .before .loop in
     let multipliers = turn .before .before .before .args .t3 in
-    (omega arith, l .inv .1, putting-next (pair-unless 0 (l .x) (getD multipliers (l .x) 0)) _ (l .inv .2) (pairs-next 0 (l .x) multipliers (omega arith)) (multiplier-put c .put-multiplier .ensures))
+    (omega arith, l .inv .1, putting-next (pair-unless 0 (l .x) (getD multipliers (l .x) 0)) _ (l .inv .2) (pairs-next 0 (l .x) multipliers (omega arith)) (multiplier-put c .put-pair-unless .ensures))
 
 same-length : tie.Need-same-length Inv-loop μ-loop
 same-length c = putting-same (c .before .loop .inv .2)
@@ -65,9 +68,10 @@ put-multipliers-spec =
     Inv-loop
     μ-loop
     loop-holds
-    mul-put-multiplier
-    array-read-put-multiplier
-    put-multiplier-requires
+    mul-put-pair-unless
+    array-read-put-pair-unless
+    cast-put-pair-unless
+    put-pair-unless-requires
     add-x
     loop-less
     loop-again

@@ -19,18 +19,21 @@ abbrev μ-loop : tie.MeasureT-loop
 μ-loop out₀ at rows place₀ r₀ out place r = most-rows - r
 
 -- where a turn puts its row
-abbrev row-put : tie.After-slice-known2 Inv-loop μ-loop → tie.After-put-row Inv-loop μ-loop
+abbrev row-put : tie.After-slice-known2 Inv-loop μ-loop → tie.After-put-pair-unless Inv-loop μ-loop
 row-put c = c .before .before
 
 loop-holds : tie.Need-loop-holds Inv-loop μ-loop
 unfolding row-items
 loop-holds c = (omega arith, search needs, putting-none _ _ _)
 
-array-read-put-row : tie.Need-array-read-put-row Inv-loop μ-loop
-array-read-put-row c = search needs
+array-read-put-pair-unless : tie.Need-array-read-put-pair-unless Inv-loop μ-loop
+array-read-put-pair-unless c = search needs
 
-put-row-requires : tie.Need-put-row-requires Inv-loop μ-loop
-put-row-requires c κs = search needs
+cast-put-pair-unless : tie.Need-cast-put-pair-unless Inv-loop μ-loop
+cast-put-pair-unless c = search needs
+
+put-pair-unless-requires : tie.Need-put-pair-unless-requires Inv-loop μ-loop
+put-pair-unless-requires c κs = search needs
 
 add-r : tie.Need-add-r Inv-loop μ-loop
 add-r c = search needs
@@ -43,7 +46,7 @@ loop-again c =
     let turn = row-put c .before .before in
     let l = turn .before .loop in
     let rows = turn .before .before .before .args .t3 in
-    (omega arith, l .inv .1, putting-next (pair-unless no-column (l .r) (getD rows (l .r) 0)) _ (l .inv .2) (pairs-next no-column (l .r) rows (omega arith)) (row-put c .put-row .ensures))
+    (omega arith, l .inv .1, putting-next (pair-unless no-column (l .r) (getD rows (l .r) 0)) _ (l .inv .2) (pairs-next no-column (l .r) rows (omega arith)) (row-put c .put-pair-unless .ensures))
 
 same-length : tie.Need-same-length Inv-loop μ-loop
 same-length c = putting-same (c .before .loop .inv .2)
@@ -61,8 +64,9 @@ put-rows-spec =
     Inv-loop
     μ-loop
     loop-holds
-    array-read-put-row
-    put-row-requires
+    array-read-put-pair-unless
+    cast-put-pair-unless
+    put-pair-unless-requires
     add-r
     loop-less
     loop-again

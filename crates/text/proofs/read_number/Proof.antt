@@ -1,4 +1,4 @@
--- `text::read_number` meets its contract. The invariant: what was read, x, is at most the limit, and what is read on from place i comes to the number. The
+-- `text::read_number` meets its contract. The invariant: what was read, x, is at limit the past, and what is read on from place i comes to the number. The
 -- measure is how many bytes are left. Assumes nothing.
 use Prim.Native.Nat.{ℕ, _+_, _-_, _≤_}
 use mathlib.Core.List.{_∷_}
@@ -15,10 +15,10 @@ use Rattle.text.proofs.read_number.Statement.{statement}
 use Rattle.text.proofs.read_number.Tie as tie
 
 abbrev Inv-loop : tie.InvT-loop
-Inv-loop digits most limit x₀ i₀ x i = (i ≤ length digits) × (x ≤ limit) × (limit ≡ most) × (number-below most digits ≡ read-on most x (drop i digits))
+Inv-loop digits limit past x₀ i₀ x i = (i ≤ length digits) × (x ≤ past) × (past ≡ limit) × (number-below limit digits ≡ read-on limit x (drop i digits))
 
 abbrev μ-loop : tie.MeasureT-loop
-μ-loop digits most limit x₀ i₀ x i = length digits - i
+μ-loop digits limit past x₀ i₀ x i = length digits - i
 
 -- where a turn begins, seen from the test of its byte and from behind its digit
 abbrev turn : tie.After-is-digit Inv-loop μ-loop → tie.In-loop Inv-loop μ-loop
@@ -33,11 +33,11 @@ begun c = c .before .before .before
 
 -- the byte of the turn is the next that is left
 next : (k : tie.In-loop Inv-loop μ-loop) → let l = k .before .loop in let a = begun (k .before) .args in
-    number-below (a .most) (a .digits .now) ≡ read-on (a .most) (l .x) (getD (a .digits .now) (l .i) 0 ∷ drop (l .i + 1) (a .digits .now))
+    number-below (a .limit) (a .digits .now) ≡ read-on (a .limit) (l .x) (getD (a .digits .now) (l .i) 0 ∷ drop (l .i + 1) (a .digits .now))
 next k =
     let l = k .before .loop in
     let a = begun (k .before) .args in
-    l .inv .3 ∙ ap (read-on (a .most) (l .x)) (drop-cons (a .digits .now) (l .i) 0 (k .loop-test .taken) ∙ rw (add-one (l .i)) refl)
+    l .inv .3 ∙ ap (read-on (a .limit) (l .x)) (drop-cons (a .digits .now) (l .i) 0 (k .loop-test .taken) ∙ rw (add-one (l .i)) refl)
 
 returns : tie.Need-returns Inv-loop μ-loop
 returns c = sym (number-empty _ _ (c .if1 .taken))
@@ -63,13 +63,13 @@ with-digit-requires c κs =
 
 -- a digit taken in
 digit-read : (d : tie.After-with-digit Inv-loop μ-loop) → let l = turn (tested d) .before in let a = begun l .args in
-    number-below (a .most) (a .digits .now) ≡ read-on (a .most) (d .with-digit .result) (drop (l .loop .i + 1) (a .digits .now))
+    number-below (a .limit) (a .digits .now) ≡ read-on (a .limit) (d .with-digit .result) (drop (l .loop .i + 1) (a .digits .now))
 digit-read d =
     let t = tested d in
     let l = turn t .before in
     let a = begun l .args in
     let one = sym (t .is-digit .ensures) ∙ not-false _ (d .before .if2 .left) in
-    next (turn t) ∙ read-digit (a .most) _ _ _ one ∙ ap (λ (y : ℕ). read-on (a .most) y (drop (l .loop .i + 1) (a .digits .now))) (sym (d .with-digit .ensures))
+    next (turn t) ∙ read-digit (a .limit) _ _ _ one ∙ ap (λ (y : ℕ). read-on (a .limit) y (drop (l .loop .i + 1) (a .digits .now))) (sym (d .with-digit .ensures))
 
 returns-3 : tie.Need-returns-3 Inv-loop μ-loop
 returns-3 c = let d = c .before in sym (digit-read d ∙ read-beyond _ _ _ (c .if3 .taken))
