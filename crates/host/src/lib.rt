@@ -4,6 +4,7 @@ ghost use mathlib.Core.Path.{_≡_};
 ghost use Prim.Native.Nat.{_≤_};
 ghost use lib.ListN.{length};
 ghost use Rattle.limits.specs.Limits.{most-rows};
+ghost use Rattle.counting.specs.Sets.{indicator};
 ghost use Rattle.columns.specs.ColumnSets.{whole};
 ghost use Rattle.format.specs.Lists.{over};
 ghost use Rattle.host.specs.AreaCall.{PutOver};
@@ -104,5 +105,15 @@ pub fn put_mixed(out: &mut [u8], answer: MixedAnswer) -> u32
         answer.columns,
         answer.short,
     );
+    0
+}
+
+// 1 where it holds, 0 where not.
+pub fn flag(holds: bool) -> u8
+    ensures { λ r. ⌜ r ≡ indicator holds ⌝ }
+{
+    if holds {
+        return 1;
+    }
     0
 }

@@ -171,6 +171,9 @@ module _ {due given : ℕ} {R A : Type 0} where
   pub call-refused : given ≡ due → given ≢ 0 → R → RankCall due given R A
   call-refused e h x = record { is-refusal = e; if-refused = λ _. x; if-accepted = λ z. absurd (h (e ∙ z)) }
 
+  pub call-answered : due ≡ 0 → given ≡ 0 → A → RankCall due given R A
+  call-answered e h x = record { is-refusal = h ∙ sym e; if-refused = λ z. absurd (z e); if-accepted = λ _. x }
+
   -- the same call by another name
   pub call-as : {due′ : ℕ} {A′ : Type 0} → due ≡ due′ → (A → A′) → RankCall due given R A → RankCall due′ given R A′
   call-as e f h = record { is-refusal = h .is-refusal ∙ e; if-refused = λ z. h .if-refused (λ y. z (sym e ∙ y)); if-accepted = λ z. f (h .if-accepted (e ∙ z)) }

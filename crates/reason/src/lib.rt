@@ -1,7 +1,6 @@
 // The reason for an unplaced column, of a model handed over or in a file; and the bytes of the answer.
 ghost use mathlib.Core.Path.{_≡_};
 ghost use mathlib.Core.Option.{none};
-ghost use Rattle.counting.specs.Sets.{indicator};
 ghost use Rattle.columns.specs.ColumnSets.{row-numbers};
 ghost use Rattle.format.specs.Numbers.{lent};
 ghost use Rattle.format.specs.TestLaws.{Accepted};
@@ -16,6 +15,7 @@ use exchange::solve;
 use format::judge_model;
 use format::put_set;
 use format::refusals;
+use host::flag;
 use limits::MOST_COLUMNS;
 use limits::MOST_CONSTANTS;
 use limits::SET_BYTES;
@@ -148,16 +148,6 @@ pub fn file_reason(file: &[u8], column: usize) -> Reason
         &parameters,
         column,
     )
-}
-
-// 1 where it holds, 0 where not.
-fn flag(holds: bool) -> u8
-    ensures { λ r. ⌜ r ≡ indicator holds ⌝ }
-{
-    if holds {
-        return 1;
-    }
-    0
 }
 
 // The bytes of an answer: the set, whether multipliers are given, and two for each multiplier.

@@ -10,7 +10,7 @@ use Rattle.rank.specs.Layered.Rank.{placed}
 use Rattle.exchange.specs.Solve.{SolvedBy}
 use Rattle.format.specs.TestLaws.{accepted-model}
 use Rattle.layered.proofs.AnswerLaws.{shows-model, accepted-taken}
-use Rattle.layered.proofs.FileLaws.{call-refused}
+use Rattle.layered.proofs.FileLaws.{call-refused, call-answered}
 use Rattle.reason.proofs.QuestionLaws.{beyond-refused, placed-refused, unplaced-passes}
 use borrow.Author.Needs.{needs}
 use Rattle.reason.proofs.ask.Statement.{statement}
@@ -83,11 +83,7 @@ returns-3 c =
     let k = c .before .before in
     let s = answered k in
     let zero = unplaced-passes (asked s) (begun s .args .column) (below s) (sym (found k) ∙ c .before .if2 .left) in
-    record {
-      is-refusal = c .explain .ensures .no-refusal ∙ zero;
-      if-refused = λ z. absurd (z (sym zero));
-      if-accepted = λ z. c .explain .ensures .answer;
-    }
+    call-answered (sym zero) (c .explain .ensures .no-refusal) (c .explain .ensures .answer)
 
 pub ask-spec : {M : Type 1} → statement M
 ask-spec =

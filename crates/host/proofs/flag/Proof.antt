@@ -1,8 +1,8 @@
--- `reason::flag` meets its contract. Assumes nothing.
+-- `host::flag` meets its contract. Assumes nothing.
 use mathlib.Core.Path.{sym, ap}
 use Rattle.counting.specs.Sets.{indicator}
-use Rattle.reason.proofs.flag.Statement.{statement}
-use Rattle.reason.proofs.flag.Tie as tie
+use Rattle.host.proofs.flag.Statement.{statement}
+use Rattle.host.proofs.flag.Tie as tie
 
 returns : tie.Need-returns
 unfolding indicator

@@ -1,0 +1,3 @@
+pub mod SeatLaws
+pub mod SumLaws
+pub mod HoldLaws
