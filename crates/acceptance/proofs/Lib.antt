@@ -1,3 +1,4 @@
 pub mod SeatLaws
 pub mod SumLaws
 pub mod HoldLaws
+pub mod ByteLaws

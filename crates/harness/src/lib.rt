@@ -9,7 +9,12 @@ ghost use Rattle.columns.specs.ColumnSets.{row-numbers};
 ghost use Rattle.format.specs.Numbers.{lent};
 ghost use Rattle.format.specs.File.Format.{WriteCall};
 ghost use Rattle.touching.specs.RowCount.{touching-count};
-ghost use Rattle.harness.specs.Calls.{LayeredBytes, MixedBytes, MultipliersBytes, ReasonBytes, FileInAreas};
+ghost use Rattle.harness.specs.Calls.{LayeredBytes, MixedBytes, MultipliersBytes, ReasonBytes, AcceptanceCallBytes, FileInAreas};
+use acceptance::CLAIM_LENGTH;
+use acceptance::model_acceptance;
+use acceptance::put_acceptance;
+use acceptance::read_claim;
+use format::refusals;
 use host::put_answer;
 use host::put_mixed;
 use layered::layered_rank;
@@ -123,6 +128,33 @@ pub extern "C" fn harness_reason(
         return r.refusal;
     }
     put_reason(answer, r)
+}
+
+// The byte of the answer about a claim, whose bytes are handed over.
+#[no_mangle]
+pub extern "C" fn harness_accepts(
+    p: u32,
+    n: usize,
+    a: usize,
+    b: usize,
+    constants: &[u16],
+    parameters: &[u64],
+    numbered: bool,
+    numbers: &[u16],
+    claim: &[u8],
+    answer: &mut [u8],
+) -> u32
+    ensures { λ r. ⌜ AcceptanceCallBytes p n a b (now (constants .entry)) (row-numbers (now (parameters .entry))) (lent numbered (now (numbers .entry))) (now (claim .entry)) (now (answer .entry)) r (now (answer .exit)) ⌝ }
+{
+    let c = read_claim(claim);
+    let r = model_acceptance(p, n, a, b, constants, parameters, numbered, numbers, c);
+    if r.refusal != 0 {
+        return r.refusal;
+    }
+    if claim.len() < CLAIM_LENGTH {
+        return refusals::AREA_SHORT;
+    }
+    put_acceptance(answer, r)
 }
 
 // The bytes of the model's file; what a C caller does not see is how many they are.

@@ -1,4 +1,4 @@
--- Document 01, "The host and the program", and document 02, E1 and E2: the calls for a host in C. Definitions only.
+-- Document 01, "The host and the program", and document 02, E1, E2 and E12: the calls for a host in C. Definitions only.
 use Prim.Native.Nat.{ℕ}
 use mathlib.Core.List.{List, []}
 use lib.ListN.{length, take}
@@ -16,6 +16,7 @@ use Rattle.multipliers.specs.Answers.{column-question, FileAnswered}
 use Rattle.multipliers.specs.Bytes.{multipliers-length, multipliers-bytes}
 use Rattle.reason.specs.Answers.{reason-question, FileReason}
 use Rattle.reason.specs.Bytes.{reason-length, reason-bytes}
+use Rattle.acceptance.specs.Bytes.{claim-length, AcceptanceOf, acceptance-length, acceptance-bytes}
 
 -- the layered call: 1 to 7 and 13 as the file is judged, then 8 for the area; where it refuses, the area is as it was
 abbrev pub HostAnswer : (file area : List ℕ) (number : ℕ) (area′ : List ℕ) → Type 0
@@ -41,3 +42,11 @@ HostMultipliers file held x =
 -- the call about the reason for column x: 1 to 7 and 13, then 8, then 11, then 12
 abbrev pub HostReason : (file : List ℕ) (x : ℕ) (area : List ℕ) (number : ℕ) (area′ : List ℕ) → Type 0
 HostReason file x = AreaCall (closed fields file) (reason-question (file-model file) x) reason-length (WrittenOver (FileReason file x) reason-bytes)
+
+-- what the call about a claim asks: 8 for too short an area of the claim
+abbrev pub claim-question : (claim : List ℕ) → Tests
+claim-question claim = unless (area-test claim-length (length claim)) area-short
+
+-- the call about a claim: 1 to 7 and 13, then 8 for both areas; no claim is refused
+abbrev pub HostAccepts : (file claim area : List ℕ) (number : ℕ) (area′ : List ℕ) → Type 0
+HostAccepts file claim = AreaCall (closed fields file) (claim-question claim) acceptance-length (WrittenOver (AcceptanceOf (file-model file) claim) acceptance-bytes)

@@ -4,7 +4,12 @@ ghost use mathlib.Core.Bool.{false};
 ghost use Rattle.format.specs.Refusals.{unless, _then_, first-refusal, area-short};
 ghost use Rattle.format.specs.File.Piece.{closed};
 ghost use Rattle.format.specs.File.Format.{fields};
-ghost use Rattle.solvability.specs.Host.{HostAnswer, HostMixedAnswer, HostMultipliers, HostReason};
+ghost use Rattle.solvability.specs.Host.{HostAnswer, HostMixedAnswer, HostMultipliers, HostReason, HostAccepts};
+use acceptance::ACCEPTANCE_LENGTH;
+use acceptance::CLAIM_LENGTH;
+use acceptance::file_acceptance;
+use acceptance::put_acceptance;
+use acceptance::read_claim;
 use format::judge_file;
 use format::refusals;
 use host::MIXED_LENGTH;
@@ -98,4 +103,23 @@ pub extern "C" fn wundreska_reason(file: &[u8], column: usize, answer: &mut [u8]
         return r.refusal;
     }
     put_reason(answer, r)
+}
+
+// Judges the file, then both areas; where all are accepted, writes whether the claim is accepted over the front of the answer's area.
+// Of the area of the claim its bytes alone are read.
+#[no_mangle]
+pub extern "C" fn wundreska_accepts(file: &[u8], claim: &[u8], answer: &mut [u8]) -> u32
+    ensures { λ r. ⌜ HostAccepts (now (file .entry)) (now (claim .entry)) (now (answer .entry)) r (now (answer .exit)) ⌝ }
+{
+    if answer.len() < ACCEPTANCE_LENGTH {
+        return refuse_area(file);
+    }
+    if claim.len() < CLAIM_LENGTH {
+        return refuse_area(file);
+    }
+    let r = file_acceptance(file, read_claim(claim));
+    if r.refusal != 0 {
+        return r.refusal;
+    }
+    put_acceptance(answer, r)
 }
