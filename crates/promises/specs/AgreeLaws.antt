@@ -121,7 +121,7 @@ module _ (q : ℕ) (P : Prime q) (n a b : ℕ) (E : Set) where
     touched-same : (J : Set) → # b (touching n T J) ≡ # b (touching n T′ J)
     touched-same J = #-ext b (touching n T J) (touching n T′ J) (λ r l. iff-eq _ _ (touching-to Q Q′ T T′ e J r l) (touching-to Q′ Q T′ T (agree-sym e) J r l))
 
-    sum-same : (J : Set) → sum N J ≡ sum N′ J
+    pub sum-same : (J : Set) → sum N J ≡ sum N′ J
     unfolding sum constant-rank
     sum-same J = ap₂ (λ (f : Set → Bool) (k : ℕ). largest-part n J (λ S. cond (f S) (# n S) 0) + k + # n (∁ J ∩ E)) indep-same (touched-same J)
 

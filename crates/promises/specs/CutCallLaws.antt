@@ -28,7 +28,8 @@ use Rattle.multipliers.specs.Answers.{FileAnswered}
 use Rattle.multipliers.specs.Bytes.{multipliers-length, multipliers-bytes}
 use Rattle.reason.specs.Answers.{reason-question, FileReason}
 use Rattle.reason.specs.Bytes.{reason-length, reason-bytes}
-use Rattle.solvability.specs.Host.{HostAnswer, HostMixedAnswer, set-shown, multipliers-question, HostMultipliers, HostReason}
+use Rattle.acceptance.specs.Bytes.{AcceptanceOf, acceptance-length, acceptance-bytes}
+use Rattle.solvability.specs.Host.{HostAnswer, HostMixedAnswer, set-shown, multipliers-question, HostMultipliers, HostReason, claim-question, HostAccepts}
 use Rattle.text.specs.Text.{refused-line, Prints}
 use Rattle.text.specs.declared.Printed.{Printed}
 use Rattle.report.specs.FileReport.{Reports, FileReport}
@@ -134,6 +135,9 @@ module _ (k : ℕ) (s : List ℕ) (bytes : AreBytes s) (h : longest-file < k) wh
 
   pub host-reason-cut : (x : ℕ) (area : List ℕ) (number : ℕ) (area′ : List ℕ) → HostReason (take k s) x area number area′ → HostReason s x area number area′
   host-reason-cut x = area-cut (λ t. reason-question (file-model t) x) reason-length (λ t. WrittenOver (FileReason t x) reason-bytes)
+
+  pub host-accepts-cut : (claim area : List ℕ) (number : ℕ) (area′ : List ℕ) → HostAccepts (take k s) claim area number area′ → HostAccepts s claim area number area′
+  host-accepts-cut claim = area-cut (λ t. claim-question claim) acceptance-length (λ t. WrittenOver (AcceptanceOf (file-model t) claim) acceptance-bytes)
 
   -- ---- the reports
 

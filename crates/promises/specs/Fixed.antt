@@ -1,10 +1,10 @@
 -- Two answers that agree in all that the promises fix: in everything but the two results that document 01 leaves open. Definitions only.
-use Prim.Native.Nat.{ℕ}
 use mathlib.Core.Path.{_≡_}
 use Rattle.columns.specs.ColumnSets.{whole}
 use Rattle.layered.specs.declared.Answer.{Answer}
 use Rattle.mixed.specs.declared.MixedAnswer.{MixedAnswer}
 use Rattle.reason.specs.declared.Reason.{Reason}
+use Rattle.acceptance.specs.declared.Acceptance.{Acceptance}
 
 -- layered answers; open is which side and row a placed column takes
 pub record SameAnswer (r s : Answer) : Type 0 where
@@ -39,6 +39,11 @@ pub record SameReason (r s : Reason) : Type 0 where
   pub same-set : whole (r .set) ≡ whole (s .set)
   pub same-given : r .given ≡ s .given
   pub same-multipliers : r .multipliers ≡ s .multipliers
+
+-- answers about a claim; nothing is open
+pub record SameAcceptance (r s : Acceptance) : Type 0 where
+  pub same-refusal : r .refusal ≡ s .refusal
+  pub same-accepted : r .accepted ≡ s .accepted
 
 -- two results show two answers that agree so
 pub record TwoShown {A : Type 0} (Same : A → A → Type 0) (Shows Also : A → Type 0) : Type 0 where

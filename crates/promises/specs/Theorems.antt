@@ -4,7 +4,7 @@ use mathlib.Core.Path.{_≡_, refl, sym, _∙_, subst}
 use mathlib.Core.Bool.{Bool, true, false}
 use mathlib.Core.Option.{Option, none, some}
 use mathlib.Core.Logic.{_≢_, _↔_, _⊎_}
-use mathlib.Core.List.{List, [], flatten}
+use mathlib.Core.List.{List, [], _∷_, _++_, flatten}
 use native.Mathlib.Omega.{arith}
 use lib.ListN.{length, getD, take}
 use lib.Seq.{take-take}
@@ -15,13 +15,14 @@ use Rattle.columns.specs.ColumnSets.{whole, Fits, row-numbers}
 use Rattle.columns.specs.declared.ColumnSet.{ColumnSet}
 use Rattle.columns.specs.Words.Rows.{rows-below}
 use Rattle.columns.specs.Words.Bytes.{AreBytes}
-use Rattle.rank.specs.Layered.Model.{Model}
-use Rattle.rank.specs.Layered.Rank.{constant-rank, short}
+use Rattle.rank.specs.Layered.Model.{Model, Assignment, Legal, size}
+use Rattle.rank.specs.Layered.Rank.{constant-rank, rank, short}
 use Rattle.rank.specs.ListedModel.{listed-model}
 use Rattle.rank.specs.ListedModelLaws.{OnlyZero}
 use Rattle.dependence.specs.PlainNumbers.{SumsTo}
 use Rattle.blocking.specs.Reason.{Blocking, BlockedWith}
 use Rattle.blocking.specs.Theorems.{short-is-all-reasons}
+use Rattle.claims.specs.Claim.{Shows}
 use Rattle.mixed_models.specs.Mixed.{Mixed, mixed}
 use Rattle.mixed_models.specs.MixedRowUse.{UsesEveryRow, LeavesRow}
 use Rattle.mixed_models.specs.MixedVerdicts.{mixed-determined-uses-every-row, mixed-surplus-leaves-a-row}
@@ -39,26 +40,31 @@ use Rattle.loader.specs.FileRead.{FileRead}
 use Rattle.loader.specs.declared.header.Sizes.{Sizes}
 use Rattle.writer.specs.FileWritten.{FileWritten}
 use Rattle.writer.specs.declared.Written.{Written}
-use Rattle.layered.specs.Answers.{AnswerShown, Answered, LayeredCall}
+use Rattle.layered.specs.Answers.{AnswerShown, Answered, LayeredCall, LayeredFileCall}
 use Rattle.layered.specs.declared.Answer.{Answer}
 use Rattle.layered.specs.FileModel.{file-model}
 use Rattle.mixed.specs.MixedAnswers.{MixedAnswered, MixedCall, file-mixed}
 use Rattle.mixed.specs.declared.MixedAnswer.{MixedAnswer}
-use Rattle.promises.specs.Fixed.{SameAnswer, SameMixed, SameReason}
+use Rattle.promises.specs.Fixed.{SameAnswer, SameMixed, SameReason, SameAcceptance}
 use Rattle.multipliers.specs.Answers.{MultipliersCall, MultipliersFileCall}
 use Rattle.multipliers.specs.Bytes.{multipliers-bytes}
 use Rattle.multipliers.specs.declared.Multipliers.{Multipliers}
 use Rattle.reason.specs.Answers.{ReasonAnswered, ReasonCall, ReasonFileCall}
 use Rattle.reason.specs.Bytes.{reason-bytes}
 use Rattle.reason.specs.declared.Reason.{Reason}
-use Rattle.solvability.specs.Host.{HostAnswer, HostMixedAnswer, set-shown, HostMultipliers, HostReason}
+use Rattle.acceptance.specs.Answers.{AcceptanceCall, AcceptanceFileCall}
+use Rattle.acceptance.specs.Bytes.{claim-length, claim-rank, ClaimShown, acceptance-bytes}
+use Rattle.acceptance.specs.declared.Claim.{Claim}
+use Rattle.acceptance.specs.declared.Acceptance.{Acceptance}
+use Rattle.host.specs.AnswerBytes.{answer-bytes}
+use Rattle.solvability.specs.Host.{HostAnswer, HostMixedAnswer, set-shown, HostMultipliers, HostReason, HostAccepts}
 use Rattle.text.specs.declared.Printed.{Printed}
 use Rattle.report.specs.FileReport.{FileReport}
 use Rattle.mixed_report.specs.MixedReport.{MixedFileReport}
 use Rattle.reason_report.specs.ReasonReport.{ReasonFileReport}
 use Rattle.promises.specs.TripLaws.{read-then-written, written-then-read}
 use Rattle.promises.specs.CutLaws.{judge-cut}
-use Rattle.promises.specs.CutCallLaws.{reading-cut, rows-reading-cut, host-cut, host-mixed-cut, host-multipliers-cut, host-reason-cut, report-cut, mixed-report-cut, reason-report-cut}
+use Rattle.promises.specs.CutCallLaws.{reading-cut, rows-reading-cut, host-cut, host-mixed-cut, host-multipliers-cut, host-reason-cut, host-accepts-cut, report-cut, mixed-report-cut, reason-report-cut}
 use Rattle.promises.specs.AnswerLaws.{refusal-same, mixed-refusal-same, write-same, layered-same, mixed-same}
 use Rattle.promises.specs.NumberingLaws.{numbers-front, front-same, named, mixed-unnumbered, picked-same, without-numbers, file-unnumbered}
 use Rattle.promises.specs.RowLaws.{determined-rows, surplus-rows}
@@ -69,6 +75,9 @@ use Rattle.promises.specs.MultiplierCallLaws.{file-call, host-call, held
 use Rattle.promises.specs.ReasonLaws.{set-blocks, set-unique, set-lacks-one, set-has-the-column, set-inside-short, set-inside-reported, given-iff, none-given, not-zero, as-multipliers-call, says as reason-says}
 use Rattle.promises.specs.ReasonCallLaws.{reason-file-call, reason-host-call}
 use Rattle.promises.specs.ReasonSameLaws.{reason-calls-same}
+use Rattle.promises.specs.AcceptanceLaws.{claim-of, rank-accepted, reported-accepted, own-claim-accepted, any-claim-accepted}
+use Rattle.promises.specs.AcceptanceSameLaws.{acceptance-calls-same}
+use Rattle.promises.specs.AcceptanceCallLaws.{acceptance-file-call, acceptance-host-call, own-in-a-file, own-from-C, rank-from-C, claim-bytes, claim-surplus}
 use Rattle.promises.specs.DocumentFile.{document-file, document-accepted, document-model}
 
 -- ---- read and written, written and read
@@ -135,6 +144,10 @@ pub cut-input-host-reason : (k : ℕ) (s : List ℕ) → AreBytes s → longest-
     → (x : ℕ) (area : List ℕ) (number : ℕ) (area′ : List ℕ) → HostReason (take k s) x area number area′ → HostReason s x area number area′
 cut-input-host-reason = host-reason-cut
 
+pub cut-input-host-accepts : (k : ℕ) (s : List ℕ) → AreBytes s → longest-file < k
+    → (claim area : List ℕ) (number : ℕ) (area′ : List ℕ) → HostAccepts (take k s) claim area number area′ → HostAccepts s claim area number area′
+cut-input-host-accepts = host-accepts-cut
+
 -- and of the reports that the programs write.
 pub cut-input-report : (k : ℕ) (s : List ℕ) → AreBytes s → longest-file < k
     → (area : List ℕ) (r : Printed) (area′ : List ℕ) → FileReport (take k s) area r area′ → FileReport s area r area′
@@ -181,6 +194,10 @@ module _ (p n a b : ℕ) (cs ws : List ℕ) (ns : Option (List ℕ)) where
   pub surplus-not-read-reason : (x : ℕ) {r s : Reason} → ReasonCall p n a b cs ws ns x r → ReasonCall p n a b (take (a * n) cs) (take b ws) front-numbers x s → SameReason r s
   surplus-not-read-reason x = reason-calls-same p n a b cs (take (a * n) cs) ws (take b ws) cut-cs cut-ws x ns front-numbers surplus-not-tested
 
+  -- nor whether a claim is accepted,
+  pub surplus-not-read-acceptance : (c : Claim) (r s : Acceptance) → AcceptanceCall p n a b cs ws ns c r → AcceptanceCall p n a b (take (a * n) cs) (take b ws) front-numbers c s → SameAcceptance r s
+  surplus-not-read-acceptance c = acceptance-calls-same p n a b cs (take (a * n) cs) ws (take b ws) cut-cs cut-ws c ns front-numbers surplus-not-tested
+
   -- nor the mixed answer.
   pub surplus-not-read-mixed : {r s : MixedAnswer} → MixedCall p n a b cs ws ns r → MixedCall p n a b (take (a * n) cs) (take b ws) front-numbers s → SameMixed r s
   surplus-not-read-mixed = mixed-same p n a b cs (take (a * n) cs) ws (take b ws) cut-cs cut-ws ns front-numbers surplus-not-tested-mixed
@@ -214,6 +231,10 @@ module _ (p n a b : ℕ) (cs ws ks : List ℕ) where
   -- No reason for a column changes either.
   pub numbers-change-no-reason : refusal p n a b cs ws (some ks) ≡ 0 → (x : ℕ) {r s : Reason} → ReasonCall p n a b cs ws (some ks) x r → ReasonCall p n a b cs ws none x s → SameReason r s
   numbers-change-no-reason e x = reason-calls-same p n a b cs cs ws ws refl refl x (some ks) none (e ∙ sym (numbers-only-refuse e))
+
+  -- The same claims are accepted.
+  pub numbers-change-no-acceptance : refusal p n a b cs ws (some ks) ≡ 0 → (c : Claim) (r s : Acceptance) → AcceptanceCall p n a b cs ws (some ks) c r → AcceptanceCall p n a b cs ws none c s → SameAcceptance r s
+  numbers-change-no-acceptance e c = acceptance-calls-same p n a b cs cs ws ws refl refl c (some ks) none (e ∙ sym (numbers-only-refuse e))
 
   -- An entry without a parameter is not read: another area with the same numbers at the parameters is refused alike,
   module _ (js : List ℕ) (rows : b ≤ length ws) (room : b * n ≤ length ks) (room′ : b * n ≤ length js)
@@ -369,6 +390,55 @@ reason-file-call-is-of-its-model = reason-file-call
 pub reason-host-call-is-of-its-file : (s : List ℕ) (x : ℕ) (area area′ : List ℕ) → HostReason s x area 0 area′
     → AnswerShown (λ r. (r .refusal ≡ 0) × ReasonFileCall s x r) (λ r. area′ ≡ over (reason-bytes r) area)
 reason-host-call-is-of-its-file = reason-host-call
+
+-- ---- claims
+
+-- A call about a claim
+module _ (p n a b : ℕ) (cs ws : List ℕ) (ns : Option (List ℕ)) (c : Claim) (r : Acceptance) (call : AcceptanceCall p n a b cs ws ns c r) where
+  -- An accepted rank is the model's rank, whoever sent it,
+  pub accepted-claim-has-the-rank : r .accepted ≡ true → c .rank ≡ rank (listed-model p n a b cs ws)
+  accepted-claim-has-the-rank = rank-accepted c r call
+
+  -- and so the one that the layered call reports; and the accepted set has every column that it reports as short.
+  pub accepted-claim-agrees-with-the-answer : r .accepted ≡ true → (s : Answer) → LayeredCall p n a b cs ws ns s → (s .refusal ≡ 0) × (c .rank ≡ s .rank) × (members (whole (s .short)) ⊆ members (whole (c .set)))
+  accepted-claim-agrees-with-the-answer e s answer = reported-accepted c r call s answer e
+
+  -- The answer that the layered call gives is accepted as a claim,
+  pub own-answer-accepted : (s : Answer) → LayeredCall p n a b cs ws ns s → s .refusal ≡ 0 → c ≡ claim-of s → (r .refusal ≡ 0) × (r .accepted ≡ true)
+  own-answer-accepted s answer ok = let h = model-accepted p n a b cs ws ns (sym (answer .is-refusal) ∙ ok) in own-claim-accepted c r call s answer ok (h .n-most) (h .b-most)
+
+  -- and so are its rank and its short set with any legal assignment of that size.
+  pub any-legal-assignment-accepted : (s : Answer) → LayeredCall p n a b cs ws ns s → s .refusal ≡ 0 → c .rank ≡ s .rank → whole (c .set) ≡ whole (s .short)
+      → (A : Assignment) → Shows (members (whole (c .constants))) (c .rows) A → Legal (listed-model p n a b cs ws) A → size (listed-model p n a b cs ws) A ≡ s .rank → (r .refusal ≡ 0) × (r .accepted ≡ true)
+  any-legal-assignment-accepted s answer ok = any-claim-accepted c r call s answer ok
+
+-- All this holds of files and from C too. A call on a file that is accepted is the call on the file's model, handed over;
+pub acceptance-file-call-is-of-its-model : (s : List ℕ) → AreBytes s → (c : Claim) (r : Acceptance) → AcceptanceFileCall s c r → r .refusal ≡ 0
+    → AcceptanceCall (decode s .p) (decode s .n) (decode s .a) (decode s .b) (flatten (decode s .constants)) (decode s .parameters) none c r
+acceptance-file-call-is-of-its-model = acceptance-file-call
+
+-- the answer to a file is accepted as a claim about it;
+pub own-answer-accepted-in-a-file : (s : List ℕ) → AreBytes s → (t : Answer) → LayeredFileCall s t → t .refusal ≡ 0 → (r : Acceptance) → AcceptanceFileCall s (claim-of t) r → (r .refusal ≡ 0) × (r .accepted ≡ true)
+own-answer-accepted-in-a-file = own-in-a-file
+
+-- a host's call that is accepted writes the byte of an answer of the call on its file, about the claim that the bytes show;
+pub acceptance-host-call-is-of-its-file : (s claim area area′ : List ℕ) → HostAccepts s claim area 0 area′ → (c : Claim) → ClaimShown claim c
+    → AnswerShown (λ r. (r .refusal ≡ 0) × AcceptanceFileCall s c r) (λ r. area′ ≡ over (acceptance-bytes r) area)
+acceptance-host-call-is-of-its-file = acceptance-host-call
+
+-- where that byte is 1, the rank in the claim's bytes is the rank of the file's model;
+pub accepted-from-C-has-the-rank : (s claim area area′ : List ℕ) → HostAccepts s claim area 0 area′ → getD area′ 0 0 ≡ 1 → claim-rank claim ≡ rank (file-model s)
+accepted-from-C-has-the-rank = rank-from-C
+
+-- and it is 1 where a host puts the bytes of its own answer together as a claim, with anything behind them.
+pub own-answer-accepted-from-C : (s : List ℕ) → AreBytes s → (area area′ : List ℕ) → HostAnswer s area 0 area′ → AnswerShown (Answered (file-model s)) (λ t.
+    (area′ ≡ over (answer-bytes t) area) × ((rest out out′ : List ℕ) → HostAccepts s (claim-bytes (claim-of t) ++ rest) out 0 out′ → out′ ≡ over (1 ∷ []) out))
+own-answer-accepted-from-C = own-from-C
+
+-- What stands in the area behind a claim's bytes changes nothing.
+pub claim-surplus-not-read : (s claim other : List ℕ) → take claim-length claim ≡ take claim-length other → (area : List ℕ) (number : ℕ) (area′ : List ℕ)
+    → HostAccepts s claim area number area′ → HostAccepts s other area number area′
+claim-surplus-not-read = claim-surplus
 
 -- ---- rows used and left over
 

@@ -1,0 +1,119 @@
+-- What an accepted claim says of the answers that the layered call gives; and that a claim made of such an answer is accepted. Assumes nothing.
+use Prim.Native.Nat.{ℕ, _<_, _≤_}
+use mathlib.Core.Path.{_≡_, refl, sym, ap, _∙_, subst, fun-ext}
+use mathlib.Core.Logic.{inl, inr, by-cases}
+use mathlib.Core.Bool.{true, false, true≢false, false≢true}
+use native.Mathlib.Omega.{arith}
+use native.Mathlib.Decide.{ℕ-discrete, decLt}
+use lib.ListN.{getD}
+use Rattle.limits.specs.Limits.{most-columns, most-rows, no-column}
+use Rattle.counting.specs.Sets.{Set, _∈_, _⊆_}
+use Rattle.counting.specs.Counts.{#-ext}
+use Rattle.columns.specs.Columns.{members}
+use Rattle.columns.specs.ColumnSets.{whole}
+use Rattle.rank.specs.Layered.Model.{Model, Seat, out, constant, row, Assignment, is-constant, placing, Legal, size}
+use Rattle.rank.specs.Layered.Rank.{sum, rank, placed, short}
+use Rattle.rank.specs.Theorems.{short-is-the-smallest, placed-has-the-rank}
+use Rattle.claims.specs.Claim.{Names, Shows, AcceptsClaim}
+use Rattle.claims.specs.ClaimLaws.{named-below, read-below}
+use Rattle.claims.specs.Theorems.{accepted-is-the-rank, short-in-accepted}
+use Rattle.exchange.specs.Solution.{Solved, shown}
+use Rattle.layered.specs.Answers.{Refused, Answered, RankCall}
+use Rattle.layered.specs.declared.Answer.{Answer}
+use Rattle.acceptance.specs.Answers.{ClaimAccepted, AcceptanceRefused, AcceptanceAnswered}
+use Rattle.acceptance.specs.declared.Claim.{Claim}
+use Rattle.acceptance.specs.declared.Acceptance.{Acceptance}
+
+-- the claim that an answer makes: its rank, its assignment and its short set
+abbrev pub claim-of : Answer → Claim
+claim-of s = record { rank = s .rank; constants = s .constants; rows = s .rows; set = s .short }
+
+constant-seat : (t : Seat) → is-constant t ≡ true → t ≡ constant
+constant-seat out e = absurd (false≢true e)
+constant-seat constant e = refl
+constant-seat (row r) e = absurd (false≢true e)
+
+-- ---- an answer of ours
+
+module _ (M : Model) (s : Answer) (h : Answered M s) where
+  -- its rank and short set, with any legal assignment of that size
+  pub any-accepted : (c : Claim) → c .rank ≡ s .rank → whole (c .set) ≡ whole (s .short) → (A : Assignment) → Shows (members (whole (c .constants))) (c .rows) A → Legal M A → size M A ≡ s .rank → ClaimAccepted M c
+  any-accepted c er es A shows legal many =
+      let solved = h .solved in
+      let set-is : members (whole (c .set)) ≡ short M = ap members es ∙ fun-ext (solved .is-short) in
+      record {
+        assignment = A;
+        is-shown = shows;
+        is-accepted = record {
+          is-legal = legal;
+          as-many = many ∙ sym er;
+          columns = λ x e. short-is-the-smallest M .0 x (sym (ap (λ (S : Set). S x) set-is) ∙ e);
+          has-sum = ap (sum M) set-is ∙ short-is-the-smallest M .1 ∙ sym (solved .is-rank) ∙ sym er;
+        };
+      }
+
+  module _ (few : M .n ≤ most-columns) (few-rows : M .b ≤ most-rows) where
+    abbrev A : Assignment
+    A = shown (M .n) (M .b) (members (whole (s .constants))) (s .rows)
+
+    at : (r : ℕ) → r < most-rows → getD (s .rows) r no-column ≡ getD (s .rows) r 0
+    at r l = read-below (s .rows) r no-column 0 (omega (arith, h .row-count))
+
+    -- its own assignment is the one that its side and rows show
+    own-shown : Shows (members (whole (s .constants))) (s .rows) A
+    own-shown =
+        let v = h .solved in
+        record {
+          on-the-side = λ x. ((λ e. v .side-shown x ∙ ap is-constant e), λ o. constant-seat (A x) (sym (v .side-shown x) ∙ o));
+          on-rows = λ x r. (
+            λ e.
+                let p = v .is-legal .parameter x r e in
+                elim (v .rows-shown r (p .0)) [
+                  | inl w ↦ let d : getD (s .rows) r 0 ≡ x = v .is-legal .one-each (getD (s .rows) r 0) x r (w .1) e in (at r (omega (arith, p .0)) ∙ d, λ z. omega (arith, z, d, w .0))
+                  | inr w ↦ absurd (w .1 x e)
+                ],
+            λ m.
+                let l : r < most-rows = omega (arith, h .row-count, named-below (s .rows) r x m) in
+                elim (decLt r (M .b)) [
+                  | yes below ↦ elim (v .rows-shown r below) [
+                    | inl w ↦ subst (λ (y : ℕ). A y ≡ row r) (sym (at r l) ∙ m .0) (w .1)
+                    | inr w ↦ absurd (m .1 (sym (m .0) ∙ at r l ∙ w .0))
+                  ]
+                  | no nb ↦ absurd (m .1 (sym (m .0) ∙ at r l ∙ v .past-rows r (omega arith) l))
+                ],
+          );
+        }
+
+    pub own-accepted : ClaimAccepted M (claim-of s)
+    own-accepted = any-accepted (claim-of s) refl refl A own-shown (h .solved .is-legal)
+        (#-ext (M .n) (placing A) (placed M) (λ x l. h .solved .places-it x) ∙ placed-has-the-rank M ∙ sym (h .solved .is-rank))
+
+-- ---- the call about a claim, beside the layered call on the same model
+
+module _ {due : ℕ} {M : Model} (c : Claim) (r : Acceptance) (call : RankCall due (r .refusal) (AcceptanceRefused r) (AcceptanceAnswered M c r)) where
+  pub claim-accepted : r .accepted ≡ true → (due ≡ 0) × ClaimAccepted M c
+  claim-accepted e = by-cases (ℕ-discrete due 0) (λ z. (z, call .if-accepted z .0 e)) (λ nz. absurd (true≢false (sym e ∙ call .if-refused nz)))
+
+  pub rank-accepted : r .accepted ≡ true → c .rank ≡ rank M
+  rank-accepted e = accepted-is-the-rank M (claim-accepted e .1 .is-accepted)
+
+  accepted-by : due ≡ 0 → ClaimAccepted M c → (r .refusal ≡ 0) × (r .accepted ≡ true)
+  accepted-by z h = (call .is-refusal ∙ z, call .if-accepted z .1 h)
+
+  module _ (s : Answer) (answer : RankCall due (s .refusal) (Refused s) (Answered M s)) where
+    pub reported-accepted : r .accepted ≡ true → (s .refusal ≡ 0) × (c .rank ≡ s .rank) × (members (whole (s .short)) ⊆ members (whole (c .set)))
+    reported-accepted e =
+        let w = claim-accepted e in
+        let h = answer .if-accepted (w .0) in
+        (answer .is-refusal ∙ w .0, rank-accepted e ∙ sym (h .solved .is-rank), λ x m. short-in-accepted M (w .1 .is-accepted) x (sym (h .solved .is-short x) ∙ m))
+
+    module _ (ok : s .refusal ≡ 0) where
+      zero-due : due ≡ 0
+      zero-due = sym (answer .is-refusal) ∙ ok
+
+      pub own-claim-accepted : M .n ≤ most-columns → M .b ≤ most-rows → c ≡ claim-of s → (r .refusal ≡ 0) × (r .accepted ≡ true)
+      own-claim-accepted few few-rows e = accepted-by zero-due (subst (ClaimAccepted M) (sym e) (own-accepted M s (answer .if-accepted zero-due) few few-rows))
+
+      pub any-claim-accepted : c .rank ≡ s .rank → whole (c .set) ≡ whole (s .short) → (A : Assignment) → Shows (members (whole (c .constants))) (c .rows) A → Legal M A → size M A ≡ s .rank
+          → (r .refusal ≡ 0) × (r .accepted ≡ true)
+      any-claim-accepted er es A shows legal many = accepted-by zero-due (any-accepted M s (answer .if-accepted zero-due) c er es A shows legal many)
