@@ -196,7 +196,11 @@ fn holds(
     if constant_rank(p, n, a, constants, side) != columns::size(side) {
         return false;
     }
-    set_sum(p, n, a, b, constants, parameters, set) == rank
+    let total = set_sum(p, n, a, b, constants, parameters, set);
+    if total != rank {
+        return false;
+    }
+    true
 }
 
 // The answer about a model that is judged.

@@ -412,7 +412,15 @@ module _ (p n a b : ℕ) (cs ws : List ℕ) (ns : Option (List ℕ)) (c : Claim)
       → (A : Assignment) → Shows (members (whole (c .constants))) (c .rows) A → Legal (listed-model p n a b cs ws) A → size (listed-model p n a b cs ws) A ≡ s .rank → (r .refusal ≡ 0) × (r .accepted ≡ true)
   any-legal-assignment-accepted s answer ok = any-claim-accepted c r call s answer ok
 
--- All this holds of files and from C too. A call on a file that is accepted is the call on the file's model, handed over;
+  -- The model is refused as the layered call refuses it, with the same number.
+  pub refused-like-a-rank-call : (s : Answer) → LayeredCall p n a b cs ws ns s → r .refusal ≡ s .refusal
+  refused-like-a-rank-call s answer = call .is-refusal ∙ sym (answer .is-refusal)
+
+-- All this holds of files and from C too. A file is refused as the layered call refuses it;
+pub file-refused-like-a-rank-call : (s : List ℕ) (c : Claim) (r : Acceptance) → AcceptanceFileCall s c r → (t : Answer) → LayeredFileCall s t → r .refusal ≡ t .refusal
+file-refused-like-a-rank-call s c r call t answer = call .is-refusal ∙ sym (answer .is-refusal)
+
+-- a call on a file that is accepted is the call on the file's model, handed over;
 pub acceptance-file-call-is-of-its-model : (s : List ℕ) → AreBytes s → (c : Claim) (r : Acceptance) → AcceptanceFileCall s c r → r .refusal ≡ 0
     → AcceptanceCall (decode s .p) (decode s .n) (decode s .a) (decode s .b) (flatten (decode s .constants)) (decode s .parameters) none c r
 acceptance-file-call-is-of-its-model = acceptance-file-call

@@ -1,6 +1,6 @@
 -- What a call does to lent areas, from its promise alone: a refused one changes nothing and gives zeros, an accepted one leaves the surplus.
 -- Assumes nothing.
-use Prim.Native.Nat.{ℕ, zero, suc, _<_}
+use Prim.Native.Nat.{ℕ, zero, suc, _≤_, _<_}
 use mathlib.Core.Path.{_≡_, refl, sym, ap, _∙_}
 use mathlib.Core.Logic.{_≢_, _⊎_, inl, inr}
 use mathlib.Core.Bool.{Bool, true, false, true≢false, false≢true}
@@ -13,7 +13,8 @@ use Rattle.limits.specs.Limits.{set-bytes}
 use Rattle.format.specs.Lists.{over}
 use Rattle.format.specs.Numbers.{number-entries, is-numbered}
 use Rattle.format.specs.Refusals.{Tests, unless, _then_, first-refusal, where-accepted, area-short, area-test}
-use Rattle.format.specs.RefusalLaws.{then-passed}
+use Rattle.format.specs.RefusalLaws.{then-passed, zero-then, zero-unless}
+use Rattle.format.specs.TestLaws.{area-reads}
 use Rattle.format.specs.File.Piece.{closed}
 use Rattle.format.specs.File.Format.{FileModel, fields, judge, decode, no-model, read-model, model-read, read-refusal, ReadCall, write-refusal, bytes-written, WriteCall, lookup-refusal, lookup-length, lookup-start}
 use Rattle.text.specs.Text.{print-refusal, printed, Prints}
@@ -21,7 +22,8 @@ use Rattle.text.specs.declared.Printed.{Printed}
 use Rattle.host.specs.AreaCall.{area-refusal, AreaCall, WrittenOver}
 use Rattle.multipliers.specs.Bytes.{multipliers-length}
 use Rattle.reason.specs.Bytes.{reason-length}
-use Rattle.solvability.specs.Host.{HostAnswer, HostMixedAnswer, HostMultipliers, HostReason}
+use Rattle.acceptance.specs.Bytes.{claim-length, acceptance-length}
+use Rattle.solvability.specs.Host.{HostAnswer, HostMixedAnswer, HostMultipliers, HostReason, HostAccepts}
 
 where-refused : {A : Type 0} (k : ℕ) (x o : A) → k ≢ 0 → where-accepted k x o ≡ o
 where-refused zero x o h = absurd (h refl)
@@ -158,6 +160,27 @@ host-reason-refused file x area = area-refused _ _ _ _ area
 pub area-before-column : (file : List ℕ) (x : ℕ) (area : List ℕ) (k : ℕ) (area′ : List ℕ) → HostReason file x area k area′ → judge file ≡ 0 → length area < reason-length → k ≡ 8
 unfolding area-refusal area-test judge first-refusal
 area-before-column file x area k area′ h ok short = h .is-number ∙ sym (then-passed (closed fields file) _ 8 ok (rw (lt-leb reason-length (length area) short) refl))
+
+-- and the one about a claim,
+pub host-accepts-number : (file claim area : List ℕ) (k k′ : ℕ) (area′ area″ : List ℕ) → HostAccepts file claim area k area′ → HostAccepts file claim area k′ area″ → k ≡ k′
+host-accepts-number file claim area = area-number _ _ _ _ area
+
+pub host-accepts-refused : (file claim area : List ℕ) (k : ℕ) (area′ : List ℕ) → HostAccepts file claim area k area′ → k ≢ 0 → area′ ≡ area
+host-accepts-refused file claim area = area-refused _ _ _ _ area
+
+-- which refuses too short an area of either kind, behind the file's own numbers, and nothing else
+pub claim-areas-refused : (file claim area : List ℕ) (k : ℕ) (area′ : List ℕ) → HostAccepts file claim area k area′ → judge file ≡ 0
+    → (length area < acceptance-length) ⊎ (length claim < claim-length) → k ≡ 8
+unfolding area-refusal area-test judge
+claim-areas-refused file claim area k area′ h ok short =
+    h .is-number ∙ sym (then-passed (closed fields file) _ 8 ok (sym (two-areas (leb acceptance-length (length area)) (leb claim-length (length claim)) [] (elim short [ inl l ↦ inl (lt-leb _ _ l) | inr l ↦ inr (lt-leb _ _ l) ]))))
+
+pub claims-never-refused : (file claim area : List ℕ) (k : ℕ) (area′ : List ℕ) → HostAccepts file claim area k area′ → judge file ≡ 0
+    → acceptance-length ≤ length area → claim-length ≤ length claim → k ≡ 0
+unfolding area-refusal judge
+claims-never-refused file claim area k area′ h ok l m =
+    h .is-number ∙ zero-then (closed fields file) _ ok (zero-then (unless (area-test acceptance-length (length area)) area-short) (unless (area-test claim-length (length claim)) area-short)
+    (zero-unless _ area-short (area-reads _ _ .1 l)) (zero-unless _ area-short (area-reads _ _ .1 m)))
 
 -- the bytes behind an answer are as they were
 pub written-surplus : {A : Type 0} (Holds : A → Type 0) (bytes : A → List ℕ) (area area′ : List ℕ) (w : WrittenOver Holds bytes area area′)

@@ -4,10 +4,11 @@ use Prim.Native.Nat.{ℕ, _<_}
 use mathlib.Core.Path.{_≡_, refl, sym, ap, ap₂, _∙_}
 use mathlib.Core.Logic.{_≢_, inl, inr}
 use mathlib.Core.Bool.{Bool, true, false, false≢true}
-use mathlib.Core.List.{List, _∷_, _++_}
+use mathlib.Core.List.{List, _∷_, _++_, []}
 use mathlib.Core.Option.{Option}
 use native.Mathlib.Decide.{ℕ-discrete}
 use lib.ListN.{length, getD}
+use Rattle.counting.specs.Bools.{iff-eq}
 use Rattle.counting.specs.Sets.{Set, _∈_, indicator}
 use Rattle.columns.specs.Bytes.{bytes-of}
 use Rattle.columns.specs.Columns.{members}
@@ -19,16 +20,23 @@ use Rattle.limits.specs.Limits.{set-bytes, no-column}
 use Rattle.layered.specs.Answers.{Answered, AnswerShown, LayeredCall}
 use Rattle.layered.specs.FileModel.{file-model}
 use Rattle.layered.specs.declared.Answer.{Answer}
-use Rattle.format.specs.Refusals.{_then_, first-refusal, refusal, mixed-refusal}
+use Rattle.format.specs.Refusals.{_then_, first-refusal, refusal, mixed-refusal, Tests}
 use Rattle.mixed_models.specs.Mixed.{Mixed}
 use Rattle.mixed.specs.MixedAnswers.{MixedAnswered, MixedCall, file-mixed}
+use Rattle.host.specs.AreaCall.{AreaCall, WrittenOver}
 use Rattle.host.specs.AnswerBytes.{answer-bytes, mixed-bytes}
 use Rattle.multipliers.specs.Answers.{MultipliersCall}
+use Rattle.multipliers.specs.Bytes.{multipliers-bytes}
 use Rattle.multipliers.specs.declared.Multipliers.{Multipliers}
 use Rattle.reason.specs.Answers.{reason-question, FileReason, ReasonCall}
 use Rattle.reason_report.specs.ReasonReport.{multiplier-line, reason-text, ReasonFileReport}
+use Rattle.reason.specs.Bytes.{reason-bytes}
 use Rattle.reason.specs.declared.Reason.{Reason}
-use Rattle.solvability.specs.Host.{HostAnswer, HostMixedAnswer, HostMultipliers, HostReason}
+use Rattle.acceptance.specs.Answers.{AcceptanceCall}
+use Rattle.acceptance.specs.Bytes.{acceptance-bytes}
+use Rattle.acceptance.specs.declared.Claim.{Claim}
+use Rattle.acceptance.specs.declared.Acceptance.{Acceptance}
+use Rattle.solvability.specs.Host.{HostAnswer, HostMixedAnswer, multipliers-question, HostMultipliers, HostReason, claim-question, HostAccepts}
 use Rattle.text.specs.Text.{ascii, line, column-items, print-refusal, printed, Prints}
 use Rattle.text.specs.declared.Printed.{Printed}
 use Rattle.report.specs.Report.{answer-text}
@@ -37,9 +45,10 @@ use Rattle.format.specs.Lists.{over}
 use Rattle.format.specs.File.Piece.{closed}
 use Rattle.format.specs.File.Format.{fields, entry-bytes, judge}
 use Rattle.mixed.specs.declared.MixedAnswer.{MixedAnswer}
-use Rattle.promises.specs.Fixed.{SameAnswer, SameShown, SameMixed, SameMixedShown, SameReason, TwoShown}
+use Rattle.promises.specs.Fixed.{SameAnswer, SameShown, SameMixed, SameMixedShown, SameReason, SameAcceptance, TwoShown}
 use Rattle.promises.specs.AnswerLaws.{layered-same, mixed-same}
 use Rattle.promises.specs.ReasonSameLaws.{reason-calls-same}
+use Rattle.promises.specs.AcceptanceSameLaws.{acceptance-calls-same}
 
 -- ---- two results of one call
 
@@ -80,9 +89,12 @@ multipliers-fixed p n a b cs ws ns held x {r} {s} f g = elim (ℕ-discrete (r .r
     same : r .refusal ≡ s .refusal
     same = f .is-refusal ∙ sym (g .is-refusal)
 
--- and so do two of the call about the reason for a column
+-- and so do two of the call about the reason for a column, and of the call about a claim
 pub reason-fixed : (p n a b : ℕ) (cs ws : List ℕ) (ns : Option (List ℕ)) (x : ℕ) {r s : Reason} → ReasonCall p n a b cs ws ns x r → ReasonCall p n a b cs ws ns x s → SameReason r s
 reason-fixed p n a b cs ws ns x = reason-calls-same p n a b cs cs ws ws refl refl x ns ns refl
+
+pub acceptance-fixed : (p n a b : ℕ) (cs ws : List ℕ) (ns : Option (List ℕ)) (c : Claim) (r s : Acceptance) → AcceptanceCall p n a b cs ws ns c r → AcceptanceCall p n a b cs ws ns c s → SameAcceptance r s
+acceptance-fixed p n a b cs ws ns c = acceptance-calls-same p n a b cs cs ws ws refl refl c ns ns refl
 
 -- ---- two results of one call on a file
 
@@ -123,28 +135,32 @@ module _ (file area : List ℕ) where
   host-mixed-fixed k j area′ area″ x y z =
       let e = sym (x .is-number) ∙ z in two-shown (λ r s. mixed-answered-fixed (file-mixed file)) (x .if-accepted e) (y .if-accepted e)
 
-  -- of the calls about multipliers and about the reason for a column they are the same,
-  pub host-multipliers-fixed : (held : List ℕ) (x k j : ℕ) (area′ area″ : List ℕ) → HostMultipliers file held x area k area′ → HostMultipliers file held x area j area″ → area′ ≡ area″
-  host-multipliers-fixed held x k j area′ area″ f g = elim (ℕ-discrete k 0) [
+  -- of a call whose answers all have the same bytes they are the same:
+  bytes-fixed : {A : Type 0} {Holds : A → Type 0} (bytes : A → List ℕ) (before after : Tests) {least : ℕ} → ((r s : A) → Holds r → Holds s → bytes r ≡ bytes s) → (k j : ℕ) (area′ area″ : List ℕ)
+      → AreaCall before after least (WrittenOver Holds bytes) area k area′ → AreaCall before after least (WrittenOver Holds bytes) area j area″ → area′ ≡ area″
+  bytes-fixed bytes before after same k j area′ area″ f g = elim (ℕ-discrete k 0) [
     | no nk ↦ f .if-refused (λ z. nk (f .is-number ∙ z)) ∙ sym (g .if-refused (λ z. nk (f .is-number ∙ z)))
     | yes z ↦
         let u = f .if-accepted (sym (f .is-number) ∙ z) in
         let v = g .if-accepted (sym (f .is-number) ∙ z) in
-        u .is-shown ∙ ap₂ (λ (o : ℕ) (ms : List ℕ). over (o ∷ entry-bytes ms) area) (u .is-answer .outcome-is ∙ sym (v .is-answer .outcome-is)) (u .is-answer .multipliers-are ∙ sym (v .is-answer .multipliers-are)) ∙ sym (v .is-shown)
+        u .is-shown ∙ ap (λ (bs : List ℕ). over bs area) (same (u .answer) (v .answer) (u .is-answer) (v .is-answer)) ∙ sym (v .is-shown)
   ]
 
+  -- about multipliers,
+  pub host-multipliers-fixed : (held : List ℕ) (x k j : ℕ) (area′ area″ : List ℕ) → HostMultipliers file held x area k area′ → HostMultipliers file held x area j area″ → area′ ≡ area″
+  host-multipliers-fixed held x = bytes-fixed multipliers-bytes (closed fields file) (multipliers-question file held x)
+      (λ r s u v. ap₂ (λ (o : ℕ) (ms : List ℕ). o ∷ entry-bytes ms) (u .outcome-is ∙ sym (v .outcome-is)) (u .multipliers-are ∙ sym (v .multipliers-are)))
+
+  -- about the reason for a column,
   pub host-reason-fixed : (x k j : ℕ) (area′ area″ : List ℕ) → HostReason file x area k area′ → HostReason file x area j area″ → area′ ≡ area″
-  host-reason-fixed x k j area′ area″ f g = elim (ℕ-discrete k 0) [
-    | no nk ↦ f .if-refused (λ z. nk (f .is-number ∙ z)) ∙ sym (g .if-refused (λ z. nk (f .is-number ∙ z)))
-    | yes z ↦
-        let u = f .if-accepted (sym (f .is-number) ∙ z) in
-        let v = g .if-accepted (sym (f .is-number) ∙ z) in
-        let r = u .is-answer in
-        let s = v .is-answer in
-        u .is-shown
-        ∙ ap₂ (λ (w : ℕ) (t : Bool). over (bytes-of set-bytes w ++ (indicator t ∷ entry-bytes (u .answer .multipliers))) area) (r .set-number ∙ sym (s .set-number)) (r .is-given ∙ sym (s .is-given))
-        ∙ ap (λ (ms : List ℕ). over (bytes-of set-bytes (whole (v .answer .set)) ++ (indicator (v .answer .given) ∷ entry-bytes ms)) area) (r .multipliers-are ∙ sym (s .multipliers-are)) ∙ sym (v .is-shown)
-  ]
+  host-reason-fixed x = bytes-fixed reason-bytes (closed fields file) (reason-question (file-model file) x)
+      (λ r s u v. ap₂ (λ (w : ℕ) (t : Bool). bytes-of set-bytes w ++ (indicator t ∷ entry-bytes (r .multipliers))) (u .set-number ∙ sym (v .set-number)) (u .is-given ∙ sym (v .is-given))
+      ∙ ap (λ (ms : List ℕ). bytes-of set-bytes (whole (s .set)) ++ (indicator (s .given) ∷ entry-bytes ms)) (u .multipliers-are ∙ sym (v .multipliers-are)))
+
+  -- about a claim,
+  pub host-accepts-fixed : (claim : List ℕ) (k j : ℕ) (area′ area″ : List ℕ) → HostAccepts file claim area k area′ → HostAccepts file claim area j area″ → area′ ≡ area″
+  host-accepts-fixed claim = bytes-fixed acceptance-bytes (closed fields file) (claim-question claim)
+      (λ r s u v. ap (λ (t : Bool). indicator t ∷ []) (iff-eq (r .accepted) (s .accepted) (λ e. v .1 (u .0 e)) (λ e. u .1 (v .0 e))))
 
   -- and the text of a report is that of two answers that agree,
   pub report-fixed : (r s : Printed) (area′ area″ : List ℕ) → FileReport file area r area′ → FileReport file area s area″ → judge file ≡ 0

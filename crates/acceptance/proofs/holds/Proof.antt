@@ -1,11 +1,12 @@
 -- `acceptance::holds` meets its contract, test by test. Assumes nothing.
 use Prim.Native.Nat.{ℕ, _<_, _^_}
-use mathlib.Core.Path.{_≡_, sym, _∙_}
+use mathlib.Core.Path.{_≡_, refl, sym, _∙_}
 use mathlib.Core.Bool.{true, true≢false}
 use mathlib.Core.Logic.{_↔_, _⊎_}
 use mathlib.Core.List.{List}
+use native.Mathlib.Omega.{arith}
 use lib.ListN.{length}
-use borrow.Author.Tests.{not-true, not-false, eqb-true, eq-eqb}
+use borrow.Author.Tests.{not-true, not-false}
 use Rattle.limits.specs.Limits.{most-rows}
 use Rattle.counting.specs.Sets.{_∈_}
 use Rattle.columns.specs.Columns.{width, members, within}
@@ -88,7 +89,7 @@ returns-4 : tie.Need-returns-4
 returns-4 c =
     let e = c .before .before in
     let k = begun (within-n e) in
-    not-accepted (λ h. c .if4 .taken (c .before .size .ensures ∙ as-many _ _ _ _ (cs k) (ws k) _ _ _ _ (side-small k) (side-in (within-n e)) (fit e) _ (seats-small (seated e)) (are e) h))
+    not-accepted (λ h. omega (arith, c .if4 .taken, c .before .size .ensures, as-many _ _ _ _ (cs k) (ws k) _ _ _ _ (side-small k) (side-in (within-n e)) (fit e) _ (seats-small (seated e)) (are e) h))
 
 constant-rank-requires : tie.Need-constant-rank-requires
 constant-rank-requires c κs = let e = c .before .before in (constants-accepted (begun (within-n e) .pre), side-in (within-n e))
@@ -101,25 +102,35 @@ returns-5 c =
     let r = c .before .before in
     let e = r .before .before .before in
     let k = begun (within-n e) in
-    not-accepted (λ h. c .if5 .taken (r .constant-rank .ensures ∙ independent _ _ _ _ (cs k) (ws k) _ _ _ _ (side-small k) (side-in (within-n e)) (fit e) _ (seats-small (seated e)) (are e) h ∙ sym (c .before .size2 .ensures)))
+    not-accepted (λ h. omega (arith, c .if5 .taken, r .constant-rank .ensures, c .before .size2 .ensures, independent _ _ _ _ (cs k) (ws k) _ _ _ _ (side-small k) (side-in (within-n e)) (fit e) _ (seats-small (seated e)) (are e) h))
 
 set-sum-requires : tie.Need-set-sum-requires
 set-sum-requires c κs = let e = c .before .before .before .before .before in (begun (within-n e) .pre, set-in (within-n e))
 
+-- where the set is summed: what was tested before it
+abbrev tested : tie.After-set-sum → tie.Else3
+tested c = c .before .before .before .before .before .before
+
 returns-6 : tie.Need-returns-6
 returns-6 c =
-    let last = c .before in
+    let e = tested (c .before) in
+    let k = begun (within-n e) in
+    not-accepted (λ h. omega (arith, c .if6 .taken, c .before .set-sum .ensures, summed _ _ _ _ (cs k) (ws k) _ _ _ _ (side-small k) (side-in (within-n e)) (fit e) _ (seats-small (seated e)) (are e) h))
+
+returns-7 : tie.Need-returns-7
+returns-7 c =
+    let sum = c .before in
+    let last = sum .before in
     let r = last .before .before in
     let fourth = r .before in
-    let e = fourth .before .before in
+    let e = tested sum in
     let k = begun (within-n e) in
-    let n-side = side-in (within-n e) in (
-      λ z. accepted _ _ _ _ (cs k) (ws k) _ _ _ _ (side-small k) n-side (fit e) _ (seats-small (seated e)) (are e) (set-in (within-n e)) (set-small k)
-          (sym (fourth .before .size .ensures) ∙ fourth .if4 .left)
-          (sym (r .constant-rank .ensures) ∙ last .if5 .left ∙ last .before .size2 .ensures)
-          (sym (c .set-sum .ensures) ∙ eqb-true _ _ z),
-      λ h. eq-eqb _ _ (c .set-sum .ensures ∙ summed _ _ _ _ (cs k) (ws k) _ _ _ _ (side-small k) n-side (fit e) _ (seats-small (seated e)) (are e) h),
-    )
+    let a = k .args in
+    let h = accepted (a .p) (a .n) (a .a) (a .b) (cs k) (ws k) (a .claim .rank) (whole (a .claim .constants)) (a .claim .rows) (whole (a .claim .set)) (side-small k) (side-in (within-n e)) (fit e) (whole (seated e .seat-rows .result .columns)) (seats-small (seated e)) (are e) (set-in (within-n e)) (set-small k)
+    (omega (arith, fourth .before .size .ensures, fourth .if4 .left))
+    (omega (arith, r .constant-rank .ensures, last .before .size2 .ensures, last .if5 .left))
+    (omega (arith, sum .set-sum .ensures, c .if6 .left)) in
+    ((λ z. h), λ _. refl)
 
 pub holds-spec : {M : Type 1} → statement M
 holds-spec =
@@ -138,4 +149,5 @@ holds-spec =
     size-requires-2
     returns-5
     set-sum-requires
-    returns-6)
+    returns-6
+    returns-7)
