@@ -4,7 +4,7 @@ use mathlib.Core.Path.{_≡_, refl, _∙_, sym}
 use mathlib.Core.Logic.{_↔_, _⊎_, inl, inr}
 use mathlib.Core.Bool.{true, false, false≢true}
 use mathlib.Core.List.{List, []}
-use Rattle.counting.specs.Sets.{Set, _∈_, #}
+use Rattle.counting.specs.Sets.{_∈_, #}
 use Rattle.columns.specs.Columns.{width, members, within}
 use Rattle.columns.specs.Words.Operations.{within-iff}
 use Rattle.rank.specs.Layered.Model.{Model, placing}

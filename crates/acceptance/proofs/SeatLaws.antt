@@ -2,7 +2,7 @@
 use Prim.Native.Nat.{ℕ, _+_, _<_, _≤_}
 use mathlib.Core.Path.{_≡_, refl, sym, ap, _∙_, subst}
 use mathlib.Core.Logic.{_≢_, _↔_, _⊎_, inl, inr}
-use mathlib.Core.Bool.{Bool, true, false, not, _&&_, _||_, true≢false, false≢true}
+use mathlib.Core.Bool.{Bool, true, false, not, _&&_, _||_, true≢false}
 use mathlib.Core.List.{List}
 use native.Mathlib.Omega.{arith}
 use native.Mathlib.Decide.{ℕ-discrete, decLt}
@@ -10,16 +10,16 @@ use lib.ListN.{length, getD}
 use lib.Dec.{ltb, eqb}
 use borrow.Author.Tests.{lt-ltb, ltb-true, eqb-true, eq-eqb, ne-eqb}
 use Rattle.limits.specs.Limits.{most-columns, most-rows, no-column}
-use Rattle.counting.specs.Bools.{not-true, iff-eq, and-in, and-left, and-right, or-left, or-right, or-split, not-in, not-of, not-both}
+use Rattle.counting.specs.Bools.{not-true, iff-eq, and-in, and-left, and-right, or-left, or-right, or-split, not-of, not-both}
 use Rattle.counting.specs.Sets.{Set, _∈_, Some}
 use Rattle.columns.specs.Columns.{width, members, inserted}
 use Rattle.columns.specs.ColumnSets.{whole}
 use Rattle.columns.specs.Words.SetLaws.{inserted-same, inserted-old, inserted-split}
 use Rattle.rank.specs.ListedModel.{parameter-at}
 use Rattle.claims.specs.Claim.{Names}
-use Rattle.claims.specs.ClaimLaws.{Named, named-below, Serves}
+use Rattle.claims.specs.ClaimLaws.{Named, named-below}
 use Rattle.acceptance.specs.declared.Seats.{Seats}
-use Rattle.acceptance.specs.Code.{row-serves, RowSeated, RowsServe, RowsSeated}
+use Rattle.acceptance.specs.Code.{row-serves, RowSeated, RowsServe}
 
 -- ---- one row
 

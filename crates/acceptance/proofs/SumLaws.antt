@@ -4,9 +4,8 @@ use mathlib.Core.Path.{_≡_, refl, sym, _∙_}
 use mathlib.Core.Logic.{_↔_}
 use mathlib.Core.Bool.{true}
 use mathlib.Core.List.{List, []}
-use mathlib.Core.Option.{none}
 use native.Mathlib.Omega.{arith}
-use Rattle.counting.specs.Sets.{Set, _∈_, _∩_, ∁, #}
+use Rattle.counting.specs.Sets.{_∈_, _∩_, ∁, #}
 use Rattle.counting.specs.Counts.{#-ext, #-∁, #-le}
 use Rattle.columns.specs.Columns.{width, members, within}
 use Rattle.columns.specs.Words.Operations.{members-below, and-true, within-iff}

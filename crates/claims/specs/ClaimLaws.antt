@@ -1,8 +1,8 @@
 -- When a claim is accepted, in the claim's own terms: what it says of its side, of each row and of its columns. Assumes nothing.
 use Prim.Native.Nat.{ℕ, zero, suc, _<_}
 use mathlib.Core.Path.{_≡_, refl, sym, ap, _∙_, subst, fun-ext}
-use mathlib.Core.Bool.{Bool, true, false, cond, not, _&&_, _||_, true≢false}
-use mathlib.Core.Logic.{_≢_, _↔_, _⊎_, inl, inr}
+use mathlib.Core.Bool.{Bool, true, false, cond, not, true≢false}
+use mathlib.Core.Logic.{_↔_, _⊎_, inl, inr}
 use mathlib.Core.List.{List, [], _∷_}
 use native.Mathlib.Omega.{arith}
 use native.Mathlib.Decide.{ℕ-discrete, decLt}
@@ -13,10 +13,10 @@ use Rattle.counting.specs.Sets.{Set, _∈_, #, Some}
 use Rattle.counting.specs.Counts.{some?, both?, not?, #-ext}
 use Rattle.counting.specs.Choices.{Part}
 use Rattle.rank.specs.Linear.Independence.{Indep}
-use Rattle.rank.specs.Layered.Model.{Model, Seat, out, constant, row, Assignment, is-placed, is-constant, placing, constants, Legal, size}
+use Rattle.rank.specs.Layered.Model.{Model, Seat, out, constant, row, Assignment, is-placed, is-constant, placing, constants}
 use Rattle.rank.specs.Layered.Rank.{sum}
 use Rattle.rank.specs.Layered.Meaning.{seat-cases}
-use Rattle.claims.specs.Claim.{Names, Shows, Accepts, AcceptsClaim}
+use Rattle.claims.specs.Claim.{Names, Shows, AcceptsClaim}
 
 -- some row names column x; a list has as many rows as elements
 abbrev pub Named : List ℕ → ℕ → Type 0

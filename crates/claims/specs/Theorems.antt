@@ -12,7 +12,7 @@ use Rattle.rank.specs.Layered.Rank.{sum, rank, short}
 use Rattle.rank.specs.Theorems.{rank-is-the-largest-legal-size, rank-is-the-least-sum, short-is-the-smallest}
 use Rattle.dependence.specs.Constants.{constants-only}
 use Rattle.dependence.specs.ConstantSide.{constant-rank-is-a-rank, independent-by-rank}
-use Rattle.claims.specs.Claim.{Names, Shows, Accepts, AcceptsClaim}
+use Rattle.claims.specs.Claim.{Names, Accepts, AcceptsClaim}
 use Rattle.claims.specs.ClaimLaws.{shown-once}
 
 module _ (M : Model) where

@@ -7,17 +7,17 @@ use native.Mathlib.Omega.{arith}
 use native.Mathlib.Decide.{ℕ-discrete, decLt}
 use lib.ListN.{getD}
 use Rattle.limits.specs.Limits.{most-columns, most-rows, no-column}
-use Rattle.counting.specs.Sets.{Set, _∈_, _⊆_}
+use Rattle.counting.specs.Sets.{Set, _⊆_}
 use Rattle.counting.specs.Counts.{#-ext}
 use Rattle.columns.specs.Columns.{members}
 use Rattle.columns.specs.ColumnSets.{whole}
 use Rattle.rank.specs.Layered.Model.{Model, Seat, out, constant, row, Assignment, is-constant, placing, Legal, size}
 use Rattle.rank.specs.Layered.Rank.{sum, rank, placed, short}
 use Rattle.rank.specs.Theorems.{short-is-the-smallest, placed-has-the-rank}
-use Rattle.claims.specs.Claim.{Names, Shows, AcceptsClaim}
+use Rattle.claims.specs.Claim.{Shows}
 use Rattle.claims.specs.ClaimLaws.{named-below, read-below}
 use Rattle.claims.specs.Theorems.{accepted-is-the-rank, short-in-accepted}
-use Rattle.exchange.specs.Solution.{Solved, shown}
+use Rattle.exchange.specs.Solution.{shown}
 use Rattle.layered.specs.Answers.{Refused, Answered, RankCall}
 use Rattle.layered.specs.declared.Answer.{Answer}
 use Rattle.acceptance.specs.Answers.{ClaimAccepted, AcceptanceRefused, AcceptanceAnswered}

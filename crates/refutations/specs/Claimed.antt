@@ -1,22 +1,22 @@
 -- What the promise of the call about a claim rules out: of every model, and on small models modulo 2. Assumes nothing.
 use Prim.Native.Nat.{ℕ, zero, suc, _≤_}
-use mathlib.Core.Path.{_≡_, refl, sym, ap, _∙_}
+use mathlib.Core.Path.{_≡_, refl, sym, _∙_}
 use mathlib.Core.Logic.{_≢_, _↔_, _⊎_, inl, inr}
-use mathlib.Core.Bool.{true, false, true≢false, false≢true}
+use mathlib.Core.Bool.{true, false, true≢false}
 use mathlib.Core.Option.{Option, none}
 use mathlib.Core.List.{List, [], _∷_}
 use native.Mathlib.Omega.{arith}
 use lib.Dec.{lit<}
 use lib.ListN.{getD, replicate}
 use Rattle.limits.specs.Limits.{most-rows, no-column}
-use Rattle.counting.specs.Sets.{Set, _∈_, #}
+use Rattle.counting.specs.Sets.{_∈_, #}
 use Rattle.columns.specs.Columns.{members}
 use Rattle.columns.specs.ColumnSets.{whole, set-of}
 use Rattle.rank.specs.ListedModel.{parameter-at, listed-model}
 use Rattle.rank.specs.Layered.Model.{row}
 use Rattle.rank.specs.Layered.Rank.{sum}
 use Rattle.claims.specs.Claim.{Names}
-use Rattle.claims.specs.ClaimLaws.{Named, Holds, claim-iff}
+use Rattle.claims.specs.ClaimLaws.{Named, claim-iff}
 use Rattle.claims.specs.Theorems as Theory
 use Rattle.format.specs.Refusals.{refusal}
 use Rattle.acceptance.specs.Answers.{ClaimAccepted, AcceptanceCall}

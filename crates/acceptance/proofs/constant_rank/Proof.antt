@@ -1,5 +1,4 @@
 -- `acceptance::constant_rank` meets its contract, by what the solver ensures. Assumes nothing.
-use mathlib.Core.List.{[]}
 use Rattle.columns.specs.ColumnSets.{whole, Fits, row-numbers}
 use Rattle.columns.specs.Words.Sets.{whole-below}
 use Rattle.layered.proofs.AnswerLaws.{accepted-admissible}

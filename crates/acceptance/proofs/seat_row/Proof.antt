@@ -1,11 +1,6 @@
 -- `acceptance::seat_row` meets its contract. Assumes nothing.
-use Prim.Native.Nat.{_<_}
-use mathlib.Core.Path.{_≡_, refl, sym, ap, _∙_}
-use mathlib.Core.Logic.{_≢_}
-use native.Mathlib.Omega.{arith}
+use mathlib.Core.Path.{refl}
 use borrow.Author.Needs.{needs}
-use Rattle.columns.specs.Columns.{members}
-use Rattle.columns.specs.ColumnSets.{whole, row-numbers}
 use Rattle.acceptance.proofs.SeatLaws.{no-row-seated, row-seated}
 use Rattle.acceptance.proofs.seat_row.Statement.{statement}
 use Rattle.acceptance.proofs.seat_row.Tie as tie
