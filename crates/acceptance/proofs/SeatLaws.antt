@@ -1,4 +1,4 @@
--- How the rows of a claim get their seats one after another, and what that says of all of them. Assumes nothing.
+-- How the columns that the rows of a claim name get their seats one after another, and what that says of all of them. Assumes nothing.
 use Prim.Native.Nat.{ℕ, _+_, _<_, _≤_}
 use mathlib.Core.Path.{_≡_, refl, sym, ap, _∙_, subst}
 use mathlib.Core.Logic.{_≢_, _↔_, _⊎_, inl, inr}
@@ -77,7 +77,7 @@ module _ (n b : ℕ) (ws : List ℕ) (S : Set) (r c : ℕ) (s : Seats) where
 -- ---- the rows one after another
 
 module _ (n b : ℕ) (ws : List ℕ) (side : Set) (rows : List ℕ) where
-  -- the rows below k have their seats, and the columns in S are those of the side and of these rows
+  -- the columns of the rows below k have their seats, and the columns in S are those of the side and of these rows
   pub record SeatedBelow (k : ℕ) (S : Set) : Type 0 where
     pub serve : (q x : ℕ) → q < k → Names rows q x → (q < b) × (x < n) × (parameter-at ws q x ≡ true) × (x ∈ side → ⊥) × ((q′ : ℕ) → q′ < q → Names rows q′ x → ⊥)
     pub seated : (x : ℕ) → (x ∈ S) ↔ ((x ∈ side) ⊎ Some k (λ q. Names rows q x))

@@ -12,6 +12,7 @@ use Rattle.columns.specs.Columns.{members}
 use Rattle.columns.specs.ColumnSets.{whole, empty-set}
 use Rattle.rank.specs.Layered.Model.{Model}
 use Rattle.claims.specs.Claim.{AcceptsClaim}
+use Rattle.format.specs.Refusals.{Tests, unless, area-short, area-test}
 use Rattle.acceptance.specs.declared.Claim.{Claim}
 use Rattle.acceptance.specs.declared.Acceptance.{Acceptance}
 
@@ -48,6 +49,10 @@ no-claim = record { rank = 0; constants = empty-set; rows = replicate most-rows 
 pub record ClaimRead (bs : List ℕ) (c : Claim) : Type 0 where
   pub if-short : length bs < claim-length → c ≡ no-claim
   pub if-long : claim-length ≤ length bs → ClaimShown bs c
+
+-- what a call asks of the area of a claim: 8 where it has fewer bytes
+abbrev pub claim-question : List ℕ → Tests
+claim-question bs = unless (area-test claim-length (length bs)) area-short
 
 -- ---- the answer about the claim that bytes show
 

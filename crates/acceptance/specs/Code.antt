@@ -18,7 +18,8 @@ use Rattle.acceptance.specs.declared.Seats.{Seats}
 unfoldable pub row-serves : (n b : ℕ) (ws : List ℕ) (S : Set) (r x : ℕ) → Bool
 row-serves n b ws S r x = ltb r b && ltb x n && not (S x) && parameter-at ws r x
 
--- a row of a claim that names column c, or none, gets its seat, where the columns in S have one: whether it can serve c, and then all columns that have a seat
+-- the column c that a row of a claim names, or none, gets its seat, where the columns in S have one: whether the row can serve c, and then all columns that
+-- have a seat
 pub record RowSeated (n b : ℕ) (ws : List ℕ) (S : Set) (r c : ℕ) (s : Seats) : Type 0 where
   pub fit-is : s .fit ≡ (eqb c no-column || row-serves n b ws S r c)
   pub columns-are : s .fit ≡ true → (x : ℕ) → (x ∈ members (whole (s .columns))) ↔ ((x ∈ S) ⊎ ((c ≡ x) × (x ≢ no-column)))
@@ -27,7 +28,7 @@ pub record RowSeated (n b : ℕ) (ws : List ℕ) (S : Set) (r c : ℕ) (s : Seat
 abbrev pub RowsServe : (n b : ℕ) (ws : List ℕ) (side : Set) (rows : List ℕ) → Type 0
 RowsServe n b ws side rows = (r x : ℕ) → Names rows r x → Serves b n (parameter-at ws) (λ y. true) side rows r x
 
--- all rows get their seats beside the columns of the side: whether they can, and then all columns that have a seat
+-- the columns of all rows get their seats beside those of the side: whether they can, and then all columns that have a seat
 pub record RowsSeated (n b : ℕ) (ws : List ℕ) (side : Set) (rows : List ℕ) (s : Seats) : Type 0 where
   pub if-fit : s .fit ≡ true → RowsServe n b ws side rows
   pub if-not : s .fit ≡ false → RowsServe n b ws side rows → ⊥

@@ -90,7 +90,7 @@ struct Seats {
     columns: ColumnSet,
 }
 
-// A row of a claim gets its seat, beside columns that have one; where it names no column, nothing changes.
+// The column that a row of a claim names gets its seat, beside columns that have one; where the row names none, nothing changes.
 fn seat_row(parameters: &[u64], n: usize, b: usize, seated: ColumnSet, r: usize, c: usize) -> Seats
     requires { ⌜ n ≤ most-columns ⌝ }
     ensures { λ s. ⌜ RowSeated n b (row-numbers (now (parameters .entry))) (members (whole seated)) r c s ⌝ }
@@ -108,7 +108,7 @@ fn seat_row(parameters: &[u64], n: usize, b: usize, seated: ColumnSet, r: usize,
     }
 }
 
-// The rows of a claim get their seats, beside the columns of its side.
+// The columns that the rows of a claim name get their seats, beside the columns of its side.
 fn seat_rows(
     parameters: &[u64],
     n: usize,
@@ -163,7 +163,7 @@ fn set_sum(
 }
 
 // Whether the claim holds of a model that is judged. The cheap tests come first; the constants of the side and of the set are eliminated
-// once each, and nothing is searched.
+// once each; without parameter rows no column ever moves to let another in.
 fn holds(
     p: u32,
     n: usize,

@@ -11,7 +11,7 @@ use Rattle.counting.specs.Choices.{Part}
 use Rattle.rank.specs.Layered.Model.{Model, constant, row, Assignment, Legal, size}
 use Rattle.rank.specs.Layered.Rank.{sum}
 
--- a claim's row r names column x
+-- a claim's row r names column x: it shows x, and x is not what a row shows that has no column
 abbrev pub Names : (rows : List ℕ) (r x : ℕ) → Type 0
 Names rows r x = (getD rows r no-column ≡ x) × (x ≢ no-column)
 
@@ -24,7 +24,8 @@ pub record Shows (side : Set) (rows : List ℕ) (A : Assignment) : Type 0 where
 module _ (M : Model) where
   open Model M using (n, E)
 
-  -- the rank r, the assignment A and the column set J are accepted: A is legal, it has as many columns as r says, and the sum of J is r
+  -- the rank r, the assignment A and the column set J are accepted: A is legal, it has as many columns as r says, and J is a set of offered columns whose sum
+  -- is r
   pub record Accepts (r : ℕ) (A : Assignment) (J : Set) : Type 0 where
     pub is-legal : Legal M A
     pub as-many : size M A ≡ r

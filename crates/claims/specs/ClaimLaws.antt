@@ -1,8 +1,8 @@
 -- When a claim is accepted, in the claim's own terms: what it says of its side, of each row and of its columns. Assumes nothing.
-use Prim.Native.Nat.{ℕ, zero, suc, _<_}
+use Prim.Native.Nat.{ℕ, zero, suc, _≤_, _<_}
 use mathlib.Core.Path.{_≡_, refl, sym, ap, _∙_, subst, fun-ext}
-use mathlib.Core.Bool.{Bool, true, false, cond, not, true≢false}
-use mathlib.Core.Logic.{_↔_, _⊎_, inl, inr}
+use mathlib.Core.Bool.{Bool, true, false, cond, true≢false}
+use mathlib.Core.Logic.{_≢_, _↔_, _⊎_, inl, inr}
 use mathlib.Core.List.{List, [], _∷_}
 use native.Mathlib.Omega.{arith}
 use native.Mathlib.Decide.{ℕ-discrete, decLt}
@@ -13,9 +13,11 @@ use Rattle.counting.specs.Sets.{Set, _∈_, #, Some}
 use Rattle.counting.specs.Counts.{some?, both?, not?, #-ext}
 use Rattle.counting.specs.Choices.{Part}
 use Rattle.rank.specs.Linear.Independence.{Indep}
-use Rattle.rank.specs.Layered.Model.{Model, Seat, out, constant, row, Assignment, is-placed, is-constant, placing, constants}
+use Rattle.rank.specs.Layered.Model.{Model, Seat, out, constant, row, Assignment, is-placed, is-constant, placing, constants, Legal}
 use Rattle.rank.specs.Layered.Rank.{sum}
-use Rattle.rank.specs.Layered.Meaning.{seat-cases}
+use Rattle.rank.specs.Layered.Meaning.{seat-cases, row?}
+use Rattle.dependence.specs.Listing.{listing}
+use Rattle.dependence.specs.ListingLaws.{listing-at, listing-length}
 use Rattle.claims.specs.Claim.{Names, Shows, AcceptsClaim}
 
 -- some row names column x; a list has as many rows as elements
@@ -47,9 +49,14 @@ abbrev row-of : (rows : List ℕ) (x : ℕ) → Dec (Named rows x) → Seat
 row-of rows x (yes w) = row (w .0)
 row-of rows x (no nw) = out
 
--- the seat that a claim gives column x; where it names x twice it is the constant side, or the first row
+-- the seat that a claim gives column x; where it names x twice it is the constant side, or the last such row
 pub claimed : Set → List ℕ → Assignment
 claimed side rows x = cond (side x) constant (row-of rows x (named? rows x))
+
+pub constant-seat : (t : Seat) → is-constant t ≡ true → t ≡ constant
+constant-seat out e = absurd (true≢false (sym e))
+constant-seat constant e = refl
+constant-seat (row r) e = absurd (true≢false (sym e))
 
 -- no column is named twice
 pub record Once (side : Set) (rows : List ℕ) : Type 0 where
@@ -183,3 +190,45 @@ module _ (M : Model) where
 
     pub claim-iff : AcceptsClaim M r side rows J ↔ Holds r side rows J S
     claim-iff = (accepted-holds, holds-accepted)
+
+-- ---- a claim for every legal assignment
+
+-- the column below n on row r, or none
+abbrev column-of : (A : Assignment) (n r : ℕ) → Dec (Some n (λ x. A x ≡ row r)) → ℕ
+column-of A n r (yes w) = w .0
+column-of A n r (no nw) = no-column
+
+column-on : Assignment → ℕ → ℕ → ℕ
+column-on A n r = column-of A n r (some? n (λ x. A x ≡ row r) (λ x. row? (A x) r))
+
+module _ (M : Model) (A : Assignment) (h : Legal M A) (few : M .n ≤ no-column) (k : ℕ) (room : M .b ≤ k) where
+  open Model M using (n)
+
+  abbrev rows : List ℕ
+  rows = listing k (column-on A n)
+
+  at : (r : ℕ) → r < k → getD rows r no-column ≡ column-on A n r
+  at r l = read-below rows r no-column 0 (omega (arith, listing-length k (column-on A n))) ∙ listing-at k (column-on A n) r l
+
+  found : (x r : ℕ) → A x ≡ row r → (d : Dec (Some n (λ y. A y ≡ row r))) → column-of A n r d ≡ x
+  found x r e (yes w) = h .one-each (w .0) x r (w .2) e
+  found x r e (no nw) = absurd (nw (x, h .offered x (ap is-placed e) .0, e))
+
+  stands : (x r : ℕ) → x ≢ no-column → (d : Dec (Some n (λ y. A y ≡ row r))) → column-of A n r d ≡ x → A x ≡ row r
+  stands x r ne (yes w) e = subst (λ (y : ℕ). A y ≡ row r) e (w .2)
+  stands x r ne (no nw) e = absurd (ne (sym e))
+
+  -- its constant side and k rows show it
+  pub legal-shown : (rs : List ℕ) × (length rs ≡ k) × Shows (constants A) rs A
+  unfolding column-on
+  legal-shown = (
+    rows,
+    listing-length k (column-on A n),
+    record {
+      on-the-side = λ x. ((λ e. ap is-constant e), constant-seat (A x));
+      on-rows = λ x r. (
+        λ e. (at r (omega (arith, h .parameter x r e .0)) ∙ found x r e (some? n (λ y. A y ≡ row r) (λ y. row? (A y) r)), λ z. omega (arith, z, h .offered x (ap is-placed e) .0)),
+        λ m. stands x r (m .1) (some? n (λ y. A y ≡ row r) (λ y. row? (A y) r)) (sym (at r (omega (arith, listing-length k (column-on A n), named-below rows r x m))) ∙ m .0),
+      );
+    },
+  )

@@ -1,22 +1,20 @@
 -- Document 02, E12: what is proved of accepted claims. Assumes nothing.
-use Prim.Native.Nat.{ℕ, _+_, _≤_, _<_}
+use Prim.Native.Nat.{ℕ, _≤_}
 use mathlib.Core.Path.{_≡_, refl}
-use mathlib.Core.Logic.{_↔_}
 use mathlib.Core.List.{List}
 use native.Mathlib.Omega.{arith}
-use Rattle.counting.specs.Sets.{Set, _∈_, _⊆_, _∩_, ∁, #, touching}
+use lib.ListN.{length}
+use Rattle.limits.specs.Limits.{no-column}
+use Rattle.counting.specs.Sets.{Set, _∈_, _⊆_}
 use Rattle.counting.specs.Choices.{Part}
-use Rattle.rank.specs.Linear.Independence.{Indep}
-use Rattle.rank.specs.Layered.Model.{Model, Assignment, Legal, size}
+use Rattle.rank.specs.Layered.Model.{Model, Assignment, constants, Legal, size}
 use Rattle.rank.specs.Layered.Rank.{sum, rank, short}
 use Rattle.rank.specs.Theorems.{rank-is-the-largest-legal-size, rank-is-the-least-sum, short-is-the-smallest}
-use Rattle.dependence.specs.Constants.{constants-only}
-use Rattle.dependence.specs.ConstantSide.{constant-rank-is-a-rank, independent-by-rank}
-use Rattle.claims.specs.Claim.{Names, Accepts, AcceptsClaim}
-use Rattle.claims.specs.ClaimLaws.{shown-once}
+use Rattle.claims.specs.Claim.{Names, Shows, Accepts, AcceptsClaim}
+use Rattle.claims.specs.ClaimLaws.{shown-once, legal-shown}
 
 module _ (M : Model) where
-  open Model M using (K, a, b, n, Q, T, E)
+  open Model M using (b, n, E)
 
   -- An accepted rank is the model's rank, whoever sent it.
   pub accepted-is-the-rank : {r : ℕ} {A : Assignment} {J : Set} → Accepts M r A J → r ≡ rank M
@@ -53,11 +51,6 @@ module _ (M : Model) where
     pub no-column-twice : (x q : ℕ) → Names rows q x → (x ∈ side → ⊥) × ((q′ : ℕ) → Names rows q′ x → q′ ≡ q)
     no-column-twice x q m = let u = shown-once side rows (h .is-shown) in (u .one-side q x m, λ q′ m′. u .one-row q′ q x m′ m)
 
-  -- For the code, by the constants alone, without parameter rows: a side is independent where their rank on it is its size,
-  pub independent-by-one-call : (S : Set) → ((x : ℕ) → x ∈ S → x < n) → Indep K a n Q S ↔ (rank (constants-only M S) ≡ # n S)
-  independent-by-one-call = independent-by-rank M
-
-  -- and the sum of a set is their rank on it, the rows that touch it, and the columns outside it.
-  pub sum-by-one-call : (J : Set) → sum M J ≡ rank (constants-only M J) + # b (touching n T J) + # n (∁ J ∩ E)
-  unfolding sum
-  sum-by-one-call J = omega (arith, constant-rank-is-a-rank M J)
+  -- There is a claim for every legal assignment: its constant side, and as many rows as there is room for, show it.
+  pub every-legal-assignment-is-shown : (A : Assignment) → Legal M A → n ≤ no-column → (k : ℕ) → b ≤ k → (rows : List ℕ) × (length rows ≡ k) × Shows (constants A) rows A
+  every-legal-assignment-is-shown = legal-shown M

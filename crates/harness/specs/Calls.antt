@@ -6,8 +6,7 @@ use mathlib.Core.Option.{Option}
 use Rattle.rank.specs.ListedModel.{listed-model}
 use Rattle.mixed_models.specs.Mixed.{mixed}
 use Rattle.columns.specs.Columns.{members}
-use lib.ListN.{length}
-use Rattle.format.specs.Refusals.{unless, _then_, area-short, area-test, model-tests, mixed-tests}
+use Rattle.format.specs.Refusals.{_then_, model-tests, mixed-tests}
 use Rattle.loader.specs.declared.header.Sizes.{Sizes}
 use Rattle.loader.specs.FileRead.{FileRead}
 use Rattle.host.specs.AreaCall.{AreaCall, WrittenOver}
@@ -16,7 +15,7 @@ use Rattle.multipliers.specs.Answers.{column-question, MultipliersAnswered}
 use Rattle.multipliers.specs.Bytes.{multipliers-length, multipliers-bytes}
 use Rattle.reason.specs.Answers.{reason-question, ReasonAnswered}
 use Rattle.reason.specs.Bytes.{reason-length, reason-bytes}
-use Rattle.acceptance.specs.Bytes.{claim-length, AcceptanceOf, acceptance-length, acceptance-bytes}
+use Rattle.acceptance.specs.Bytes.{claim-question, AcceptanceOf, acceptance-length, acceptance-bytes}
 
 -- the layered call: as the model is judged, then 8 for the area
 abbrev pub LayeredBytes : (p n a b : ℕ) (cs ws : List ℕ) → Option (List ℕ) → (area : List ℕ) (number : ℕ) (area′ : List ℕ) → Type 0
@@ -39,7 +38,7 @@ ReasonBytes p n a b cs ws ns x =
 -- the call about the claim in these bytes: as the model is judged, then 8 for both areas
 abbrev pub AcceptanceCallBytes : (p n a b : ℕ) (cs ws : List ℕ) → Option (List ℕ) → (claim area : List ℕ) (number : ℕ) (area′ : List ℕ) → Type 0
 AcceptanceCallBytes p n a b cs ws ns claim =
-    AreaCall (model-tests p n a b cs ws ns) (unless (area-test claim-length (length claim)) area-short) acceptance-length (WrittenOver (AcceptanceOf (listed-model p n a b cs ws) claim) acceptance-bytes)
+    AreaCall (model-tests p n a b cs ws ns) (claim-question claim) acceptance-length (WrittenOver (AcceptanceOf (listed-model p n a b cs ws) claim) acceptance-bytes)
 
 -- a reading: the refusal, and the areas afterwards; some sizes are those of the file
 pub record FileInAreas (s cs ws ks : List ℕ) (refusal : ℕ) (cs′ ws′ ks′ : List ℕ) : Type 0 where

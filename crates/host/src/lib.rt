@@ -1,4 +1,5 @@
-// Answers as bytes, for a caller that lends an area: each is written over the front of the area, or the area is refused and left as it was.
+// Answers as bytes, for a caller that lends an area: each is written over the front of the area, or the area is refused and left as it
+// was. And the byte of a yes or no.
 ghost use mathlib.Core.List.{[], _∷_};
 ghost use mathlib.Core.Path.{_≡_};
 ghost use Prim.Native.Nat.{_≤_};

@@ -1,45 +1,46 @@
 -- The call about a claim on a file is the call on the file's model handed over, and the call from C is the call on its file; what stands behind a claim's
 -- bytes does not count; and the bytes of a claim of ours are accepted. Assumes nothing.
-use Prim.Native.Nat.{ℕ, zero, suc, _+_, _≤_}
+use Prim.Native.Nat.{ℕ, zero, suc, _+_, _≤_, _*_}
 use mathlib.Core.Path.{_≡_, refl, sym, ap, _∙_, subst}
 use mathlib.Core.Bool.{Bool, true, false}
 use mathlib.Core.Option.{none}
-use mathlib.Core.Logic.{_↔_}
+use mathlib.Core.Logic.{_≢_, _↔_}
 use mathlib.Core.List.{List, [], _∷_, _++_, flatten, append-assoc}
 use native.Mathlib.Omega.{arith}
 use lib.ListN.{length, getD, take, drop}
 use lib.Seq.{take-take, take-at, drop-at, drop-drop, getD-take}
 use Rattle.limits.specs.Limits.{most-columns, most-rows, set-bytes}
-use Rattle.counting.specs.Sets.{indicator}
+use Rattle.counting.specs.Sets.{indicator, _⊆_}
 use Rattle.columns.specs.Bytes.{number, bytes-of}
 use Rattle.columns.specs.Columns.{members}
 use Rattle.columns.specs.ColumnSets.{whole}
 use Rattle.columns.specs.Words.Bytes.{AreBytes, bytes-of-length}
 use Rattle.format.specs.Lists.{over}
 use Rattle.format.specs.Refusals.{unless, area-short, area-test}
-use Rattle.format.specs.RefusalLaws.{then-zero}
+use Rattle.format.specs.RefusalLaws.{then-zero, then-refused}
 use Rattle.format.specs.TestLaws.{accepted-model}
 use Rattle.format.specs.File.Piece.{closed}
 use Rattle.format.specs.File.Format.{fields, judge, decode}
-use Rattle.rank.specs.Layered.Rank.{rank}
-use Rattle.claims.specs.Claim.{AcceptsClaim}
-use Rattle.claims.specs.Theorems.{accepted-is-the-rank}
-use Rattle.layered.specs.Answers.{AnswerShown, Answered, LayeredFileCall}
+use Rattle.rank.specs.Layered.Rank.{rank, short}
+use Rattle.claims.specs.Claim.{AcceptsClaim, Shows}
+use Rattle.claims.specs.Theorems.{accepted-is-the-rank, short-in-accepted}
+use Rattle.layered.specs.Answers.{AnswerShown, Answered}
 use Rattle.layered.specs.declared.Answer.{Answer}
 use Rattle.layered.specs.FileModel.{file-model}
 use Rattle.layered.proofs.FileLaws.{call-answered}
-use Rattle.host.specs.AnswerBytes.{answer-bytes}
+use Rattle.host.specs.AnswerBytes.{answer-bytes, front-bytes}
 use Rattle.host.specs.AreaCall.{area-refusal, AreaCall, WrittenOver}
-use Rattle.acceptance.specs.Answers.{ClaimAccepted, AcceptanceCall, AcceptanceFileCall}
+use Rattle.acceptance.specs.Answers.{AcceptanceCall, AcceptanceFileCall}
 use Rattle.acceptance.specs.Bytes.{claim-length, claim-rank, claim-side, claim-rows, claim-set, ClaimShown, AcceptanceOf, acceptance-length, acceptance-bytes}
 use Rattle.acceptance.proofs.ByteLaws.{claim-same}
 use Rattle.acceptance.specs.declared.Claim.{Claim}
 use Rattle.acceptance.specs.declared.Acceptance.{Acceptance}
 use Rattle.solvability.specs.Host.{HostAnswer, HostAccepts}
+use Rattle.rank.specs.Layered.Model.{Assignment, Legal, size}
 use Rattle.promises.specs.AnswerLaws.{front-area}
 use Rattle.promises.specs.FileLaws.{file-accepted}
 use Rattle.promises.specs.ShownLaws.{ShownWhole, answer-shown-whole}
-use Rattle.promises.specs.AcceptanceLaws.{claim-of, own-accepted, own-claim-accepted}
+use Rattle.promises.specs.AcceptanceLaws.{own-assignment, any-accepted, own-size, own-shown}
 
 pub acceptance-file-call : (s : List ℕ) → AreBytes s → (c : Claim) (r : Acceptance) → AcceptanceFileCall s c r → r .refusal ≡ 0
     → AcceptanceCall (decode s .p) (decode s .n) (decode s .a) (decode s .b) (flatten (decode s .constants)) (decode s .parameters) none c r
@@ -50,25 +51,31 @@ acceptance-file-call s bytes c r call ok =
 
 -- ---- from C
 
--- the bytes that show a claim: the rank, the constant side, the column of each parameter row, and the column set
-abbrev pub claim-bytes : Claim → List ℕ
-claim-bytes c = c .rank ∷ (bytes-of set-bytes (whole (c .constants)) ++ (c .rows ++ bytes-of set-bytes (whole (c .set))))
+-- bytes have the rank, the constant side, the rows and the short set of an answer where its bytes have them
+pub record PartsOf (t : Answer) (bs : List ℕ) : Type 0 where
+  pub rank-there : getD bs 1 0 ≡ t .rank
+  pub side-there : take set-bytes (drop (2 + set-bytes) bs) ≡ bytes-of set-bytes (whole (t .constants))
+  pub rows-there : take most-rows (drop (2 + 3 * set-bytes) bs) ≡ t .rows
+  pub short-there : take set-bytes (drop (2 + 2 * set-bytes) bs) ≡ bytes-of set-bytes (whole (t .short))
 
--- they show it, whatever stands behind them
-pub bytes-shown : (c : Claim) → length (c .rows) ≡ most-rows → ShownWhole (whole (c .constants)) → ShownWhole (whole (c .set)) → (rest : List ℕ) → ClaimShown (claim-bytes c ++ rest) c
-bytes-shown c long side-whole set-whole rest =
-    let side = bytes-of set-bytes (whole (c .constants)) in
-    let set = bytes-of set-bytes (whole (c .set)) in
-    let side-long = bytes-of-length set-bytes (whole (c .constants)) in
-    let set-long = bytes-of-length set-bytes (whole (c .set)) in
-    let parts : (side ++ (c .rows ++ set)) ++ rest ≡ side ++ (c .rows ++ (set ++ rest)) = append-assoc side (c .rows ++ set) rest ∙ ap (λ (z : List ℕ). side ++ z) (append-assoc (c .rows) set rest) in
-    let behind-side : drop set-bytes ((side ++ (c .rows ++ set)) ++ rest) ≡ c .rows ++ (set ++ rest) = ap (drop set-bytes) parts ∙ drop-at side (c .rows ++ (set ++ rest)) set-bytes side-long in
+-- so they have, whatever stands behind them
+parts-of-answer : (t : Answer) → length (t .rows) ≡ most-rows → (rest : List ℕ) → PartsOf t (answer-bytes t ++ rest)
+unfolding front-bytes
+parts-of-answer t long rest =
+    let placed = bytes-of set-bytes (whole (t .placed)) in
+    let side = bytes-of set-bytes (whole (t .constants)) in
+    let short = bytes-of set-bytes (whole (t .short)) in
+    let all = ((placed ++ (side ++ short)) ++ t .rows) ++ rest in
+    let apart : all ≡ placed ++ (side ++ (short ++ (t .rows ++ rest))) = append-assoc (placed ++ (side ++ short)) (t .rows) rest ∙ append-assoc placed (side ++ short) (t .rows ++ rest)
+    ∙ ap (λ (z : List ℕ). placed ++ z) (append-assoc side short (t .rows ++ rest)) in
+    let first : drop set-bytes all ≡ side ++ (short ++ (t .rows ++ rest)) = ap (drop set-bytes) apart ∙ drop-at placed _ set-bytes (bytes-of-length set-bytes (whole (t .placed))) in
+    let second : drop (set-bytes + set-bytes) all ≡ short ++ (t .rows ++ rest) = sym (drop-drop set-bytes set-bytes all) ∙ ap (drop set-bytes) first ∙ drop-at side _ set-bytes (bytes-of-length set-bytes (whole (t .constants))) in
+    let third : drop (set-bytes + set-bytes + set-bytes) all ≡ t .rows ++ rest = sym (drop-drop set-bytes (set-bytes + set-bytes) all) ∙ ap (drop set-bytes) second ∙ drop-at short _ set-bytes (bytes-of-length set-bytes (whole (t .short))) in
     record {
-      rank-is = refl;
-      side-is = sym side-whole ∙ ap number (sym (ap (take set-bytes) parts ∙ take-at side (c .rows ++ (set ++ rest)) set-bytes side-long));
-      rows-are = sym (ap (take most-rows) behind-side ∙ take-at (c .rows) (set ++ rest) most-rows long);
-      set-is = sym set-whole ∙ ap number (sym (ap (take set-bytes) (sym (drop-drop most-rows set-bytes ((side ++ (c .rows ++ set)) ++ rest)) ∙ ap (drop most-rows) behind-side ∙ drop-at (c .rows) (set ++ rest) most-rows long)
-          ∙ take-at set rest set-bytes set-long));
+      rank-there = refl;
+      side-there = ap (take set-bytes) first ∙ take-at side (short ++ (t .rows ++ rest)) set-bytes (bytes-of-length set-bytes (whole (t .constants)));
+      rows-there = ap (take most-rows) third ∙ take-at (t .rows) rest most-rows long;
+      short-there = ap (take set-bytes) second ∙ take-at short (t .rows ++ rest) set-bytes (bytes-of-length set-bytes (whole (t .short)));
     }
 
 -- a host's call that is accepted
@@ -93,13 +100,10 @@ module _ (s claim area area′ : List ℕ) (call : HostAccepts s claim area 0 ar
         is-shown = written .is-shown;
       }
 
-  -- 1 where it shows a claim that is accepted
-  pub accepted-written : (c : Claim) → ClaimShown claim c → ClaimAccepted (file-model s) c → area′ ≡ over (1 ∷ []) area
+  -- 1 where the claim that it shows is accepted
+  accepted-written : AcceptsClaim (file-model s) (claim-rank claim) (members (claim-side claim)) (claim-rows claim) (members (claim-set claim)) → area′ ≡ over (1 ∷ []) area
   unfolding indicator
-  accepted-written c shows h =
-      let t = written .answer in
-      let yes-accepted : t .accepted ≡ true = written .is-answer .1 (subst (λ (X : Type 0). X) (claim-same shows) h) in
-      written .is-shown ∙ ap (λ (u : Bool). over (indicator u ∷ []) area) yes-accepted
+  accepted-written h = written .is-shown ∙ ap (λ (u : Bool). over (indicator u ∷ []) area) (written .is-answer .1 h)
 
 -- ---- what stands behind a claim
 
@@ -129,42 +133,57 @@ pub claim-surplus : (s claim other : List ℕ) → take claim-length claim ≡ t
 claim-surplus s claim other e area the-number area′ =
     subst (λ (Call : List ℕ → ℕ → List ℕ → Type 0). Call area the-number area′) (sym (front-same s claim) ∙ ap (HostAccepts s) e ∙ front-same s other)
 
--- ---- files and C, beside the layered call
+-- ---- from C, beside the layered call
 
-module _ (s : List ℕ) (bytes : AreBytes s) where
-  few : judge s ≡ 0 → (file-model s .n ≤ most-columns) × (file-model s .b ≤ most-rows)
-  few ok = let h = file-accepted s bytes ok in (h .n-most, h .b-most)
-
-  pub own-in-a-file : (t : Answer) → LayeredFileCall s t → t .refusal ≡ 0 → (r : Acceptance) → AcceptanceFileCall s (claim-of t) r → (r .refusal ≡ 0) × (r .accepted ≡ true)
-  own-in-a-file t answer ok r call = let f = few (sym (answer .is-refusal) ∙ ok) in own-claim-accepted (claim-of t) r call t answer ok (f .0) (f .1) refl
-
-  -- the bytes of an answer, put together as a claim
-  pub own-from-C : (area area′ : List ℕ) → HostAnswer s area 0 area′ → AnswerShown (Answered (file-model s)) (λ t.
-      (area′ ≡ over (answer-bytes t) area) × ((rest out out′ : List ℕ) → HostAccepts s (claim-bytes (claim-of t) ++ rest) out 0 out′ → out′ ≡ over (1 ∷ []) out))
-  unfolding area-refusal judge
-  own-from-C area area′ call =
-      let shown = call .if-accepted (sym (call .is-number)) in
-      let t = shown .answer in
-      let h = shown .is-answer in
-      let f = few (then-zero (closed fields s) _ (sym (call .is-number)) .0) in
-      let w = answer-shown-whole (file-model s) t (f .0) h in
-      record {
-        answer = t;
-        is-answer = h;
-        is-shown = (
-          shown .is-shown,
-          λ rest out out′ asked. accepted-written s (claim-bytes (claim-of t) ++ rest) out out′ asked (claim-of t) (bytes-shown (claim-of t) (h .row-count) (w .1) (w .2) rest)
-              (own-accepted (file-model s) t h (f .0) (f .1)),
-        );
-      }
-
--- where the byte is 1, the claim's rank is the rank
-pub rank-from-C : (s claim area area′ : List ℕ) → HostAccepts s claim area 0 area′ → getD area′ 0 0 ≡ 1 → claim-rank claim ≡ rank (file-model s)
+-- where the byte is 1, the claim's rank is the rank, and its set has every short column
+pub claim-from-C : (s claim area area′ : List ℕ) → HostAccepts s claim area 0 area′ → getD area′ 0 0 ≡ 1 → (claim-rank claim ≡ rank (file-model s)) × (short (file-model s) ⊆ members (claim-set claim))
 unfolding over indicator
-rank-from-C s claim area area′ call e =
+claim-from-C s claim area area′ call e =
     let w = written s claim area area′ call in
-    accepted-is-the-rank (file-model s) (w .is-answer .0 (one (w .answer .accepted) (sym (ap (λ (xs : List ℕ). getD xs 0 0) (w .is-shown)) ∙ e)) .is-accepted)
+    let h = w .is-answer .0 (one (w .answer .accepted) (sym (ap (λ (xs : List ℕ). getD xs 0 0) (w .is-shown)) ∙ e)) .is-accepted in
+    (accepted-is-the-rank (file-model s) h, short-in-accepted (file-model s) h)
   where
     one : (t : Bool) → indicator t ≡ 1 → t ≡ true
     one true d = refl
     one false d = absurd (omega (arith, d))
+
+-- an answer, its bytes in an area, and a claim with its rank and its short set
+module _ (s : List ℕ) (bytes : AreBytes s) (area area′ : List ℕ) (answer : HostAnswer s area 0 area′) (claim out out′ : List ℕ) (call : HostAccepts s claim out 0 out′) where
+  shown : AnswerShown (Answered (file-model s)) (λ t. area′ ≡ over (answer-bytes t) area)
+  shown = answer .if-accepted (sym (answer .is-number))
+
+  few : (file-model s .n ≤ most-columns) × (file-model s .b ≤ most-rows)
+  few = let h = file-accepted s bytes (accepted-file s claim out out′ call) in (h .n-most, h .b-most)
+
+  abbrev t : Answer
+  t = shown .answer
+
+  parts : PartsOf t area′
+  unfolding over
+  parts = subst (PartsOf t) (sym (shown .is-shown)) (parts-of-answer t (shown .is-answer .row-count) (drop (length (answer-bytes t)) area))
+
+  module _ (same-rank : claim-rank claim ≡ getD area′ 1 0) (same-set : take set-bytes (drop (1 + set-bytes + most-rows) claim) ≡ take set-bytes (drop (2 + 2 * set-bytes) area′)) where
+    whole-sets : ShownWhole (whole (t .placed)) × ShownWhole (whole (t .constants)) × ShownWhole (whole (t .short))
+    whole-sets = answer-shown-whole (file-model s) t (few .0) (shown .is-answer)
+
+    set-is : claim-set claim ≡ whole (t .short)
+    set-is = ap number (same-set ∙ parts .short-there) ∙ whole-sets .2
+
+    -- with any legal assignment of that size it is accepted,
+    pub any-from-C : (A : Assignment) → Shows (members (claim-side claim)) (claim-rows claim) A → Legal (file-model s) A → size (file-model s) A ≡ getD area′ 1 0 → out′ ≡ over (1 ∷ []) out
+    any-from-C A shows legal many = accepted-written s claim out out′ call (any-accepted (file-model s) t (shown .is-answer) (claim-rank claim) (claim-set claim) (same-rank ∙ parts .rank-there) set-is (claim-side claim) (claim-rows claim) A shows legal (many ∙ parts .rank-there))
+
+    -- so with the answer's own
+    pub own-from-C : take set-bytes (drop 1 claim) ≡ take set-bytes (drop (2 + set-bytes) area′) → claim-rows claim ≡ take most-rows (drop (2 + 3 * set-bytes) area′) → out′ ≡ over (1 ∷ []) out
+    own-from-C same-side same-rows =
+        let h = shown .is-answer in
+        let side-is : claim-side claim ≡ whole (t .constants) = ap number (same-side ∙ parts .side-there) ∙ whole-sets .1 in
+        let A = own-assignment (file-model s) t in
+        any-from-C A (rw (side-is, same-rows ∙ parts .rows-there) (own-shown (file-model s) t h (few .0) (few .1))) (h .solved .is-legal) (own-size (file-model s) t h ∙ sym (parts .rank-there))
+
+-- ---- a file that is refused
+
+pub host-refused-alike : (s claim area area′ out out′ : List ℕ) (k j : ℕ) → HostAnswer s area k area′ → HostAccepts s claim out j out′ → judge s ≢ 0 → (k ≡ judge s) × (j ≡ judge s)
+unfolding area-refusal judge
+host-refused-alike s claim area area′ out out′ k j answer call nz =
+    (answer .is-number ∙ sym (then-refused (closed fields s) _ (judge s) refl nz), call .is-number ∙ sym (then-refused (closed fields s) _ (judge s) refl nz))

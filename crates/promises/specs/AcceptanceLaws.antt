@@ -1,21 +1,22 @@
 -- What an accepted claim says of the answers that the layered call gives; and that a claim made of such an answer is accepted. Assumes nothing.
 use Prim.Native.Nat.{ℕ, _<_, _≤_}
-use mathlib.Core.Path.{_≡_, refl, sym, ap, _∙_, subst, fun-ext}
+use mathlib.Core.Path.{_≡_, sym, ap, _∙_, subst, fun-ext}
 use mathlib.Core.Logic.{inl, inr, by-cases}
-use mathlib.Core.Bool.{true, false, true≢false, false≢true}
+use mathlib.Core.Bool.{true, false, true≢false}
 use native.Mathlib.Omega.{arith}
 use native.Mathlib.Decide.{ℕ-discrete, decLt}
+use mathlib.Core.List.{List}
 use lib.ListN.{getD}
 use Rattle.limits.specs.Limits.{most-columns, most-rows, no-column}
 use Rattle.counting.specs.Sets.{Set, _⊆_}
 use Rattle.counting.specs.Counts.{#-ext}
 use Rattle.columns.specs.Columns.{members}
 use Rattle.columns.specs.ColumnSets.{whole}
-use Rattle.rank.specs.Layered.Model.{Model, Seat, out, constant, row, Assignment, is-constant, placing, Legal, size}
+use Rattle.rank.specs.Layered.Model.{Model, row, Assignment, is-constant, placing, Legal, size}
 use Rattle.rank.specs.Layered.Rank.{sum, rank, placed, short}
 use Rattle.rank.specs.Theorems.{short-is-the-smallest, placed-has-the-rank}
-use Rattle.claims.specs.Claim.{Shows}
-use Rattle.claims.specs.ClaimLaws.{named-below, read-below}
+use Rattle.claims.specs.Claim.{Shows, AcceptsClaim}
+use Rattle.claims.specs.ClaimLaws.{constant-seat, named-below, read-below}
 use Rattle.claims.specs.Theorems.{accepted-is-the-rank, short-in-accepted}
 use Rattle.exchange.specs.Solution.{shown}
 use Rattle.layered.specs.Answers.{Refused, Answered, RankCall}
@@ -28,19 +29,19 @@ use Rattle.acceptance.specs.declared.Acceptance.{Acceptance}
 abbrev pub claim-of : Answer → Claim
 claim-of s = record { rank = s .rank; constants = s .constants; rows = s .rows; set = s .short }
 
-constant-seat : (t : Seat) → is-constant t ≡ true → t ≡ constant
-constant-seat out e = absurd (false≢true e)
-constant-seat constant e = refl
-constant-seat (row r) e = absurd (false≢true e)
-
 -- ---- an answer of ours
+
+-- the assignment that it shows
+abbrev pub own-assignment : Model → Answer → Assignment
+own-assignment M s = shown (M .n) (M .b) (members (whole (s .constants))) (s .rows)
 
 module _ (M : Model) (s : Answer) (h : Answered M s) where
   -- its rank and short set, with any legal assignment of that size
-  pub any-accepted : (c : Claim) → c .rank ≡ s .rank → whole (c .set) ≡ whole (s .short) → (A : Assignment) → Shows (members (whole (c .constants))) (c .rows) A → Legal M A → size M A ≡ s .rank → ClaimAccepted M c
-  any-accepted c er es A shows legal many =
+  pub any-accepted : (the-rank set : ℕ) → the-rank ≡ s .rank → set ≡ whole (s .short) → (side : ℕ) (rows : List ℕ) (A : Assignment) → Shows (members side) rows A → Legal M A → size M A ≡ s .rank
+      → AcceptsClaim M the-rank (members side) rows (members set)
+  any-accepted the-rank set er es side rows A shows legal many =
       let solved = h .solved in
-      let set-is : members (whole (c .set)) ≡ short M = ap members es ∙ fun-ext (solved .is-short) in
+      let set-is : members set ≡ short M = ap members es ∙ fun-ext (solved .is-short) in
       record {
         assignment = A;
         is-shown = shows;
@@ -52,15 +53,18 @@ module _ (M : Model) (s : Answer) (h : Answered M s) where
         };
       }
 
+  pub own-size : size M (own-assignment M s) ≡ s .rank
+  own-size = #-ext (M .n) (placing (own-assignment M s)) (placed M) (λ x l. h .solved .places-it x) ∙ placed-has-the-rank M ∙ sym (h .solved .is-rank)
+
   module _ (few : M .n ≤ most-columns) (few-rows : M .b ≤ most-rows) where
     abbrev A : Assignment
-    A = shown (M .n) (M .b) (members (whole (s .constants))) (s .rows)
+    A = own-assignment M s
 
     at : (r : ℕ) → r < most-rows → getD (s .rows) r no-column ≡ getD (s .rows) r 0
     at r l = read-below (s .rows) r no-column 0 (omega (arith, h .row-count))
 
     -- its own assignment is the one that its side and rows show
-    own-shown : Shows (members (whole (s .constants))) (s .rows) A
+    pub own-shown : Shows (members (whole (s .constants))) (s .rows) (own-assignment M s)
     own-shown =
         let v = h .solved in
         record {
@@ -84,10 +88,6 @@ module _ (M : Model) (s : Answer) (h : Answered M s) where
           );
         }
 
-    pub own-accepted : ClaimAccepted M (claim-of s)
-    own-accepted = any-accepted (claim-of s) refl refl A own-shown (h .solved .is-legal)
-        (#-ext (M .n) (placing A) (placed M) (λ x l. h .solved .places-it x) ∙ placed-has-the-rank M ∙ sym (h .solved .is-rank))
-
 -- ---- the call about a claim, beside the layered call on the same model
 
 module _ {due : ℕ} {M : Model} (c : Claim) (r : Acceptance) (call : RankCall due (r .refusal) (AcceptanceRefused r) (AcceptanceAnswered M c r)) where
@@ -96,9 +96,6 @@ module _ {due : ℕ} {M : Model} (c : Claim) (r : Acceptance) (call : RankCall d
 
   pub rank-accepted : r .accepted ≡ true → c .rank ≡ rank M
   rank-accepted e = accepted-is-the-rank M (claim-accepted e .1 .is-accepted)
-
-  accepted-by : due ≡ 0 → ClaimAccepted M c → (r .refusal ≡ 0) × (r .accepted ≡ true)
-  accepted-by z h = (call .is-refusal ∙ z, call .if-accepted z .1 h)
 
   module _ (s : Answer) (answer : RankCall due (s .refusal) (Refused s) (Answered M s)) where
     pub reported-accepted : r .accepted ≡ true → (s .refusal ≡ 0) × (c .rank ≡ s .rank) × (members (whole (s .short)) ⊆ members (whole (c .set)))
@@ -111,9 +108,14 @@ module _ {due : ℕ} {M : Model} (c : Claim) (r : Acceptance) (call : RankCall d
       zero-due : due ≡ 0
       zero-due = sym (answer .is-refusal) ∙ ok
 
-      pub own-claim-accepted : M .n ≤ most-columns → M .b ≤ most-rows → c ≡ claim-of s → (r .refusal ≡ 0) × (r .accepted ≡ true)
-      own-claim-accepted few few-rows e = accepted-by zero-due (subst (ClaimAccepted M) (sym e) (own-accepted M s (answer .if-accepted zero-due) few few-rows))
-
+      -- with its rank and short set, and any legal assignment of that size
       pub any-claim-accepted : c .rank ≡ s .rank → whole (c .set) ≡ whole (s .short) → (A : Assignment) → Shows (members (whole (c .constants))) (c .rows) A → Legal M A → size M A ≡ s .rank
           → (r .refusal ≡ 0) × (r .accepted ≡ true)
-      any-claim-accepted er es A shows legal many = accepted-by zero-due (any-accepted M s (answer .if-accepted zero-due) c er es A shows legal many)
+      any-claim-accepted er es A shows legal many =
+          (call .is-refusal ∙ zero-due, call .if-accepted zero-due .1 (any-accepted M s (answer .if-accepted zero-due) (c .rank) (whole (c .set)) er es (whole (c .constants)) (c .rows) A shows legal many))
+
+      pub own-claim-accepted : M .n ≤ most-columns → M .b ≤ most-rows → c ≡ claim-of s → (r .refusal ≡ 0) × (r .accepted ≡ true)
+      own-claim-accepted few few-rows e =
+          let h = answer .if-accepted zero-due in
+          any-claim-accepted (ap (λ (d : Claim). d .rank) e) (ap (λ (d : Claim). whole (d .set)) e) (own-assignment M s)
+          (subst (λ (d : Claim). Shows (members (whole (d .constants))) (d .rows) (own-assignment M s)) (sym e) (own-shown M s h few few-rows)) (h .solved .is-legal) (own-size M s h)

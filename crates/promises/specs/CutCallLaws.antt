@@ -28,8 +28,8 @@ use Rattle.multipliers.specs.Answers.{FileAnswered}
 use Rattle.multipliers.specs.Bytes.{multipliers-length, multipliers-bytes}
 use Rattle.reason.specs.Answers.{reason-question, FileReason}
 use Rattle.reason.specs.Bytes.{reason-length, reason-bytes}
-use Rattle.acceptance.specs.Bytes.{AcceptanceOf, acceptance-length, acceptance-bytes}
-use Rattle.solvability.specs.Host.{HostAnswer, HostMixedAnswer, set-shown, multipliers-question, HostMultipliers, HostReason, claim-question, HostAccepts}
+use Rattle.acceptance.specs.Bytes.{claim-question, AcceptanceOf, acceptance-length, acceptance-bytes}
+use Rattle.solvability.specs.Host.{HostAnswer, HostMixedAnswer, set-shown, multipliers-question, HostMultipliers, HostReason, HostAccepts}
 use Rattle.text.specs.Text.{refused-line, Prints}
 use Rattle.text.specs.declared.Printed.{Printed}
 use Rattle.report.specs.FileReport.{Reports, FileReport}

@@ -4,9 +4,9 @@ use mathlib.Core.Path.{_≡_, refl, sym, _∙_, subst}
 use mathlib.Core.Bool.{Bool, true, false}
 use mathlib.Core.Option.{Option, none, some}
 use mathlib.Core.Logic.{_≢_, _↔_, _⊎_}
-use mathlib.Core.List.{List, [], _∷_, _++_, flatten}
+use mathlib.Core.List.{List, [], _∷_, flatten}
 use native.Mathlib.Omega.{arith}
-use lib.ListN.{length, getD, take}
+use lib.ListN.{length, getD, take, drop}
 use lib.Seq.{take-take}
 use Rattle.counting.specs.Sets.{Set, _∈_, _⊆_, #, touching, Some}
 use Rattle.counting.specs.Counts.{_⊖_}
@@ -31,7 +31,7 @@ use Rattle.determinants.specs.Determinant.{Largest}
 use Rattle.determinants.specs.ModelTables.{LayeredOrder, MixedOrder}
 use Rattle.determinants.specs.Theorems.{rank-is-largest-order, mixed-rank-is-largest-order}
 use Rattle.format.specs.Lists.{over}
-use Rattle.limits.specs.Limits.{most-columns, set-bytes, longest-file, no-column}
+use Rattle.limits.specs.Limits.{most-columns, most-rows, set-bytes, longest-file, no-column}
 use Rattle.format.specs.Numbers.{lent, numbers-of, is-numbered}
 use Rattle.format.specs.Refusals.{refusal, mixed-refusal}
 use Rattle.format.specs.TestLaws.{model-accepted, accepted-model, unnumbered-accepted}
@@ -53,10 +53,9 @@ use Rattle.reason.specs.Answers.{ReasonAnswered, ReasonCall, ReasonFileCall}
 use Rattle.reason.specs.Bytes.{reason-bytes}
 use Rattle.reason.specs.declared.Reason.{Reason}
 use Rattle.acceptance.specs.Answers.{AcceptanceCall, AcceptanceFileCall}
-use Rattle.acceptance.specs.Bytes.{claim-length, claim-rank, ClaimShown, acceptance-bytes}
+use Rattle.acceptance.specs.Bytes.{claim-length, claim-rank, claim-side, claim-rows, claim-set, ClaimShown, acceptance-bytes}
 use Rattle.acceptance.specs.declared.Claim.{Claim}
 use Rattle.acceptance.specs.declared.Acceptance.{Acceptance}
-use Rattle.host.specs.AnswerBytes.{answer-bytes}
 use Rattle.solvability.specs.Host.{HostAnswer, HostMixedAnswer, set-shown, HostMultipliers, HostReason, HostAccepts}
 use Rattle.text.specs.declared.Printed.{Printed}
 use Rattle.report.specs.FileReport.{FileReport}
@@ -77,7 +76,8 @@ use Rattle.promises.specs.ReasonCallLaws.{reason-file-call, reason-host-
 use Rattle.promises.specs.ReasonSameLaws.{reason-calls-same}
 use Rattle.promises.specs.AcceptanceLaws.{claim-of, rank-accepted, reported-accepted, own-claim-accepted, any-claim-accepted}
 use Rattle.promises.specs.AcceptanceSameLaws.{acceptance-calls-same}
-use Rattle.promises.specs.AcceptanceCallLaws.{acceptance-file-call, acceptance-host-call, own-in-a-file, own-from-C, rank-from-C, claim-bytes, claim-surplus}
+use Rattle.promises.specs.AcceptanceCallLaws.{acceptance-file-call, acceptance-host-call, claim-from-C, own-from-C, any-from-C, host-refused-alike, claim-surplus}
+use Rattle.promises.specs.FileLaws.{file-accepted}
 use Rattle.promises.specs.DocumentFile.{document-file, document-accepted, document-model}
 
 -- ---- read and written, written and read
@@ -416,32 +416,50 @@ module _ (p n a b : ℕ) (cs ws : List ℕ) (ns : Option (List ℕ)) (c : Claim)
   pub refused-like-a-rank-call : (s : Answer) → LayeredCall p n a b cs ws ns s → r .refusal ≡ s .refusal
   refused-like-a-rank-call s answer = call .is-refusal ∙ sym (answer .is-refusal)
 
--- All this holds of files and from C too. A file is refused as the layered call refuses it;
-pub file-refused-like-a-rank-call : (s : List ℕ) (c : Claim) (r : Acceptance) → AcceptanceFileCall s c r → (t : Answer) → LayeredFileCall s t → r .refusal ≡ t .refusal
-file-refused-like-a-rank-call s c r call t answer = call .is-refusal ∙ sym (answer .is-refusal)
+-- The same of the model in a file, of which all columns are offered too,
+module _ (file : List ℕ) (bytes : AreBytes file) (c : Claim) (r : Acceptance) (call : AcceptanceFileCall file c r) where
+  pub file-claim-has-the-rank : r .accepted ≡ true → c .rank ≡ rank (file-model file)
+  file-claim-has-the-rank = rank-accepted c r call
 
--- a call on a file that is accepted is the call on the file's model, handed over;
-pub acceptance-file-call-is-of-its-model : (s : List ℕ) → AreBytes s → (c : Claim) (r : Acceptance) → AcceptanceFileCall s c r → r .refusal ≡ 0
-    → AcceptanceCall (decode s .p) (decode s .n) (decode s .a) (decode s .b) (flatten (decode s .constants)) (decode s .parameters) none c r
-acceptance-file-call-is-of-its-model = acceptance-file-call
+  pub file-claim-agrees-with-the-answer : r .accepted ≡ true → (s : Answer) → LayeredFileCall file s → (s .refusal ≡ 0) × (c .rank ≡ s .rank) × (members (whole (s .short)) ⊆ members (whole (c .set)))
+  file-claim-agrees-with-the-answer e s answer = reported-accepted c r call s answer e
 
--- the answer to a file is accepted as a claim about it;
-pub own-answer-accepted-in-a-file : (s : List ℕ) → AreBytes s → (t : Answer) → LayeredFileCall s t → t .refusal ≡ 0 → (r : Acceptance) → AcceptanceFileCall s (claim-of t) r → (r .refusal ≡ 0) × (r .accepted ≡ true)
-own-answer-accepted-in-a-file = own-in-a-file
+  pub file-answer-accepted : (s : Answer) → LayeredFileCall file s → s .refusal ≡ 0 → c ≡ claim-of s → (r .refusal ≡ 0) × (r .accepted ≡ true)
+  file-answer-accepted s answer ok = let h = file-accepted file bytes (sym (answer .is-refusal) ∙ ok) in own-claim-accepted c r call s answer ok (h .n-most) (h .b-most)
 
--- a host's call that is accepted writes the byte of an answer of the call on its file, about the claim that the bytes show;
+  pub file-any-legal-assignment-accepted : (s : Answer) → LayeredFileCall file s → s .refusal ≡ 0 → c .rank ≡ s .rank → whole (c .set) ≡ whole (s .short)
+      → (A : Assignment) → Shows (members (whole (c .constants))) (c .rows) A → Legal (file-model file) A → size (file-model file) A ≡ s .rank → (r .refusal ≡ 0) × (r .accepted ≡ true)
+  file-any-legal-assignment-accepted s answer ok = any-claim-accepted c r call s answer ok
+
+  pub file-refused-like-a-rank-call : (s : Answer) → LayeredFileCall file s → r .refusal ≡ s .refusal
+  file-refused-like-a-rank-call s answer = call .is-refusal ∙ sym (answer .is-refusal)
+
+  -- which is the call on the file's model, handed over;
+  pub acceptance-file-call-is-of-its-model : r .refusal ≡ 0 → AcceptanceCall (decode file .p) (decode file .n) (decode file .a) (decode file .b) (flatten (decode file .constants)) (decode file .parameters) none c r
+  acceptance-file-call-is-of-its-model = acceptance-file-call file bytes c r call
+
+-- and from C. A host's call that is accepted writes the byte of an answer of the call on its file, about the claim that the bytes show;
 pub acceptance-host-call-is-of-its-file : (s claim area area′ : List ℕ) → HostAccepts s claim area 0 area′ → (c : Claim) → ClaimShown claim c
     → AnswerShown (λ r. (r .refusal ≡ 0) × AcceptanceFileCall s c r) (λ r. area′ ≡ over (acceptance-bytes r) area)
 acceptance-host-call-is-of-its-file = acceptance-host-call
 
--- where that byte is 1, the rank in the claim's bytes is the rank of the file's model;
-pub accepted-from-C-has-the-rank : (s claim area area′ : List ℕ) → HostAccepts s claim area 0 area′ → getD area′ 0 0 ≡ 1 → claim-rank claim ≡ rank (file-model s)
-accepted-from-C-has-the-rank = rank-from-C
+-- where that byte is 1, the rank in the claim's bytes is the rank of the file's model, and its set has every short column;
+pub accepted-from-C-has-the-rank : (s claim area area′ : List ℕ) → HostAccepts s claim area 0 area′ → getD area′ 0 0 ≡ 1 → (claim-rank claim ≡ rank (file-model s)) × (short (file-model s) ⊆ members (claim-set claim))
+accepted-from-C-has-the-rank = claim-from-C
 
--- and it is 1 where a host puts the bytes of its own answer together as a claim, with anything behind them.
-pub own-answer-accepted-from-C : (s : List ℕ) → AreBytes s → (area area′ : List ℕ) → HostAnswer s area 0 area′ → AnswerShown (Answered (file-model s)) (λ t.
-    (area′ ≡ over (answer-bytes t) area) × ((rest out out′ : List ℕ) → HostAccepts s (claim-bytes (claim-of t) ++ rest) out 0 out′ → out′ ≡ over (1 ∷ []) out))
-own-answer-accepted-from-C = own-from-C
+-- it is 1 where a host takes the rank and the short set out of the bytes that the layered call wrote, with the side and the rows that it wrote,
+module _ (s : List ℕ) (bytes : AreBytes s) (area area′ : List ℕ) (answer : HostAnswer s area 0 area′) (claim out out′ : List ℕ) (call : HostAccepts s claim out 0 out′)
+    (same-rank : claim-rank claim ≡ getD area′ 1 0) (same-set : take set-bytes (drop (1 + set-bytes + most-rows) claim) ≡ take set-bytes (drop (2 + 2 * set-bytes) area′)) where
+  pub own-answer-accepted-from-C : take set-bytes (drop 1 claim) ≡ take set-bytes (drop (2 + set-bytes) area′) → claim-rows claim ≡ take most-rows (drop (2 + 3 * set-bytes) area′) → out′ ≡ over (1 ∷ []) out
+  own-answer-accepted-from-C = own-from-C s bytes area area′ answer claim out out′ call same-rank same-set
+
+  -- or with any legal assignment of that size;
+  pub any-legal-assignment-accepted-from-C : (A : Assignment) → Shows (members (claim-side claim)) (claim-rows claim) A → Legal (file-model s) A → size (file-model s) A ≡ getD area′ 1 0 → out′ ≡ over (1 ∷ []) out
+  any-legal-assignment-accepted-from-C = any-from-C s bytes area area′ answer claim out out′ call same-rank same-set
+
+-- and a file that the layered call refuses is refused with the same number.
+pub host-refused-like-a-rank-call : (s claim area area′ out out′ : List ℕ) (k j : ℕ) → HostAnswer s area k area′ → HostAccepts s claim out j out′ → judge s ≢ 0 → (k ≡ judge s) × (j ≡ judge s)
+host-refused-like-a-rank-call = host-refused-alike
 
 -- What stands in the area behind a claim's bytes changes nothing.
 pub claim-surplus-not-read : (s claim other : List ℕ) → take claim-length claim ≡ take claim-length other → (area : List ℕ) (number : ℕ) (area′ : List ℕ)

@@ -42,13 +42,9 @@ module _ (p n a b : ℕ) (cs ws : List ℕ) (ns : Option (List ℕ)) (c : Claim)
     abbrev holds : ClaimAccepted (listed-model p n a b cs ws) c
     holds = claim-accepted c r call yes-accepted .1
 
-    -- a row serves two columns, x and y: in the assignment that is accepted,
+    -- a row serves two columns, x and y, in the assignment that is accepted; in the claim itself a row names one column (`names-one`)
     pub row-serves-two-columns : (x y q : ℕ) → holds .assignment x ≡ row q → holds .assignment y ≡ row q → x ≢ y → ⊥
     row-serves-two-columns x y q e f ne = ne (holds .is-accepted .is-legal .one-each x y q e f)
-
-    -- and in the claim's own rows
-    pub row-names-two-columns : (x y q : ℕ) → Names (c .rows) q x → Names (c .rows) q y → x ≢ y → ⊥
-    row-names-two-columns x y q h k ne = ne (sym (h .0) ∙ k .0)
 
     -- a column is on the constant side and on a row, or on two rows
     pub column-on-both-sides : (x q : ℕ) → x ∈ members (whole (c .constants)) → Names (c .rows) q x → ⊥

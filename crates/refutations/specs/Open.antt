@@ -33,10 +33,10 @@ use Rattle.reason_report.specs.ReasonReport.{multiplier-line, reason-text, Reas
 use Rattle.reason.specs.Bytes.{reason-bytes}
 use Rattle.reason.specs.declared.Reason.{Reason}
 use Rattle.acceptance.specs.Answers.{AcceptanceCall}
-use Rattle.acceptance.specs.Bytes.{acceptance-bytes}
+use Rattle.acceptance.specs.Bytes.{claim-question, acceptance-bytes}
 use Rattle.acceptance.specs.declared.Claim.{Claim}
 use Rattle.acceptance.specs.declared.Acceptance.{Acceptance}
-use Rattle.solvability.specs.Host.{HostAnswer, HostMixedAnswer, multipliers-question, HostMultipliers, HostReason, claim-question, HostAccepts}
+use Rattle.solvability.specs.Host.{HostAnswer, HostMixedAnswer, multipliers-question, HostMultipliers, HostReason, HostAccepts}
 use Rattle.text.specs.Text.{ascii, line, column-items, print-refusal, printed, Prints}
 use Rattle.text.specs.declared.Printed.{Printed}
 use Rattle.report.specs.Report.{answer-text}

@@ -16,7 +16,7 @@ use Rattle.multipliers.specs.Answers.{column-question, FileAnswered}
 use Rattle.multipliers.specs.Bytes.{multipliers-length, multipliers-bytes}
 use Rattle.reason.specs.Answers.{reason-question, FileReason}
 use Rattle.reason.specs.Bytes.{reason-length, reason-bytes}
-use Rattle.acceptance.specs.Bytes.{claim-length, AcceptanceOf, acceptance-length, acceptance-bytes}
+use Rattle.acceptance.specs.Bytes.{claim-question, AcceptanceOf, acceptance-length, acceptance-bytes}
 
 -- the layered call: 1 to 7 and 13 as the file is judged, then 8 for the area; where it refuses, the area is as it was
 abbrev pub HostAnswer : (file area : List ℕ) (number : ℕ) (area′ : List ℕ) → Type 0
@@ -42,10 +42,6 @@ HostMultipliers file held x =
 -- the call about the reason for column x: 1 to 7 and 13, then 8, then 11, then 12
 abbrev pub HostReason : (file : List ℕ) (x : ℕ) (area : List ℕ) (number : ℕ) (area′ : List ℕ) → Type 0
 HostReason file x = AreaCall (closed fields file) (reason-question (file-model file) x) reason-length (WrittenOver (FileReason file x) reason-bytes)
-
--- what the call about a claim asks: 8 for too short an area of the claim
-abbrev pub claim-question : (claim : List ℕ) → Tests
-claim-question claim = unless (area-test claim-length (length claim)) area-short
 
 -- the call about a claim: 1 to 7 and 13, then 8 for both areas; no claim is refused
 abbrev pub HostAccepts : (file claim area : List ℕ) (number : ℕ) (area′ : List ℕ) → Type 0

@@ -1,4 +1,4 @@
--- `acceptance::seat_rows` meets its contract. The invariant: the rows below r have their seats. The measure is how many are left. Assumes nothing.
+-- `acceptance::seat_rows` meets its contract. The invariant: the columns of the rows below r have their seats. The measure is how many are left. Assumes nothing.
 use Prim.Native.Nat.{ℕ, _-_, _≤_}
 use mathlib.Core.Path.{_≡_, refl, sym, _∙_, subst}
 use mathlib.Core.Bool.{true≢false}
@@ -28,7 +28,7 @@ turn c = c .before .before
 abbrev begun : tie.At-loop Inv-loop μ-loop → tie.Start Inv-loop μ-loop
 begun l = l .before .before
 
--- the row gets its seat, by the column that the claim names there
+-- the column that the claim names in the row gets its seat
 row-seat : (c : tie.After-seat-row Inv-loop μ-loop) → let l = turn c in let a = begun l .args in
     RowSeated (a .n) (a .b) (row-numbers (a .parameters .now)) (members (whole (l .loop .seated))) (l .loop .r) (getD (a .t5) (l .loop .r) no-column) (c .seat-row .result)
 row-seat c =

@@ -16,7 +16,7 @@ use Rattle.format.specs.RefusalLaws.{then-passed, zero-unless}
 use Rattle.format.specs.TestLaws.{area-reads}
 use Rattle.host.specs.AreaCall.{AreaCall, WrittenOver}
 use Rattle.host.proofs.AreaLaws.{refused-before, refused-short, refused-beside, answer-put}
-use Rattle.acceptance.specs.Bytes.{claim-length, AcceptanceOf, acceptance-length, acceptance-bytes}
+use Rattle.acceptance.specs.Bytes.{claim-length, claim-question, AcceptanceOf, acceptance-length, acceptance-bytes}
 use Rattle.acceptance.proofs.ByteLaws.{answered-of-bytes}
 use Rattle.harness.proofs.harness_accepts.Statement.{statement}
 use Rattle.harness.proofs.harness_accepts.Tie as tie
@@ -25,23 +25,20 @@ use Rattle.harness.proofs.harness_accepts.Tie as tie
 abbrev begun : tie.After-model-acceptance → tie.Start
 begun c = c .before .before .before .before .before .before .before
 
--- the tests of the model, that of the claim's area, and what is written
+-- the tests of the model, and what is written
 abbrev tests : tie.Start → Tests
 tests k = let a = k .args in model-tests (a .p) (a .n) (a .a) (a .b) (a .constants .now) (row-numbers (a .parameters .now)) (lent (a .numbered) (a .numbers .now))
-
-abbrev asked : tie.Start → Tests
-asked k = unless (area-test claim-length (length (k .args .claim .now))) area-short
 
 abbrev Written : tie.Start → List ℕ → List ℕ → Type 0
 Written k = let a = k .args in WrittenOver (AcceptanceOf (listed-model (a .p) (a .n) (a .a) (a .b) (a .constants .now) (row-numbers (a .parameters .now))) (a .claim .now)) acceptance-bytes
 
 -- the claim's area is too short, whatever the answer's
-short : (k : tie.Start) → first-refusal (tests k) ≡ 0 → area-test claim-length (length (k .args .claim .now)) ≡ false → AreaCall (tests k) (asked k) acceptance-length (Written k) (k .args .answer .now) 8 (k .args .answer .now)
+short : (k : tie.Start) → first-refusal (tests k) ≡ 0 → area-test claim-length (length (k .args .claim .now)) ≡ false → AreaCall (tests k) (claim-question (k .args .claim .now)) acceptance-length (Written k) (k .args .answer .now) 8 (k .args .answer .now)
 unfolding first-refusal
 short k ok e =
     let eight : 8 ≡ first-refusal (tests k then unless false area-short) = then-passed (tests k) (unless false area-short) 8 ok refl in
     elim (decLt (length (k .args .answer .now)) acceptance-length) [
-      | yes l ↦ refused-short (tests k) (asked k) acceptance-length (Written k) (k .args .answer .now) l 8 eight
+      | yes l ↦ refused-short (tests k) (claim-question (k .args .claim .now)) acceptance-length (Written k) (k .args .answer .now) l 8 eight
       | no nl ↦ refused-beside (tests k) [] (area-test claim-length (length (k .args .claim .now))) acceptance-length (Written k) (k .args .answer .now) (omega arith) e 8 eight
     ]
 
@@ -56,7 +53,7 @@ unfolding refusal
 returns c =
     let f = c .before .before in
     let k = begun f in
-    refused-before (tests k) (asked k) acceptance-length (Written k) (k .args .answer .now) _ (f .model-acceptance .ensures .is-refusal) (c .if1 .taken)
+    refused-before (tests k) (claim-question (k .args .claim .now)) acceptance-length (Written k) (k .args .answer .now) _ (f .model-acceptance .ensures .is-refusal) (c .if1 .taken)
 
 returns-2 : tie.Need-returns-2
 unfolding area-test refusal
@@ -82,7 +79,7 @@ returns-3 c =
     let h = f .model-acceptance .ensures in
     let r = f .model-acceptance .result in
     let ok = sym (h .is-refusal) ∙ at-else .if1 .left in
-    answer-put acceptance-bytes (tests k) (asked k) r (answered-of-bytes r (f .before .read-claim .ensures .if-long (enough .if2 .left)) (h .if-accepted ok)) ok
+    answer-put acceptance-bytes (tests k) (claim-question (k .args .claim .now)) r (answered-of-bytes r (f .before .read-claim .ensures .if-long (enough .if2 .left)) (h .if-accepted ok)) ok
     (zero-unless _ area-short (area-reads _ _ .1 (enough .if2 .left))) (d .put-acceptance .ensures)
 
 pub harness-accepts-spec : {M : Type 1} → statement M

@@ -13,9 +13,8 @@ use Rattle.format.specs.File.Format.{fields, judge}
 use Rattle.layered.specs.FileModel.{file-model}
 use Rattle.host.specs.AreaCall.{WrittenOver}
 use Rattle.host.proofs.AreaLaws.{refused-before, refused-short, refused-beside, answer-put}
-use Rattle.acceptance.specs.Bytes.{claim-length, AcceptanceOf, acceptance-length, acceptance-bytes}
+use Rattle.acceptance.specs.Bytes.{claim-length, claim-question, AcceptanceOf, acceptance-length, acceptance-bytes}
 use Rattle.acceptance.proofs.ByteLaws.{answered-of-bytes}
-use Rattle.solvability.specs.Host.{claim-question}
 use Rattle.solvability.proofs.calls.wundreska_accepts.Statement.{statement}
 use Rattle.solvability.proofs.calls.wundreska_accepts.Tie as tie
 
