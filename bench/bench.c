@@ -1,5 +1,6 @@
 /* Times the library's layered call, the same in plain Rust, and FLINT's ranks, on the same models in one process; then the longest
- * file against that of the same model unnumbered; then the calls about a column against the layered call and FLINT's solving.
+ * file against that of the same model unnumbered; then the calls about a column against the layered call and FLINT's solving; then
+ * the call about a claim against the layered call and FLINT's ranks.
  * Prints a line for each kind of model: its table, its name, then microseconds a call of each method, parted by '|'. */
 #define _POSIX_C_SOURCE 200809L
 #include "harness.h"
@@ -29,14 +30,16 @@ static void put_parameters(Model *m, size_t many)
 /* As many columns as a word has bits, and as many as there may be. */
 enum { WORD = 64, MOST = WUNDRESKA_COLUMNS_MAX };
 
-static Model dense(uint32_t p, size_t n, size_t b)
+static Model dense_rows(uint32_t p, size_t n, size_t a, size_t b)
 {
-    Model m = {.p = p, .n = n, .a = n, .b = b};
+    Model m = {.p = p, .n = n, .a = a, .b = b};
     for (size_t i = 0; i < m.a * m.n; i++)
         m.constants[i] = draw(p);
     put_parameters(&m, PARAMETERS_A_ROW);
     return m;
 }
+
+static Model dense(uint32_t p, size_t n, size_t b) { return dense_rows(p, n, n, b); }
 
 /* Balances: each constant row has a few plus and minus ones. */
 static Model balances(size_t n, size_t a, size_t b, size_t parameters)
@@ -74,6 +77,7 @@ static Model constants_2(void) { return dense(2, WORD, 0); }
 static Model constants_1021(void) { return dense(1021, WORD, 0); }
 static Model constants_largest(void) { return dense(WUNDRESKA_PRIME_MAX, WORD, 0); }
 static Model constants_most(void) { return dense(1021, MOST, 0); }
+static Model constants_half(void) { return dense_rows(1021, MOST, MOST / 2, 0); }
 static Model tiny(void) { return (Model){.p = 1021, .n = 2, .a = 1, .b = 1, .constants = {1, 0}, .parameters = {2}}; }
 
 /* ---- what is timed ---- */
@@ -89,6 +93,8 @@ typedef struct {
     nmod_mat_t substituted; /* constants above random numbers, modulo the large prime */
     nmod_mat_t constants;   /* modulo p */
     nmod_mat_t held, named, multipliers; /* the columns but the last, the last one, and what it is of them, modulo p */
+    nmod_mat_t side; /* the columns on the constant side of the largest claim, modulo p */
+    uint8_t ours[WUNDRESKA_CLAIM_SIZE], largest[WUNDRESKA_CLAIM_SIZE]; /* claims */
     File numbered, unnumbered; /* the longest file, and that of its model without numbers */
     uint8_t answer[WUNDRESKA_REASON_SIZE]; /* the longest that there is */
     slong rank;
@@ -362,6 +368,109 @@ static void measure_multipliers(const char *kind, Model (*make)(void))
     clear_sums(works);
 }
 
+/* ---- claims, our own answer and one that takes the most, against the layered call on the same model and FLINT's ranks ---- */
+
+static void put_set(Set set, uint8_t *bytes)
+{
+    for (size_t i = 0; i < WUNDRESKA_SET_SIZE; i++)
+        bytes[i] = set >> 8 * i & 255;
+}
+
+static void prepare_ours(Work *w)
+{
+    library(w);
+    w->ours[WUNDRESKA_CLAIM_RANK] = w->answer[WUNDRESKA_RANK];
+    memcpy(w->ours + WUNDRESKA_CLAIM_CONSTANTS, w->answer + WUNDRESKA_CONSTANTS, WUNDRESKA_SET_SIZE);
+    memcpy(w->ours + WUNDRESKA_CLAIM_ROWS, w->answer + WUNDRESKA_ROWS, WUNDRESKA_ROWS_SIZE);
+    memcpy(w->ours + WUNDRESKA_CLAIM_SET, w->answer + WUNDRESKA_SHORT, WUNDRESKA_SET_SIZE);
+}
+
+/* As many columns on the constant side as can be, which are those placed where there are no parameter rows, and all in the set: no
+ * claim has more to eliminate. */
+static void prepare_largest(Work *w)
+{
+    const Model *m = &w->model;
+    if (harness_layered(m->p, m->n, m->a, 0, m->constants, m->a * m->n, NULL, 0, false, NULL, 0, w->answer, WUNDRESKA_ANSWER_SIZE))
+        abort();
+    w->largest[WUNDRESKA_CLAIM_RANK] = w->answer[WUNDRESKA_RANK];
+    memcpy(w->largest + WUNDRESKA_CLAIM_CONSTANTS, w->answer + WUNDRESKA_PLACED, WUNDRESKA_SET_SIZE);
+    memset(w->largest + WUNDRESKA_CLAIM_ROWS, WUNDRESKA_NO_COLUMN, WUNDRESKA_ROWS_SIZE);
+    put_set(all_below(m->n), w->largest + WUNDRESKA_CLAIM_SET);
+}
+
+static void prepare_side(Work *w)
+{
+    const Model *m = &w->model;
+    Set side = set_at(w->largest + WUNDRESKA_CLAIM_CONSTANTS);
+    size_t column = 0;
+    nmod_mat_init(w->side, m->a, size_of_set(side), m->p);
+    for (size_t c = 0; c < m->n; c++) {
+        if (!has(side, c))
+            continue;
+        for (size_t r = 0; r < m->a; r++)
+            nmod_mat_entry(w->side, r, column) = m->constants[r * m->n + c];
+        column++;
+    }
+}
+
+static void prepare_claims(Work *w, Model model)
+{
+    prepare(w, model);
+    prepare_ours(w);
+    prepare_largest(w);
+    prepare_side(w);
+}
+
+static void clear_claims(Work *works)
+{
+    clear_works(works);
+    for (int k = 0; k < MODELS; k++)
+        nmod_mat_clear(works[k].side);
+}
+
+static void claim(Work *w, const uint8_t *claimed)
+{
+    const Model *m = &w->model;
+    memset(w->answer, 0, WUNDRESKA_ACCEPTS_SIZE);
+    if (harness_accepts(m->p, m->n, m->a, m->b, m->constants, m->a * m->n, w->rows, m->b * ROW_WORDS, false, NULL, 0, claimed,
+                        WUNDRESKA_CLAIM_SIZE, w->answer, WUNDRESKA_ACCEPTS_SIZE))
+        abort();
+}
+
+static void claim_ours(Work *w) { claim(w, w->ours); }
+static void claim_largest(Work *w) { claim(w, w->largest); }
+static void both_ranks(Work *w) { w->rank = nmod_mat_rank(w->side) + nmod_mat_rank(w->constants); }
+
+/* Our own claim is accepted. By FLINT's ranks the largest one is legal, and is accepted unless a row touches the set. */
+static void check_claims(Work *w)
+{
+    int touched = 0, same;
+    claim_ours(w);
+    same = w->answer[WUNDRESKA_CLAIM_HOLDS] == 1;
+    for (size_t r = 0; r < w->model.b; r++)
+        touched = touched || w->model.parameters[r];
+    claim_largest(w);
+    both_ranks(w);
+    if (!same || w->answer[WUNDRESKA_CLAIM_HOLDS] != !touched || w->rank != 2 * w->largest[WUNDRESKA_CLAIM_RANK]) {
+        fprintf(stderr, "the library and FLINT differ about a claim\n");
+        exit(1);
+    }
+}
+
+static void measure_claims(const char *kind, Model (*make)(void))
+{
+    static Work works[MODELS];
+    static Method *const methods[] = {claim_ours, claim_largest, library, both_ranks};
+    double t[4];
+    for (int k = 0; k < MODELS; k++) {
+        prepare_claims(&works[k], make());
+        check_claims(&works[k]);
+    }
+    time_all(methods, 4, works, t);
+    print_times("claim", kind, &works[0].model, t, 4);
+    clear_claims(works);
+}
+
 int main(void)
 {
     measure("dense", dense_1021);
@@ -380,5 +489,13 @@ int main(void)
     measure_multipliers("dense", constants_1021);
     measure_multipliers("dense", constants_largest);
     measure_multipliers("dense", constants_most);
+    measure_claims("dense", constants_1021);
+    measure_claims("dense", constants_largest);
+    measure_claims("dense", constants_most);
+    measure_claims("dense", constants_half);
+    measure_claims("dense", dense_1021);
+    measure_claims("dense", dense_most);
+    measure_claims("plant-like", plant_like);
+    measure_claims("plant-like", plant_like_most);
     return 0;
 }

@@ -4,6 +4,9 @@
  *        gcc examples/host.c -Iinclude target/staticlib/libsolvability.a -o host
  * Run:   ./host models/s2.model
  *        ./host --mixed models/s9.model
+ *        ./host --partner models/s2.model
+ *
+ * With --partner the search is another program's, and the host starts on what it claims, where that is accepted.
  *
  * Exit status: 0 the solver started, 1 it did not, 2 the file could not be read.
  */
@@ -22,7 +25,7 @@ static const char *fault(uint32_t refusal)
     case WUNDRESKA_CONSTANT_BEYOND: return "a constant is p or more";
     case WUNDRESKA_PARAMETER_BEYOND: return "a parameter stands at column n or later";
     case WUNDRESKA_TRAILING: return "bytes follow the end field";
-    case WUNDRESKA_AREA_SHORT: return "the answer area is too short";
+    case WUNDRESKA_AREA_SHORT: return "an area is too short";
     case WUNDRESKA_NUMBER_TWICE: return "two parameters have one number";
     case WUNDRESKA_NOT_MIXED: return "a differs from b, or the mixed question has too many columns";
     case WUNDRESKA_COLUMN_BEYOND: return "a column is n or more";
@@ -151,13 +154,53 @@ static int treat_mixed(const uint8_t *file, size_t length)
     return act(answer[WUNDRESKA_MIXED_VERDICT], answer[WUNDRESKA_MIXED_RANK], answer + WUNDRESKA_MIXED_SHORT, file[9]);
 }
 
+/* Stands for the partner's own search: the answer of wundreska_check, laid out as a claim. Of a refused model nothing is found. */
+static void search_elsewhere(const uint8_t *file, size_t length, uint8_t *claim)
+{
+    uint8_t answer[WUNDRESKA_ANSWER_SIZE];
+    memset(answer, 0, sizeof answer);
+    wundreska_check(file, length, answer, sizeof answer);
+    claim[WUNDRESKA_CLAIM_RANK] = answer[WUNDRESKA_RANK];
+    memcpy(claim + WUNDRESKA_CLAIM_CONSTANTS, answer + WUNDRESKA_CONSTANTS, WUNDRESKA_SET_SIZE);
+    memcpy(claim + WUNDRESKA_CLAIM_ROWS, answer + WUNDRESKA_ROWS, WUNDRESKA_ROWS_SIZE);
+    memcpy(claim + WUNDRESKA_CLAIM_SET, answer + WUNDRESKA_SHORT, WUNDRESKA_SET_SIZE);
+}
+
+/* Whether a claim is accepted: the number says whether the model is refused, and only then the byte whether the claim holds. */
+static int trust(const uint8_t *file, size_t length, const uint8_t *claim)
+{
+    uint8_t answer[WUNDRESKA_ACCEPTS_SIZE];
+    uint32_t refusal = wundreska_accepts(file, length, claim, WUNDRESKA_CLAIM_SIZE, answer, sizeof answer);
+    if (refusal != WUNDRESKA_ACCEPTED)
+        return complain(refusal);
+    printf("the claim of rank %d is%s accepted\n", claim[WUNDRESKA_CLAIM_RANK], answer[WUNDRESKA_CLAIM_HOLDS] ? "" : " not");
+    return answer[WUNDRESKA_CLAIM_HOLDS];
+}
+
+/* An accepted rank is the model's own, so the verdict follows from it and from n, a and b, which are bytes 8 to 10 of the file. With
+ * a rank that is one too large, the same claim is not accepted. */
+static int treat_claimed(const uint8_t *file, size_t length)
+{
+    uint8_t claim[WUNDRESKA_CLAIM_SIZE], larger[WUNDRESKA_CLAIM_SIZE];
+    int rank, verdict;
+    search_elsewhere(file, length, claim);
+    if (!trust(file, length, claim))
+        return 0;
+    memcpy(larger, claim, sizeof larger);
+    larger[WUNDRESKA_CLAIM_RANK]++;
+    trust(file, length, larger);
+    rank = claim[WUNDRESKA_CLAIM_RANK];
+    verdict = rank < file[8] ? WUNDRESKA_OPEN : file[9] + file[10] > rank ? WUNDRESKA_SURPLUS : WUNDRESKA_DETERMINED;
+    return act(verdict, rank, claim + WUNDRESKA_CLAIM_SET, 0);
+}
+
 int main(int count, char **words)
 {
     static uint8_t file[WUNDRESKA_FILE_MAX + 1];
-    int mixed = count == 3 && strcmp(words[1], "--mixed") == 0;
+    int mixed = count == 3 && strcmp(words[1], "--mixed") == 0, claimed = count == 3 && strcmp(words[1], "--partner") == 0;
     long length;
-    if (count != 2 && !mixed) {
-        fprintf(stderr, "usage: host [--mixed] MODEL\n");
+    if (count != 2 && !mixed && !claimed) {
+        fprintf(stderr, "usage: host [--mixed | --partner] MODEL\n");
         return 2;
     }
     length = read_file(words[count - 1], file, sizeof file);
@@ -167,5 +210,7 @@ int main(int count, char **words)
     }
     if (mixed)
         return treat_mixed(file, (size_t)length) ? 0 : 1;
+    if (claimed)
+        return treat_claimed(file, (size_t)length) ? 0 : 1;
     return treat_layered(file, (size_t)length) ? 0 : 1;
 }

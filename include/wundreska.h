@@ -3,7 +3,8 @@
  * A call judges a model file and, if it is accepted, answers a question about the model. wundreska_check for a layered model and
  * wundreska_mixed for a mixed one say whether it determines all its unknowns with no equation left over: start a solver on
  * WUNDRESKA_DETERMINED alone. wundreska_reason says what blocks a column that wundreska_check does not place, and
- * wundreska_multipliers how the constants of one column depend on those of others.
+ * wundreska_multipliers how the constants of one column depend on those of others. wundreska_accepts checks a rank that another
+ * program found, by the assignment and the column set that come with it.
  *
  * Words. A model has a prime p, n columns (the unknowns), a constant rows and b parameter rows. Rows and columns count
  * from 0. A constant is a whole number from 0 to p - 1 (minus one is p - 1); a parameter row only says at which columns it
@@ -32,14 +33,15 @@
  * in the file: column c is bit c % 8 (lowest is 0) of byte c / 8.
  *
  * Every call. It takes the bytes of a file and an answer area, and returns WUNDRESKA_ACCEPTED or the number of the refusal.
- * wundreska_multipliers and wundreska_reason also take the number of a column, and the first of them the bytes of a set, held.
+ * wundreska_multipliers and wundreska_reason also take the number of a column, the first of them the bytes of a set, held, and
+ * wundreska_accepts the bytes of a claim.
  * - Accepted: exactly the bytes of the answer are written, over the front of the area; the surplus is left as it was.
- * - Refused: no byte of the answer area is changed. The file and the set are never changed.
- * - Pointers: file points to file_len bytes that can be read, held to held_len such bytes, answer to answer_len bytes that can be
- *   written. The answer area overlaps no other. Where its length is 0 a pointer may be NULL: nothing is read or written through
- *   it.
- * - Threads: a call keeps nothing, shares nothing and allocates nothing. It may run on any thread, several at once, the same file
- *   and set included, as long as nothing else writes these or touches the answer area meanwhile.
+ * - Refused: no byte of the answer area is changed. The file, the set and the claim are never changed.
+ * - Pointers: file points to file_len bytes that can be read, held to held_len and claim to claim_len such bytes, answer to
+ *   answer_len bytes that can be written. The answer area overlaps no other. Where its length is 0 a pointer may be NULL: nothing
+ *   is read or written through it.
+ * - Threads: a call keeps nothing, shares nothing and allocates nothing. It may run on any thread, several at once, the same file,
+ *   set and claim included, as long as nothing else writes these or touches the answer area meanwhile.
  * - Stack: a call needs less than WUNDRESKA_STACK_MAX bytes of it (measured: 43 KB, for a mixed question 62 KB).
  * - Platform: the archive is for x86-64 Linux, can stand in a shared object, and takes memcpy, memmove and memset of the host.
  *
@@ -59,9 +61,9 @@ extern "C" {
 #endif
 
 /* The version of this header and of the archive that it comes with. */
-#define WUNDRESKA_VERSION "3.3.0"
+#define WUNDRESKA_VERSION "3.4.0"
 #define WUNDRESKA_VERSION_MAJOR 3
-#define WUNDRESKA_VERSION_MINOR 3
+#define WUNDRESKA_VERSION_MINOR 4
 #define WUNDRESKA_VERSION_PATCH 0
 
 /* The limits: p is a prime from 2 to WUNDRESKA_PRIME_MAX, n is 1 to WUNDRESKA_COLUMNS_MAX, a and b are 0 to WUNDRESKA_ROWS_MAX
@@ -83,7 +85,7 @@ extern "C" {
 #define WUNDRESKA_SURPLUS 2    /* the rank equals n and rows are more: all columns can be placed, and the rows left over may contradict */
 
 /* What a call returns. */
-#define WUNDRESKA_ACCEPTED 0
+#define WUNDRESKA_ACCEPTED 0 /* the answer is written; whether a claim is accepted stands there, and not in this number */
 /* Whoever wrote the file causes these. The file is judged from its front (for each field: head, tag and length, body, content),
  * and the first number met is returned. */
 #define WUNDRESKA_TRUNCATED 1        /* fewer than three bytes remain for a field's head, or fewer than its length for its body */
@@ -95,7 +97,7 @@ extern "C" {
 #define WUNDRESKA_TRAILING 7         /* bytes follow the end field */
 #define WUNDRESKA_NUMBER_TWICE 13    /* a parameter's number is that of a parameter before it, in the same field or an earlier one */
 /* The calling program causes this one. It comes after those of the file. */
-#define WUNDRESKA_AREA_SHORT 8       /* answer_len is below the size of the call's answer, or held_len below WUNDRESKA_SET_SIZE */
+#define WUNDRESKA_AREA_SHORT 8       /* answer_len, held_len or claim_len is below what the call writes or reads there */
 /* The modeller with a mixed question causes this one, in wundreska_mixed alone. It comes last. */
 #define WUNDRESKA_NOT_MIXED 10       /* a differs from b, or a + n exceeds WUNDRESKA_COLUMNS_MAX */
 /* Whoever asks about a column causes these: the first in wundreska_multipliers and wundreska_reason, the second in wundreska_reason
@@ -182,6 +184,39 @@ uint32_t wundreska_multipliers(const uint8_t *file, size_t file_len, const uint8
  * - a named column whose constants are all 0, and that has no parameter, is the whole reason. Multipliers are given, and all are
  *   0. */
 uint32_t wundreska_reason(const uint8_t *file, size_t file_len, size_t column, uint8_t *answer, size_t answer_len);
+
+/* A claim, which is a rank, an assignment and a column set: where each part starts, and the size of all. */
+#define WUNDRESKA_CLAIM_RANK 0 /* 1 byte */
+#define WUNDRESKA_CLAIM_CONSTANTS (WUNDRESKA_CLAIM_RANK + 1) /* a set: the assignment's columns on the constant side */
+#define WUNDRESKA_CLAIM_ROWS (WUNDRESKA_CLAIM_CONSTANTS + WUNDRESKA_SET_SIZE) /* those on rows, laid out as at WUNDRESKA_ROWS */
+#define WUNDRESKA_CLAIM_SET (WUNDRESKA_CLAIM_ROWS + WUNDRESKA_ROWS_SIZE) /* a set: the column set */
+#define WUNDRESKA_CLAIM_SIZE (WUNDRESKA_CLAIM_SET + WUNDRESKA_SET_SIZE)  /* 121 */
+
+/* The answer about a claim: where it starts, and its size. */
+#define WUNDRESKA_CLAIM_HOLDS 0 /* 1 byte: 1 where the claim is accepted, else 0 */
+#define WUNDRESKA_ACCEPTS_SIZE 1
+
+/* The question about a claim: whether the rank that another program sends, with an assignment and a column set, is to be accepted.
+ * The first WUNDRESKA_CLAIM_SIZE bytes of claim are read, and the surplus is not.
+ *
+ * The number that the call returns is about the file and the areas alone; a file that wundreska_check refuses gets the same number
+ * here. A claim that is not accepted is no refusal: the call returns WUNDRESKA_ACCEPTED and writes 0 at WUNDRESKA_CLAIM_HOLDS. So a
+ * host looks at the number first, and then at that byte.
+ *
+ * Of an accepted model, a claim is accepted if all of this holds, and otherwise not, whatever its bytes are:
+ * - the assignment is legal: the columns on the constant side are linearly independent modulo p; a parameter row with a column has
+ *   a parameter there; no column stands on two rows, or on the constant side and on a row;
+ * - no column of it is n or more, and no row from b on has a column;
+ * - it has as many columns, on the constant side and on rows together, as the rank says;
+ * - the column set has no column from n on, and its sum is the rank: the rank of the constant columns in the set, plus the
+ *   parameter rows with a parameter in the set, plus the columns outside the set. It need not be the smallest such set.
+ * From this follows:
+ * - an accepted rank is the one that wundreska_check reports, whoever sent it, and an accepted set has every column of the short
+ *   set;
+ * - the rank and the short set that wundreska_check reports are accepted with the assignment that it shows, and with every other
+ *   legal one of as many columns. */
+uint32_t wundreska_accepts(const uint8_t *file, size_t file_len, const uint8_t *claim, size_t claim_len, uint8_t *answer,
+                           size_t answer_len);
 
 #ifdef __cplusplus
 }

@@ -1,5 +1,6 @@
 /* Tries what the header says of every call, beside its answer: a NULL pointer at length 0, the stack it takes, several threads at
- * once on one file. The last line is 'N passed, M failed'; the exit status is 1 where any failed. */
+ * once on one file; and that a claim which is not accepted is no refusal. The last line is 'N passed, M failed'; the exit status is
+ * 1 where any failed. */
 #include <pthread.h>
 #include <stdio.h>
 #include <stdlib.h>
@@ -34,10 +35,22 @@ static uint32_t last_unplaced(const uint8_t *file, size_t file_len, uint8_t *ans
     return wundreska_reason(file, file_len, unplaced, answer, answer_len);
 }
 
-/* A set of no bytes. */
+static uint8_t claim[WUNDRESKA_CLAIM_SIZE]; /* the answer of wundreska_check to the model, as a claim */
+
+static uint32_t our_answer(const uint8_t *file, size_t file_len, uint8_t *answer, size_t answer_len)
+{
+    return wundreska_accepts(file, file_len, claim, sizeof claim, answer, answer_len);
+}
+
+/* A set and a claim of no bytes. */
 static uint32_t no_set(const uint8_t *file, size_t file_len, uint8_t *answer, size_t answer_len)
 {
     return wundreska_multipliers(file, file_len, NULL, 0, 0, answer, answer_len);
+}
+
+static uint32_t no_claim(const uint8_t *file, size_t file_len, uint8_t *answer, size_t answer_len)
+{
+    return wundreska_accepts(file, file_len, NULL, 0, answer, answer_len);
 }
 
 /* The largest models that a call takes with as many rows as columns. A reason is asked for in one with a row less than columns in all,
@@ -49,6 +62,7 @@ static const Entry entries[] = {
     {"wundreska_multipliers", last_column, WUNDRESKA_MULTIPLIERS_SIZE, WUNDRESKA_COLUMNS_MAX, WUNDRESKA_ROWS_MAX, WUNDRESKA_ROWS_MAX},
     {"wundreska_reason", last_unplaced, WUNDRESKA_REASON_SIZE, WUNDRESKA_COLUMNS_MAX, HALF, HALF - 1},
     {"wundreska_reason with multipliers", last_unplaced, WUNDRESKA_REASON_SIZE, WUNDRESKA_COLUMNS_MAX, WUNDRESKA_COLUMNS_MAX - 1, 0},
+    {"wundreska_accepts", our_answer, WUNDRESKA_ACCEPTS_SIZE, WUNDRESKA_COLUMNS_MAX, WUNDRESKA_ROWS_MAX, WUNDRESKA_ROWS_MAX},
 };
 enum { ENTRIES = sizeof entries / sizeof *entries, MODELS = 12, NUMBERED = MODELS, THREADS = 8, TURNS = 200, PAINT = 0xA5 };
 enum { STACK = 1 << 20, LONGEST = WUNDRESKA_REASON_SIZE }; /* bytes of a thread's stack, and of the longest answer */
@@ -126,7 +140,8 @@ static void make_model(unsigned p, unsigned n, unsigned constant_rows, unsigned 
     put_head(5, 0);
 }
 
-static void find_unplaced(void)
+/* What the questions about the model are: the column, and the claim. */
+static void prepare_questions(void)
 {
     uint8_t answer[WUNDRESKA_ANSWER_SIZE];
     size_t c;
@@ -134,6 +149,10 @@ static void find_unplaced(void)
     for (c = 0; c < WUNDRESKA_COLUMNS_MAX; c++)
         if (!(answer[WUNDRESKA_PLACED + c / 8] >> c % 8 & 1))
             unplaced = c;
+    claim[WUNDRESKA_CLAIM_RANK] = answer[WUNDRESKA_RANK];
+    memcpy(claim + WUNDRESKA_CLAIM_CONSTANTS, answer + WUNDRESKA_CONSTANTS, WUNDRESKA_SET_SIZE);
+    memcpy(claim + WUNDRESKA_CLAIM_ROWS, answer + WUNDRESKA_ROWS, WUNDRESKA_ROWS_SIZE);
+    memcpy(claim + WUNDRESKA_CLAIM_SET, answer + WUNDRESKA_SHORT, WUNDRESKA_SET_SIZE);
 }
 
 /* Those from NUMBERED on are the ones before, numbered. */
@@ -142,7 +161,7 @@ static void make_nth_model(int nth, const Entry *entry)
     static const unsigned primes[] = {2, 1021, WUNDRESKA_PRIME_MAX}, shares[] = {2, 5, 40, 100};
     make_model(primes[nth % 3], entry->columns, entry->constant_rows, entry->parameter_rows, shares[nth % NUMBERED / 3],
                nth >= NUMBERED);
-    find_unplaced();
+    prepare_questions();
 }
 
 /* --- the call on a thread of its own */
@@ -214,13 +233,33 @@ static void try_null(const Entry *entry)
     expect(entry->call(file, file_len, NULL, 0) == WUNDRESKA_AREA_SHORT, "no area, NULL", entry->name);
 }
 
-static void try_null_set(void)
+/* By a call that has no set, or no claim. */
+static void try_null_beside(Call *call, const char *name)
 {
     uint8_t answer[LONGEST];
     make_nth_model(0, &entries[0]);
-    expect(no_set(file, file_len, answer, sizeof answer) == WUNDRESKA_AREA_SHORT, "no set, NULL", "wundreska_multipliers");
-    expect(no_set(file, file_len, NULL, 0) == WUNDRESKA_AREA_SHORT, "no set and no area, NULL", "wundreska_multipliers");
-    expect(no_set(NULL, 0, NULL, 0) == WUNDRESKA_TRUNCATED, "no file, set and area, NULL", "wundreska_multipliers");
+    expect(call(file, file_len, answer, sizeof answer) == WUNDRESKA_AREA_SHORT, "no set or claim, NULL", name);
+    expect(call(file, file_len, NULL, 0) == WUNDRESKA_AREA_SHORT, "no set or claim and no area, NULL", name);
+    expect(call(NULL, 0, NULL, 0) == WUNDRESKA_TRUNCATED, "no file, set or claim, and area, NULL", name);
+}
+
+/* The number is that of the model, and the byte that of the claim. */
+static void try_claims(const Entry *entry)
+{
+    uint8_t answer[WUNDRESKA_ACCEPTS_SIZE];
+    int nth;
+    for (nth = 0; nth < NUMBERED + MODELS; nth++) {
+        make_nth_model(nth, entry);
+        answer[WUNDRESKA_CLAIM_HOLDS] = 2;
+        expect(our_answer(file, file_len, answer, sizeof answer) == WUNDRESKA_ACCEPTED && answer[WUNDRESKA_CLAIM_HOLDS] == 1,
+               "our own answer is accepted", "wundreska_accepts");
+        claim[WUNDRESKA_CLAIM_RANK]++;
+        expect(our_answer(file, file_len, answer, sizeof answer) == WUNDRESKA_ACCEPTED && answer[WUNDRESKA_CLAIM_HOLDS] == 0,
+               "a larger rank is not accepted, and no refusal", "wundreska_accepts");
+        answer[WUNDRESKA_CLAIM_HOLDS] = 2;
+        expect(our_answer(file, file_len - 1, answer, sizeof answer) == WUNDRESKA_TRUNCATED && answer[WUNDRESKA_CLAIM_HOLDS] == 2,
+               "a refused file leaves the answer as it was", "wundreska_accepts");
+    }
 }
 
 static void try_stack(const Entry *entry)
@@ -260,12 +299,15 @@ int main(void)
 {
     int k;
     srand(13);
-    try_null_set();
+    try_null_beside(no_set, "wundreska_multipliers");
+    try_null_beside(no_claim, "wundreska_accepts");
     for (k = 0; k < ENTRIES; k++) {
         try_null(&entries[k]);
         try_stack(&entries[k]);
         try_threads(&entries[k]);
     }
+    for (k = 0; k < ENTRIES; k++)
+        try_claims(&entries[k]);
     printf("%d passed, %d failed\n", passed, failed);
     return failed != 0;
 }

@@ -15,7 +15,7 @@ typedef struct {
     uint8_t before[ROOM]; /* the margin and the lent bytes, as they were before the call */
 } Area;
 
-static Area file_area, constants_area, rows_area, numbers_area, held_area, out_area;
+static Area file_area, constants_area, rows_area, numbers_area, beside_area, out_area;
 
 static void open_area(Area *area)
 {
@@ -76,6 +76,18 @@ static Called outcome(uint32_t refusal, size_t written)
     return called;
 }
 
+const uint8_t *lend_beside(const uint8_t *bytes, size_t length)
+{
+    const uint8_t *lent = lend_copy(&beside_area, length, bytes, length);
+    remember(&beside_area);
+    return lent;
+}
+
+static int beside_unchanged(void)
+{
+    return !beside_area.end || unchanged(&beside_area, 0);
+}
+
 Called call_file(FileCall *call, const uint8_t *file, size_t length, size_t answer_length, size_t written)
 {
     const uint8_t *lent = lend_copy(&file_area, length, file, length);
@@ -83,7 +95,7 @@ Called call_file(FileCall *call, const uint8_t *file, size_t length, size_t answ
     remember(&file_area);
     remember(&out_area);
     Called called = outcome(call(lent, length, answer, answer_length), written);
-    called.intact = called.intact && unchanged(&file_area, 0);
+    called.intact = called.intact && unchanged(&file_area, 0) && beside_unchanged();
     return called;
 }
 
@@ -147,36 +159,34 @@ Called call_model(ModelCall *call, const Model *m, Lengths l, size_t written)
     remember(&out_area);
     Called called = outcome(call(m->p, m->n, m->a, m->b, constants, l.constants, rows, l.rows * ROW_WORDS, m->numbered, numbers,
                                  l.numbers, out, l.out), written);
-    called.intact = called.intact && model_unchanged();
+    called.intact = called.intact && model_unchanged() && beside_unchanged();
     return called;
 }
 
 Called call_multipliers(const uint8_t *file, size_t length, Columns columns, size_t answer_length)
 {
     const uint8_t *lent = lend_copy(&file_area, length, file, length);
-    const uint8_t *held = lend_copy(&held_area, columns.length, columns.held, columns.length);
+    const uint8_t *held = lend_beside(columns.held, columns.length);
     uint8_t *answer = lend_to_write(&out_area, answer_length);
     remember(&file_area);
-    remember(&held_area);
     remember(&out_area);
     Called called = outcome(wundreska_multipliers(lent, length, held, columns.length, columns.named, answer, answer_length),
                             WUNDRESKA_MULTIPLIERS_SIZE);
-    called.intact = called.intact && unchanged(&file_area, 0) && unchanged(&held_area, 0);
+    called.intact = called.intact && unchanged(&file_area, 0) && beside_unchanged();
     return called;
 }
 
 Called call_handed_multipliers(const Model *m, Columns columns, Lengths l)
 {
     void *constants = lend_constants(m, l.constants), *rows = lend_rows(m, l.rows), *numbers = lend_numbers(m, l.numbers);
-    const uint8_t *held = lend_copy(&held_area, columns.length, columns.held, columns.length);
+    const uint8_t *held = lend_beside(columns.held, columns.length);
     uint8_t *out = lend_to_write(&out_area, l.out);
     remember_model();
-    remember(&held_area);
     remember(&out_area);
     Called called = outcome(harness_multipliers(m->p, m->n, m->a, m->b, constants, l.constants, rows, l.rows * ROW_WORDS,
                                                 m->numbered, numbers, l.numbers, held, columns.length, columns.named, out, l.out),
                             WUNDRESKA_MULTIPLIERS_SIZE);
-    called.intact = called.intact && model_unchanged() && unchanged(&held_area, 0);
+    called.intact = called.intact && model_unchanged() && beside_unchanged();
     return called;
 }
 

@@ -20,6 +20,9 @@ typedef struct {
 /* Areas that just hold what the model needs, no number where it is not numbered, and so many bytes to write to. */
 Lengths exact_lengths(const Model *model, size_t out);
 
+/* Lends bytes that a call reads beside a file or a model, until others are lent. Those below see whether a call changed them. */
+const uint8_t *lend_beside(const uint8_t *bytes, size_t length);
+
 /* A call on a file, with an answer area of this length, which writes `written` bytes where it is accepted. */
 typedef uint32_t FileCall(const uint8_t *file, size_t file_len, uint8_t *answer, size_t answer_len);
 Called call_file(FileCall *call, const uint8_t *file, size_t length, size_t answer_length, size_t written);

@@ -29,6 +29,8 @@ static int compare_all(const char *models)
     compare_columns();
     compare_reasons(models);
     compare_placed();
+    compare_claims(models);
+    compare_sent();
     return end_tally() > 0;
 }
 

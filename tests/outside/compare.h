@@ -107,5 +107,7 @@ void compare_multipliers(void); /* compare_multipliers.c */
 void compare_columns(void); /* compare_columns.c */
 void compare_reasons(const char *folder); /* compare_reasons.c */
 void compare_placed(void); /* compare_placed.c */
+void compare_claims(const char *folder); /* compare_claims.c */
+void compare_sent(void); /* compare_sent.c */
 
 #endif

@@ -176,7 +176,36 @@ Enumerated enumerate_layered(const Model *model)
     find_short(&t, &e);
     find_reasons_of_all(&t, &e);
     e.verdict = verdict_by(t.full);
+    memcpy(e.independent, t.independent, sizeof e.independent);
     return e;
+}
+
+/* Whether some seats for the columns from x on make the assignment begun the claimed one, and legal. */
+static int is_legal_from(const Model *m, const Enumerated *e, size_t x, Claim *begun, const Claim *claim)
+{
+    if (x == m->n)
+        return e->independent[begun->constants] && begun->constants == claim->constants &&
+               !memcmp(begun->rows, claim->rows, sizeof claim->rows);
+    int found = is_legal_from(m, e, x + 1, begun, claim);
+    begun->constants |= just(x);
+    found |= is_legal_from(m, e, x + 1, begun, claim);
+    begun->constants &= ~just(x);
+    for (size_t r = 0; r < m->b; r++)
+        if (has(m->parameters[r], x) && begun->rows[r] == WUNDRESKA_NO_COLUMN) {
+            begun->rows[r] = x;
+            found |= is_legal_from(m, e, x + 1, begun, claim);
+            begun->rows[r] = WUNDRESKA_NO_COLUMN;
+        }
+    return found;
+}
+
+/* A legal assignment names no column twice. */
+int enumerate_claim(const Model *m, const Enumerated *e, const Claim *claim)
+{
+    Claim begun = {0};
+    memset(begun.rows, WUNDRESKA_NO_COLUMN, sizeof begun.rows);
+    return is_legal_from(m, e, 0, &begun, claim) && size_of_set(columns_named(claim)) == claim->rank &&
+           subset(claim->set, all_below(m->n)) && e->sums[claim->set] == claim->rank;
 }
 
 /* The largest number of parameters on these rows from r on and these columns, no two in a row or column. */

@@ -3,6 +3,7 @@
 #ifndef BRUTE_H
 #define BRUTE_H
 
+#include "claim.h"
 #include "model.h"
 #include "multipliers.h"
 
@@ -12,6 +13,7 @@ typedef struct {
     size_t rank;
     unsigned verdict; /* by the assignments that place all columns: whether there are any, and whether they leave a row over */
     Set placed, short_set;
+    uint8_t independent[SETS]; /* by column set, of its constants */
     size_t sums[SETS];  /* of every column set */
     int short_is_least; /* whether the smallest set whose sum is the rank is one set */
     Set reasons[BRUTE_COLUMNS]; /* of each column that is not placed, the set that blocks it; of others none */
@@ -19,6 +21,10 @@ typedef struct {
 } Enumerated;
 
 Enumerated enumerate_layered(const Model *model);
+
+/* Whether a claim about the model is to be accepted: one of the legal assignments is the claimed one, it has as many columns as the
+ * rank says, and the set's sum is the rank. */
+int enumerate_claim(const Model *model, const Enumerated *enumerated, const Claim *claim);
 
 typedef struct {
     size_t rank;      /* the largest, over rows I and columns J, of constants on I, J and parameters matched on the rest */
