@@ -6,4 +6,6 @@ pub mod HeldLaws
 pub mod PlacingLaws
 pub mod OfferingLaws
 pub mod AnswerLaws
+pub mod ArcLaws
+pub mod ReachLaws
 pub mod ReadingLaws

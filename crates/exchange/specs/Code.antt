@@ -8,3 +8,4 @@ pub mod Placing
 pub mod Offering
 pub mod Answer
 pub mod Reading
+pub mod Arcs

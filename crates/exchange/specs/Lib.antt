@@ -4,4 +4,5 @@ pub mod Solution
 pub mod Solve
 pub mod SolveLaws
 pub mod DependenceCall
+pub mod ReachCall
 pub mod Code

@@ -1,6 +1,6 @@
 // Elimination and matching: the answer to a layered model, by placing one column after another on a row of its own.
-// Over the column sets of `columns`: the tableau, the search of the exchange graph, seats, and the offering of columns; and how a
-// column depends on others, read off the tableau. Code outside sees two calls.
+// Over the column sets of `columns`: the tableau, the search of the exchange graph, seats, and the offering of columns; how a
+// column depends on others, read off the tableau; and what reaches each column in the final state. Code outside sees three calls.
 ghost use mathlib.Core.Path.{_≡_};
 ghost use mathlib.Core.Logic.{_↔_};
 ghost use mathlib.Core.Bool.{true, false};
@@ -10,13 +10,16 @@ ghost use Rattle.residue.specs.Arithmetic.{is-prime, InverseTable};
 ghost use Rattle.rank.specs.Modulus.{field-of};
 ghost use Rattle.counting.specs.Sets.{_∈_};
 ghost use Rattle.columns.specs.Columns.{members, within};
-ghost use Rattle.columns.specs.ColumnSets.{whole, row-numbers};
+ghost use lib.ListN.{replicate};
+ghost use Rattle.columns.specs.ColumnSets.{most-words, whole, row-numbers};
 ghost use Rattle.exchange.specs.Solve.{Nothing, SolvedBy, Solves};
 ghost use Rattle.exchange.specs.DependenceCall.{NoMultipliers, DependenceShown, DependenceCall};
+ghost use Rattle.exchange.specs.ReachCall.{ReachShown, ReachCall};
 ghost use Rattle.exchange.specs.Code.Cells.{TableauArray};
 ghost use Rattle.exchange.specs.Code.Held.{Given, model-of, ShowsRows, ShowsConstants};
 
 mod admission;
+mod arcs;
 mod offering;
 mod reading;
 mod search;
@@ -25,6 +28,7 @@ mod sizes;
 mod tableau;
 
 use columns::ColumnSet;
+use columns::MOST_WORDS;
 use limits::MOST_COLUMNS;
 use limits::MOST_ROWS;
 use limits::NO_COLUMN;
@@ -187,4 +191,73 @@ pub fn column_dependence(
         return read_column(&mut t, &inverses, p as u16, n, a, held, x);
     }
     read_column(&mut t, &[], p as u16, n, a, held, x)
+}
+
+// What reaches each column in the final state: itself, where it is offered, every column from which arcs lead there, every column from
+// which they lead to a free row and, where it is reached from an unplaced column, every offered one. Row x of the area has the columns
+// that reach column x. These are the columns that share its block or must come before it. Where the call is not taken, the rows have
+// none.
+pub struct Reach {
+    pub valid: bool,
+    pub rows: [u64; MOST_WORDS],
+}
+
+fn no_reach() -> Reach
+    ensures { λ r. ⌜ (r .valid ≡ false) × (r .rows ≡ replicate most-words 0) ⌝ }
+{
+    Reach {
+        valid: false,
+        rows: [0; MOST_WORDS],
+    }
+}
+
+// What reaches each column, over a filled tableau and parameter rows, with a table of inverses, which may be empty. A column that
+// touches a free row is put before all, and every column before those that are not placed.
+fn reach_rows(
+    t: &mut [u16; CELLS],
+    parameters: &[u64],
+    inverses: &[u16],
+    p: u16,
+    n: usize,
+    a: usize,
+    b: usize,
+    offered: ColumnSet,
+) -> Reach
+    requires { ⌜ TableauArray p (now t) × InverseTable p (now inverses) × (n ≤ most-columns) × (a ≤ most-rows) × (b ≤ most-rows) × (within n (whole offered) ≡ true) × (is-prime p ≡ true) ⌝ }
+    ensures { λ r. ⌜ (r .valid ≡ true) × ((G : Given p n b (row-numbers (now (parameters .entry)))) → ShowsConstants p n a b (row-numbers (now (parameters .entry))) G (now (t .entry)) → ((x : ℕ) → (x ∈ members (whole offered)) ↔ ((x < n) × (x ∈ G .E))) → ReachShown (model-of p n a b (row-numbers (now (parameters .entry))) G) (r .rows)) ⌝ }
+{
+    let mut owner = [n as u8; LINES];
+    let placed = offering::offer_all(t, &mut owner, parameters, inverses, p, n, a, b, offered);
+    let missing = columns::difference(offered, placed);
+    let mut rows = [0u64; MOST_WORDS];
+    relation::join(&mut rows, missing, offered);
+    let ends = arcs::link(t, &owner, parameters, n, a, a + b, offered, &mut rows);
+    relation::join(&mut rows, offered, ends);
+    relation::close(&mut rows, offered);
+    Reach { valid: true, rows }
+}
+
+// What reaches each column of the model of p, n, a, b, the constants row by row and the parameter rows, with the columns of a set
+// offered.
+pub fn column_reach(
+    p: u32,
+    n: usize,
+    a: usize,
+    b: usize,
+    offered: ColumnSet,
+    constants: &[u16],
+    parameters: &[u64],
+) -> Reach
+    ensures { λ r. ⌜ ReachCall p n a b offered (now (constants .entry)) (row-numbers (now (parameters .entry))) r ⌝ }
+{
+    if !admission::is_admissible(p, n, a, b, offered, constants, parameters) {
+        return no_reach();
+    }
+    let mut t = [0u16; CELLS];
+    tableau::fill(&mut t, constants, n, a);
+    if p == LISTED_PRIME {
+        let inverses = residue::listed_inverses();
+        return reach_rows(&mut t, parameters, &inverses, p as u16, n, a, b, offered);
+    }
+    reach_rows(&mut t, parameters, &[], p as u16, n, a, b, offered)
 }

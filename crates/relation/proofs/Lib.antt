@@ -1,0 +1,3 @@
+-- Laws for the proofs.
+pub mod ReachLaws
+pub mod TurnLaws

@@ -1,0 +1,68 @@
+// A relation between columns, as the set of each column in a row of an area of words: columns put into rows, and rows closed, so that
+// each has all that it leads to. A column without a row of its own leads nowhere, and nothing is put there.
+ghost use mathlib.Core.Path.{_≡_};
+ghost use mathlib.Core.Bool.{false};
+ghost use Rattle.counting.specs.Sets.{Set};
+ghost use Prim.Native.Nat.{ℕ, _<_};
+ghost use Rattle.columns.specs.Columns.{width, members};
+ghost use Rattle.columns.specs.ColumnSets.{whole};
+ghost use Rattle.relation.specs.Relations.{Joined, ClosedOver};
+ghost use Rattle.relation.specs.Closures.{Ahead, Partly, LeadsTo};
+use columns::ColumnSet;
+
+// The columns of a set go into the rows of the columns named.
+pub fn join(rows: &mut [u64], at: ColumnSet, set: ColumnSet)
+    ensures { λ _. ⌜ Joined (members (whole at)) (members (whole set)) (now (rows .entry)) (now (rows .exit)) ⌝ }
+{
+    let mut rest = at;
+    while !columns::is_empty(rest) {
+        let x = columns::first(rest);
+        let joined = columns::union(columns::row(rows, x), set);
+        columns::put_row(rows, x, joined);
+        rest = columns::without(rest, x);
+    }
+}
+
+// What is left to be read of a front when the row of its column y has been. Where the row is done, it has all that it leads to, and none of
+// these has to be read; else what was not found before has.
+fn ahead(front: ColumnSet, found: ColumnSet, row: ColumnSet, y: usize, known: bool) -> ColumnSet
+    ensures { λ r. ⌜ Ahead (members (whole front)) (members (whole found)) (members (whole row)) y known (members (whole r)) ⌝ }
+{
+    if known {
+        return columns::without(columns::difference(front, row), y);
+    }
+    let new = columns::difference(row, found);
+    columns::without(columns::union(front, new), y)
+}
+
+// The column and all that its row leads to.
+fn reached(rows: &[u64], done: ColumnSet, x: usize) -> ColumnSet
+    requires { ⌜ (x < width) × (members (whole done) x ≡ false) ⌝ }
+    ensures { λ r. ⌜ ((R : ℕ → Set) → Partly R (members (whole done)) (now (rows .entry)) → LeadsTo R x (members (whole r))) ⌝ }
+{
+    let direct = columns::row(rows, x);
+    let mut found = columns::with(direct, x);
+    let mut front = columns::without(direct, x);
+    while !columns::is_empty(front) {
+        let y = columns::first(front);
+        let row = columns::row(rows, y);
+        front = ahead(front, found, row, y, columns::contains(done, y));
+        found = columns::union(found, row);
+    }
+    found
+}
+
+// Each row of the columns named gets its own column and all that it leads to.
+pub fn close(rows: &mut [u64], over: ColumnSet)
+    ensures { λ _. ⌜ ClosedOver (members (whole over)) (now (rows .entry)) (now (rows .exit)) ⌝ }
+{
+    let mut rest = over;
+    let mut done = columns::empty();
+    while !columns::is_empty(rest) {
+        let x = columns::first(rest);
+        let all = reached(rows, done, x);
+        columns::put_row(rows, x, all);
+        done = columns::with(done, x);
+        rest = columns::without(rest, x);
+    }
+}
