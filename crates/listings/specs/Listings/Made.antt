@@ -56,7 +56,7 @@ module _ (n : ℕ) (E : Set) (before share : ℕ → ℕ → Bool) (self : (x : 
         )
       ]
 
-  some-free : (D : Set) (x : ℕ) → x ∈ Open → (x ∈ D → ⊥) → Some n (λ y. y ∈ Free D)
+  pub some-free : (D : Set) (x : ℕ) → x ∈ Open → (x ∈ D → ⊥) → Some n (λ y. y ∈ Free D)
   some-free D x = some-permitted (suc (# n (λ y. Open y && before y x))) D x (omega arith)
 
   -- the smallest permitted column
@@ -109,11 +109,15 @@ module _ (n : ℕ) (E : Set) (before share : ℕ → ℕ → Bool) (self : (x : 
   ]
 
   -- what is listed in round i was not listed
-  fresh : (i x : ℕ) → x ∈ B i → x ∈ L i → ⊥
+  pub fresh : (i x : ℕ) → x ∈ B i → x ∈ L i → ⊥
   unfolding blocks-by
   fresh i x e k =
       let w : In (L i) x = in-next (L i) x e in
       w .by .may .not-listed (listed-down i x (least n (Free (L i))) k (w .in-block .at) (both (least n (Free (L i))) x .0 (w .in-block .with) .0))
+
+  pub block-offered : (i x : ℕ) → x ∈ B i → x ∈ Open
+  unfolding blocks-by
+  block-offered i x e = in-next (L i) x e .in-block .of
 
   more : (j i x : ℕ) → i ≤ j → x ∈ L i → x ∈ L j
   unfolding listed
@@ -123,11 +127,11 @@ module _ (n : ℕ) (E : Set) (before share : ℕ → ℕ → Bool) (self : (x : 
     | no nd ↦ or-left (L j x) (next-block n E before share (L j) x) (more j i x (omega arith) e)
   ]
 
-  in-listed : (i j x : ℕ) → i < j → x ∈ B i → x ∈ L j
+  pub in-listed : (i j x : ℕ) → i < j → x ∈ B i → x ∈ L j
   unfolding listed blocks-by
   in-listed i j x l e = more j (suc i) x l (or-right (L i x) (next-block n E before share (L i) x) e)
 
-  listed-from : (i x : ℕ) → x ∈ L i → Some i (λ k. x ∈ B k)
+  pub listed-from : (i x : ℕ) → x ∈ L i → Some i (λ k. x ∈ B k)
   unfolding listed blocks-by
   listed-from zero x e = absurd (false≢true e)
   listed-from (suc i) x e = elim (or-split (L i x) (next-block n E before share (L i) x) e) [
