@@ -16,6 +16,8 @@ use Rattle.multipliers.specs.Bytes.{multipliers-length, multipliers-bytes}
 use Rattle.reason.specs.Answers.{reason-question, ReasonAnswered}
 use Rattle.reason.specs.Bytes.{reason-length, reason-bytes}
 use Rattle.acceptance.specs.Bytes.{claim-question, AcceptanceOf, acceptance-length, acceptance-bytes}
+use Rattle.blocks.specs.Answers.{BlocksAnswered}
+use Rattle.blocks.specs.Bytes.{blocks-length, blocks-bytes}
 
 -- the layered call: as the model is judged, then 8 for the area
 abbrev pub LayeredBytes : (p n a b : ℕ) (cs ws : List ℕ) → Option (List ℕ) → (area : List ℕ) (number : ℕ) (area′ : List ℕ) → Type 0
@@ -39,6 +41,10 @@ ReasonBytes p n a b cs ws ns x =
 abbrev pub AcceptanceCallBytes : (p n a b : ℕ) (cs ws : List ℕ) → Option (List ℕ) → (claim area : List ℕ) (number : ℕ) (area′ : List ℕ) → Type 0
 AcceptanceCallBytes p n a b cs ws ns claim =
     AreaCall (model-tests p n a b cs ws ns) (claim-question claim) acceptance-length (WrittenOver (AcceptanceOf (listed-model p n a b cs ws) claim) acceptance-bytes)
+
+-- the call about blocks: as the model is judged, then 8 for the area
+abbrev pub BlocksCallBytes : (p n a b : ℕ) (cs ws : List ℕ) → Option (List ℕ) → (area : List ℕ) (number : ℕ) (area′ : List ℕ) → Type 0
+BlocksCallBytes p n a b cs ws ns = AreaCall (model-tests p n a b cs ws ns) [] blocks-length (WrittenOver (BlocksAnswered (listed-model p n a b cs ws)) blocks-bytes)
 
 -- a reading: the refusal, and the areas afterwards; some sizes are those of the file
 pub record FileInAreas (s cs ws ks : List ℕ) (refusal : ℕ) (cs′ ws′ ks′ : List ℕ) : Type 0 where

@@ -9,11 +9,13 @@ ghost use Rattle.columns.specs.ColumnSets.{row-numbers};
 ghost use Rattle.format.specs.Numbers.{lent};
 ghost use Rattle.format.specs.File.Format.{WriteCall};
 ghost use Rattle.touching.specs.RowCount.{touching-count};
-ghost use Rattle.harness.specs.Calls.{LayeredBytes, MixedBytes, MultipliersBytes, ReasonBytes, AcceptanceCallBytes, FileInAreas};
+ghost use Rattle.harness.specs.Calls.{LayeredBytes, MixedBytes, MultipliersBytes, ReasonBytes, AcceptanceCallBytes, BlocksCallBytes, FileInAreas};
 use acceptance::CLAIM_LENGTH;
 use acceptance::model_acceptance;
 use acceptance::put_acceptance;
 use acceptance::read_claim;
+use blocks::model_blocks;
+use blocks::put_blocks;
 use format::refusals;
 use host::put_answer;
 use host::put_mixed;
@@ -155,6 +157,28 @@ pub extern "C" fn harness_accepts(
         return refusals::AREA_SHORT;
     }
     put_acceptance(answer, r)
+}
+
+// The bytes of the blocks.
+#[no_mangle]
+pub extern "C" fn harness_blocks(
+    p: u32,
+    n: usize,
+    a: usize,
+    b: usize,
+    constants: &[u16],
+    parameters: &[u64],
+    numbered: bool,
+    numbers: &[u16],
+    answer: &mut [u8],
+) -> u32
+    ensures { λ r. ⌜ BlocksCallBytes p n a b (now (constants .entry)) (row-numbers (now (parameters .entry))) (lent numbered (now (numbers .entry))) (now (answer .entry)) r (now (answer .exit)) ⌝ }
+{
+    let r = model_blocks(p, n, a, b, constants, parameters, numbered, numbers);
+    if r.refusal != 0 {
+        return r.refusal;
+    }
+    put_blocks(answer, r)
 }
 
 // The bytes of the model's file; what a C caller does not see is how many they are.

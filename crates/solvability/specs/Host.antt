@@ -17,6 +17,8 @@ use Rattle.multipliers.specs.Bytes.{multipliers-length, multipliers-bytes}
 use Rattle.reason.specs.Answers.{reason-question, FileReason}
 use Rattle.reason.specs.Bytes.{reason-length, reason-bytes}
 use Rattle.acceptance.specs.Bytes.{claim-question, AcceptanceOf, acceptance-length, acceptance-bytes}
+use Rattle.blocks.specs.Answers.{BlocksAnswered}
+use Rattle.blocks.specs.Bytes.{blocks-length, blocks-bytes}
 
 -- the layered call: 1 to 7 and 13 as the file is judged, then 8 for the area; where it refuses, the area is as it was
 abbrev pub HostAnswer : (file area : List ℕ) (number : ℕ) (area′ : List ℕ) → Type 0
@@ -46,3 +48,7 @@ HostReason file x = AreaCall (closed fields file) (reason-question (file-model f
 -- the call about a claim: 1 to 7 and 13, then 8 for both areas; no claim is refused
 abbrev pub HostAccepts : (file claim area : List ℕ) (number : ℕ) (area′ : List ℕ) → Type 0
 HostAccepts file claim = AreaCall (closed fields file) (claim-question claim) acceptance-length (WrittenOver (AcceptanceOf (file-model file) claim) acceptance-bytes)
+
+-- the call about blocks: 1 to 7 and 13, then 8
+abbrev pub HostBlocks : (file area : List ℕ) (number : ℕ) (area′ : List ℕ) → Type 0
+HostBlocks file = AreaCall (closed fields file) [] blocks-length (WrittenOver (BlocksAnswered (file-model file)) blocks-bytes)

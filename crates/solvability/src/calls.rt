@@ -4,12 +4,14 @@ ghost use mathlib.Core.Bool.{false};
 ghost use Rattle.format.specs.Refusals.{unless, _then_, first-refusal, area-short};
 ghost use Rattle.format.specs.File.Piece.{closed};
 ghost use Rattle.format.specs.File.Format.{fields};
-ghost use Rattle.solvability.specs.Host.{HostAnswer, HostMixedAnswer, HostMultipliers, HostReason, HostAccepts};
+ghost use Rattle.solvability.specs.Host.{HostAnswer, HostMixedAnswer, HostMultipliers, HostReason, HostAccepts, HostBlocks};
 use acceptance::ACCEPTANCE_LENGTH;
 use acceptance::CLAIM_LENGTH;
 use acceptance::file_acceptance;
 use acceptance::put_acceptance;
 use acceptance::read_claim;
+use blocks::file_blocks;
+use blocks::put_blocks;
 use format::judge_file;
 use format::refusals;
 use host::MIXED_LENGTH;
@@ -122,4 +124,16 @@ pub extern "C" fn wundreska_accepts(file: &[u8], claim: &[u8], answer: &mut [u8]
         return r.refusal;
     }
     put_acceptance(answer, r)
+}
+
+// Judges the file, then the area; where both are accepted, writes the blocks of the model over the front of the area.
+#[no_mangle]
+pub extern "C" fn wundreska_blocks(file: &[u8], answer: &mut [u8]) -> u32
+    ensures { λ r. ⌜ HostBlocks (now (file .entry)) (now (answer .entry)) r (now (answer .exit)) ⌝ }
+{
+    let r = file_blocks(file);
+    if r.refusal != 0 {
+        return r.refusal;
+    }
+    put_blocks(answer, r)
 }
