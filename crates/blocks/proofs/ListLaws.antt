@@ -1,27 +1,29 @@
 -- The blocks listed one after another: the rounds of the code are those of the definition. Assumes nothing.
-use Prim.Native.Nat.{ℕ, zero, suc, _+_, _≤_, _<_}
-use mathlib.Core.Path.{_≡_, refl, sym, ap, _∙_, fun-ext}
-use mathlib.Core.Logic.{_↔_, _⊎_, inl, inr}
+use Prim.Native.Nat.{ℕ, _+_, _≤_, _<_}
+use mathlib.Core.Path.{_≡_, refl, sym, ap, _∙_}
+use mathlib.Core.Logic.{_≢_}
 use mathlib.Core.Bool.{Bool, true, false, not, _&&_, _||_, cond, true≢false, false≢true}
 use mathlib.Core.List.{List}
 use native.Mathlib.Omega.{arith}
 use native.Mathlib.Decide.{ℕ-discrete, decLt}
 use native.Mathlib.Numerals.{add-one}
 use lib.ListN.{length, getD, replicate, getD-replicate}
-use Rattle.limits.specs.Limits.{most-columns, no-column}
+use Rattle.limits.specs.Limits.{most-columns, most-rows, no-column}
 use Rattle.counting.specs.Bools.{true?, not-true, iff-eq, and-in, and-left, and-right, or-left, or-right, or-split, not-both, not-of, implied, implies}
-use Rattle.counting.specs.Sets.{Set, _∈_, _∩_, ∁, #, Some, all, any}
+use Rattle.counting.specs.Sets.{Set, _∈_, _⊆_, _∩_, _∪_, ∁, #, Some, all, any}
 use Rattle.counting.specs.Counts.{all-iff, any-iff, #-le}
 use Rattle.counting.specs.Injections.{#-strict}
-use Rattle.columns.specs.Columns.{width, least}
+use Rattle.columns.specs.Columns.{width, least, removed}
+use Rattle.columns.specs.ColumnSets.{most-words}
+use Rattle.columns.specs.Words.Rows.{most-words-rows}
 use Rattle.columns.specs.Words.Operations.{least-in, least-first}
-use Rattle.columns.specs.Words.SetLaws.{nothing-in, least-there}
+use Rattle.columns.specs.Words.SetLaws.{nothing-in, least-there, removed-old, removed-other}
 use Rattle.relation.specs.Relations.{row-of}
 use Rattle.listings.specs.Offered.{offered, offered-iff}
 use Rattle.listings.specs.Blocks.{block, needs, permitted, next-block, listed, blocks-by, block-count-by}
 use Rattle.listings.specs.Listings.Tests.{Block, block-iff, Needs, needs-iff, Permitted, permitted-iff}
 use Rattle.listings.specs.Listings.Made.{some-free, fresh, in-listed, listed-from, block-offered, count-stops}
-use Rattle.blocks.specs.Code.{Ordered, NeedsShown, Numbered, ListedBy}
+use Rattle.blocks.specs.Code.{Ordered, NeedsShown, Waits, Numbered, ListedBy}
 use Rattle.blocks.specs.declared.Blocks.{Blocks}
 use Rattle.blocks.proofs.TurnLaws.{least-is}
 use Rattle.blocks.proofs.NeedLaws.{row-iff, others-needed}
@@ -42,6 +44,42 @@ block-of-next n E b t k x e y = ap (λ (z : ℕ). block n E b t z y) e
 permitted-parts : (n : ℕ) (E : Set) (b t : ℕ → ℕ → Bool) (D : Set) (x : ℕ) → permitted n E b t D x ≡ (offered n E x && not (D x) && all n (λ y. not (needs n E b t x y) || D y))
 unfolding permitted
 permitted-parts n E b t D x = refl
+
+-- the columns that are left and not awake wait, each for one that must come before
+pub record Watched (needed : List ℕ) (rest awake : Set) (waiting : List ℕ) : Type 0 where
+  pub long : length waiting ≡ most-words
+  pub inside : awake ⊆ rest
+  pub watched : (x : ℕ) → x ∈ rest → awake x ≡ false → Some width (λ y. (y ∈ rest) × (y ∈ row-of needed x) × (x ∈ row-of waiting y))
+
+pub watched-start : (needed : List ℕ) (rest : Set) → Watched needed rest rest (replicate most-words 0)
+watched-start needed rest = record { long = refl; inside = λ x e. e; watched = λ x e n. absurd (true≢false (sym e ∙ n)) }
+
+-- a column waits
+pub watched-wait : (needed : List ℕ) (rest awake : Set) (waiting waiting′ : List ℕ) (x y : ℕ) → Watched needed rest awake waiting → x < width → y < most-rows → (rest ∩ row-of needed x) y ≡ true
+    → Waits y x waiting waiting′ → Watched needed rest (removed awake x) waiting′
+watched-wait needed rest awake waiting waiting′ x y o lx ly e w = record {
+  long = w .same-length ∙ o .long;
+  inside = λ z m. o .inside z (removed-old awake x z m);
+  watched = λ z m n. elim (ℕ-discrete z x) [
+    | yes d ↦ rw d (y, omega arith, (and-left (rest y) (row-of needed x y) e, and-right (rest y) (row-of needed x y) e, w .itself lx (omega (arith, most-words-rows waiting (o .long)))))
+    | no nd ↦
+        let v : Some width (λ y. (y ∈ rest) × (y ∈ row-of needed z) × (z ∈ row-of waiting y)) = o .watched z m (not-true (awake z) (λ k. true≢false (sym (removed-other awake x z k nd) ∙ n))) in
+        (v .0, v .1, (v .2 .0, v .2 .1, w .more (v .0) z (v .2 .2)))
+  ];
+}
+
+-- a block is listed: those that wait for one of it awake
+pub watched-listed : (needed : List ℕ) (rest awake S W : Set) (waiting : List ℕ) → Watched needed rest awake waiting → ((x y : ℕ) → y ∈ S → x ∈ row-of waiting y → x ∈ W)
+    → Watched needed (rest ∩ ∁ S) ((awake ∪ W) ∩ (rest ∩ ∁ S)) waiting
+watched-listed needed rest awake S W waiting o woke = record {
+  long = o .long;
+  inside = λ x e. and-right (awake x || W x) ((rest ∩ ∁ S) x) e;
+  watched = λ x e n.
+      let closed : (awake x || W x) ≡ false = not-true (awake x || W x) (λ k. true≢false (sym (and-in k e) ∙ n)) in
+      let v : Some width (λ y. (y ∈ rest) × (y ∈ row-of needed x) × (x ∈ row-of waiting y)) =
+      o .watched x (and-left (rest x) (not (S x)) e) (not-true (awake x) (λ k. true≢false (sym (or-left (awake x) (W x) k) ∙ closed))) in
+      (v .0, v .1, (and-in (v .2 .0) (not-of (S (v .0)) (λ k. true≢false (sym (or-right (awake x) (W x) (woke x (v .0) k (v .2 .2))) ∙ closed))), v .2 .1, v .2 .2));
+}
 
 module _ (n : ℕ) (E : Set) (b t : ℕ → ℕ → Bool) (columns : Set) (rows needed : List ℕ) (h : Ordered n E b t columns rows) (w : NeedsShown n E b t needed) where
   abbrev Open : Set
@@ -84,6 +122,9 @@ module _ (n : ℕ) (E : Set) (b t : ℕ → ℕ → Bool) (columns : Set) (rows 
     rest-open x e =
         let v : (Open x && not (L k x)) ≡ true = sym (s .rest-is x) ∙ e in
         (and-left (Open x) (not (L k x)) v, not-true (L k x) (not-both (L k x) (and-right (Open x) (not (L k x)) v)))
+
+    pub rest-below : (x : ℕ) → x ∈ rest → x < most-columns
+    rest-below x e = omega (arith, offered-iff n E x .0 (rest-open x e .0) .0, h .columns)
 
     open-rest : (x : ℕ) → x ∈ Open → L k x ≡ false → x ∈ rest
     open-rest x o e = s .rest-is x ∙ and-in o (ap not e)
@@ -136,6 +177,29 @@ module _ (n : ℕ) (E : Set) (b t : ℕ → ℕ → Bool) (columns : Set) (rows 
       unfolding next
       found-next = least-is width next free (omega (arith, next-below, h .columns)) (free-is next ∙ least-in n (Free k) next-below)
           (λ x l. free-is x ∙ not-true (Free k x) (λ e. omega (arith, least-first n (Free k) x (omega (arith, next-below)) e)))
+
+      -- one is awake, and the least of these is the least that is permitted, where it needs nothing that is left
+      module _ (awake : Set) (waiting : List ℕ) (o : Watched needed rest awake waiting) where
+        free-awake : (x : ℕ) → x ∈ free → x ∈ awake
+        free-awake x e = elim (true? (awake x)) [
+          | yes k ↦ k
+          | no nk ↦
+              let v : Some width (λ y. (y ∈ rest) × (y ∈ row-of needed x) × (x ∈ row-of waiting y)) = o .watched x (and-left (rest x) _ e) (not-true (awake x) nk) in
+              absurd (not-both (any width (rest ∩ row-of needed x)) (and-right (rest x) _ e) (any-iff width (rest ∩ row-of needed x) .1 (v .0, v .1, and-in (v .2 .0) (v .2 .1))))
+        ]
+
+        pub some-awake : # width awake ≢ 0
+        some-awake z =
+            let p : Some n (λ x. x ∈ Free k) = permitted-one in
+            nothing-in width awake z (p .0) (omega (arith, p .1, h .columns)) (free-awake (p .0) (free-is (p .0) ∙ p .2))
+
+        pub least-awake : (x : ℕ) → x ≡ least width awake → # width (rest ∩ row-of needed x) ≡ 0 → x ≡ least width free
+        least-awake x e none =
+            let l : (least width awake < width) × (least width awake ∈ awake) = least-there width awake some-awake in
+            sym (least-is width x free (rw e (l .0))
+            (and-in (o .inside x (rw e (l .1))) (not-of (any width (rest ∩ row-of needed x)) (λ m.
+            let v : Some width (λ y. (rest ∩ row-of needed x) y ≡ true) = any-iff width (rest ∩ row-of needed x) .0 m in nothing-in width (rest ∩ row-of needed x) none (v .0) (v .1) (v .2))))
+            (λ y m. not-true (free y) (λ f. omega (arith, e, least-first width awake y (omega (arith, e, l .0)) (free-awake y f)))))
 
       module _ (x : ℕ) (is-next : x ≡ least width free) (S : Set) (is-block : S ≡ row-of rows x ∩ ∁ (row-of needed x)) where
         x-is : x ≡ next

@@ -1,25 +1,30 @@
--- What must come before the block of each column, worked out one block after another. Assumes nothing.
-use Prim.Native.Nat.{ℕ, _<_}
+-- What must come before the block of each column, by the size of the columns' rows. Assumes nothing.
+use Prim.Native.Nat.{ℕ, _+_, _-_, _≤_, _<_}
 use mathlib.Core.Path.{_≡_, refl, sym, ap, _∙_}
-use mathlib.Core.Logic.{_↔_, _⊎_, inl, inr}
-use mathlib.Core.Bool.{Bool, true, false, not, _&&_, _||_, true≢false, false≢true}
+use mathlib.Core.Logic.{_≢_, _↔_, inl, inr}
+use mathlib.Core.Bool.{Bool, true, false, not, _&&_, true≢false}
 use mathlib.Core.List.{List}
 use native.Mathlib.Omega.{arith}
+use native.Mathlib.Decide.{ℕ-discrete}
+use lib.Dec.{eqb}
 use lib.ListN.{length, replicate}
-use Rattle.limits.specs.Limits.{most-columns}
-use Rattle.counting.specs.Bools.{true?, not-true, iff-eq, and-in, and-left, and-right, not-both, not-of, in-not}
+use borrow.Author.Tests.{eqb-true, eq-eqb, ne-eqb}
+use Rattle.limits.specs.Limits.{most-columns, most-rows}
+use Rattle.counting.specs.Bools.{true?, not-true, iff-eq, and-in, and-left, and-right, not-both, not-of}
 use Rattle.counting.specs.Sets.{Set, _∈_, _⊆_, _∩_, ∁, #}
+use Rattle.counting.specs.Counts.{#-ext, #-le, #-none}
 use Rattle.counting.specs.Injections.{#-strict}
-use Rattle.columns.specs.Columns.{width}
-use Rattle.columns.specs.ColumnSets.{most-words}
-use Rattle.columns.specs.Words.Rows.{most-words-rows}
-use Rattle.columns.specs.Words.SetLaws.{nothing-in}
-use Rattle.relation.specs.Relations.{row-of, Joined}
-use Rattle.relation.specs.RowLaws.{no-rows}
+use Rattle.counting.specs.Blocks.{#-plus}
+use Rattle.columns.specs.Columns.{width, members, inserted, removed}
+use Rattle.columns.specs.ColumnSets.{row-words, most-words, with-row}
+use Rattle.columns.specs.Words.Rows.{rows-length, most-words-rows, with-row-length}
+use Rattle.columns.specs.Words.SetLaws.{inserted-same, inserted-old, inserted-split, removed-old, removed-gone, removed-other}
+use Rattle.relation.specs.Relations.{row-of, HasRow}
+use Rattle.relation.specs.RowLaws.{put-same, put-other, no-rows}
 use Rattle.listings.specs.Offered.{offered, offered-iff}
 use Rattle.listings.specs.Blocks.{block, needs}
 use Rattle.listings.specs.Listings.Tests.{Block, block-iff, Needs, needs-iff}
-use Rattle.blocks.specs.Code.{Ordered, NeedsShown}
+use Rattle.blocks.specs.Code.{Ordered, BySize, NeedsShown}
 
 module _ (n : ℕ) (E : Set) (b t : ℕ → ℕ → Bool) where
   abbrev Open : Set
@@ -42,23 +47,6 @@ module _ (n : ℕ) (E : Set) (b t : ℕ → ℕ → Bool) where
     share-sym : (x y : ℕ) → t x y ≡ true → t y x ≡ true
     share-sym x y e = let w : (b x y ≡ true) × (b y x ≡ true) = h .both x y .0 e in h .both y x .1 (w .1, w .0)
 
-    share-via : (x y z : ℕ) → t x y ≡ true → t y z ≡ true → t x z ≡ true
-    share-via x y z e f =
-        let v : (b x y ≡ true) × (b y x ≡ true) = h .both x y .0 e in
-        let w : (b y z ≡ true) × (b z y ≡ true) = h .both y z .0 f in
-        h .both x z .1 (h .via x y z (v .0) (w .0), h .via z y x (w .1) (v .1))
-
-    -- those that are in each other's rows are the block
-    pub shared-block : (x y : ℕ) → x ∈ Open → (R x y && R y x) ≡ block n E b t x y
-    shared-block x y ox = iff-eq (R x y && R y x) (block n E b t x y)
-        (λ e.
-        let v : (x ∈ Open) × (y ∈ Open) × (b y x ≡ true) = row-iff x y .0 (and-left (R x y) (R y x) e) in
-        block-iff n E b t x y .1 (record { at = ox; of = v .1; with = h .both x y .1 (row-iff y x .0 (and-right (R x y) (R y x) e) .2, v .2) }))
-        (λ e.
-        let w : Block n E b t x y = block-iff n E b t x y .0 e in
-        let v : (b x y ≡ true) × (b y x ≡ true) = h .both x y .0 (w .with) in
-        and-in (row-iff x y .1 (ox, w .of, v .1)) (row-iff y x .1 (w .of, ox, v .0)))
-
     -- the others in a row are what the block needs
     pub others-needed : (x y : ℕ) → x ∈ Open → (R x y && not (block n E b t x y)) ≡ needs n E b t x y
     others-needed x y ox = iff-eq (R x y && not (block n E b t x y)) (needs n E b t x y)
@@ -74,84 +62,161 @@ module _ (n : ℕ) (E : Set) (b t : ℕ → ℕ → Bool) where
         let w : Needs n E b t x y = needs-iff n E b t x y .0 e in
         and-in (row-iff x y .1 (ox, w .is-offered, w .is-before)) (not-of (block n E b t x y) (λ k. w .apart (share-sym x y (block-iff n E b t x y .0 k .with)))))
 
-    -- columns of one block need the same
-    needs-same : (x z y : ℕ) → t x z ≡ true → needs n E b t x y ≡ needs n E b t z y
-    needs-same x z y e = iff-eq (needs n E b t x y) (needs n E b t z y) (into x z e) (into z x (share-sym x z e))
+    -- a row has at most as many columns as a model
+    row-few : (x : ℕ) → # width (R x) ≤ most-columns
+    row-few x =
+        let z : most-columns + (width - most-columns) ≡ width = refl in
+        omega (
+          arith,
+          #-le most-columns (R x),
+          #-plus most-columns (width - most-columns) (R x),
+          #-ext (width - most-columns) (λ r. R x (most-columns + r)) (λ r. false)
+              (λ r l. not-true (R x (most-columns + r)) (λ e. omega (arith, offered-iff n E (most-columns + r) .0 (row-iff x (most-columns + r) .0 e .1) .0, h .columns))),
+          #-none (width - most-columns),
+        )
+
+    -- what stands in the row of x and has a row of the same size is its block
+    pub same-size : (x y : ℕ) → x ∈ Open → y ∈ R x → (# width (R y) ≡ # width (R x)) ↔ (y ∈ block n E b t x)
+    same-size x y ox ey = (
+      (λ e. block-iff n E b t x y .1 (record {
+        at = ox;
+        of = v .1;
+        with = h .both x y .1 (
+          elim (true? (R y x)) [
+            | yes m ↦ row-iff y x .0 m .2
+            | no nm ↦ absurd (omega (arith, e, #-strict width (R y) (R x) within x (omega (arith, offered-iff n E x .0 ox .0, h .columns)) (row-iff x x .1 (ox, ox, h .self x)) nm))
+          ],
+          v .2,
+        );
+      })),
+      λ e. #-ext width (R y) (R x) (λ z l. same z (block-iff n E b t x y .0 e)),
+    )
       where
-        into : (u v : ℕ) → t u v ≡ true → needs n E b t u y ≡ true → needs n E b t v y ≡ true
-        into u v e k =
-            let w : Needs n E b t u y = needs-iff n E b t u y .0 k in
-            needs-iff n E b t v y .1 (record {
-              is-offered = w .is-offered;
-              is-before = h .via y u v (w .is-before) (h .both u v .0 e .0);
-              apart = λ s. w .apart (share-via y v u s (share-sym u v e));
-            })
+        v : (x ∈ Open) × (y ∈ Open) × (b y x ≡ true)
+        v = row-iff x y .0 ey
 
-    -- the blocks that are not in `rest` have been worked out
-    pub record Needing (rest : Set) (ws : List ℕ) : Type 0 where
-      pub long : length ws ≡ most-words
-      pub inside : rest ⊆ Open
-      pub whole-blocks : (x y : ℕ) → x ∈ rest → y ∈ Open → t x y ≡ true → y ∈ rest
-      pub left : (x y : ℕ) → x ∈ rest → row-of ws x y ≡ false
-      pub made : (x y : ℕ) → x ∈ Open → rest x ≡ false → row-of ws x y ≡ needs n E b t x y
+        within : (z : ℕ) → z < width → z ∈ R y → z ∈ R x
+        within z l e = let w : (y ∈ Open) × (z ∈ Open) × (b z y ≡ true) = row-iff y z .0 e in row-iff x z .1 (ox, w .1, h .via z y x (w .2) (v .2))
 
-    pub needing-start : Needing all (replicate most-words 0)
-    needing-start = record {
-      long = refl;
-      inside = λ x e. sym (h .is-all x) ∙ e;
-      whole-blocks = λ x y e o s. h .is-all y ∙ o;
-      left = λ x y e. ap (λ (S : Set). S y) (no-rows most-words x);
-      made = λ x y o e. absurd (true≢false (sym o ∙ sym (h .is-all x) ∙ e));
-    }
+        same : (z : ℕ) → Block n E b t x y → R y z ≡ R x z
+        same z w =
+            let u : (b x y ≡ true) × (b y x ≡ true) = h .both x y .0 (w .with) in
+            iff-eq (R y z) (R x z)
+            (λ e. let k : (y ∈ Open) × (z ∈ Open) × (b z y ≡ true) = row-iff y z .0 e in row-iff x z .1 (ox, k .1, h .via z y x (k .2) (u .1)))
+            (λ e. let k : (x ∈ Open) × (z ∈ Open) × (b z x ≡ true) = row-iff x z .0 e in row-iff y z .1 (w .of, k .1, h .via z x y (k .2) (u .0)))
 
-    module _ (rest : Set) (ws : List ℕ) (k : Needing rest ws) (x : ℕ) (ex : x ∈ rest) (S : Set) (is-block : (y : ℕ) → S y ≡ (R x y && R y x)) where
-      ox : x ∈ Open
-      ox = k .inside x ex
+    -- so the rest of its row is what the block needs
+    pub rest-needed : (table : List ℕ) → BySize all rows table → (x y : ℕ) → x ∈ Open → (R x y && not (row-of table (# width (R x)) y)) ≡ needs n E b t x y
+    rest-needed table s x y ox = iff-eq (R x y && not (row-of table k y)) (needs n E b t x y)
+        (λ e. let ey : y ∈ R x = and-left (R x y) (not (row-of table k y)) e in
+        sym (others-needed x y ox) ∙ and-in ey (not-of (block n E b t x y) (λ m. not-both (row-of table k y) (and-right (R x y) (not (row-of table k y)) e)
+        (at ∙ and-in (h .is-all y ∙ row-iff x y .0 ey .1) (eq-eqb _ _ (same-size x y ox ey .1 m))))))
+        (λ e. let m : (R x y && not (block n E b t x y)) ≡ true = others-needed x y ox ∙ e in
+        let ey : y ∈ R x = and-left (R x y) (not (block n E b t x y)) m in
+        and-in ey (not-of (row-of table k y) (λ u. not-both (block n E b t x y) (and-right (R x y) (not (block n E b t x y)) m)
+        (same-size x y ox ey .0 (eqb-true _ _ (and-right (all y) (eqb (# width (R y)) k) (sym at ∙ u)))))))
+      where
+        k : ℕ
+        k = # width (R x)
 
-      block-at : (y : ℕ) → S y ≡ block n E b t x y
-      block-at y = is-block y ∙ shared-block x y ox
+        at : row-of table k y ≡ (all y && eqb (# width (R y)) k)
+        at = s .sized k y (row-few x)
 
-      in-block : (y : ℕ) → y ∈ S → Block n E b t x y
-      in-block y e = block-iff n E b t x y .0 (sym (block-at y) ∙ e)
+-- ---- the columns by the size of their rows
 
-      pub itself : x ∈ S
-      itself = block-at x ∙ block-iff n E b t x x .1 (record { at = ox; of = ox; with = h .both x x .1 (h .self x, h .self x) })
+-- the columns of `all` that are not in `rest` stand in the table
+pub record Sizing (all rest : Set) (rows table : List ℕ) : Type 0 where
+  pub long : length table ≡ most-words + row-words
+  pub inside : rest ⊆ all
+  pub sized : (k y : ℕ) → k ≤ most-columns → row-of table k y ≡ ((all y && not (rest y)) && eqb (# width (row-of rows y)) k)
 
-      -- a turn takes a block out of what is left
-      pub fewer-blocks : # width (rest ∩ ∁ S) < # width rest
-      fewer-blocks = #-strict width (rest ∩ ∁ S) rest (λ y l e. and-left (rest y) (not (S y)) e) x (omega (arith, offered-iff n E x .0 ox .0, h .columns)) ex
-          (λ e. not-both (S x) (and-right (rest x) (not (S x)) e) itself)
+pub sizing-start : (all : Set) (rows : List ℕ) → Sizing all all rows (replicate (most-words + row-words) 0)
+sizing-start all rows = record {
+  long = refl;
+  inside = λ x e. e;
+  sized = λ k y l. ap (λ (S : Set). S y) (no-rows (most-words + row-words) k) ∙ sym (ap (λ (v : Bool). v && eqb (# width (row-of rows y)) k) (and-not (all y)));
+}
+  where
+    and-not : (v : Bool) → (v && not v) ≡ false
+    and-not true = refl
+    and-not false = refl
 
-      pub needing-more : (ws′ : List ℕ) (B : Set) → B ≡ R x ∩ ∁ S → Joined S B ws ws′ → Needing (rest ∩ ∁ S) ws′
-      needing-more ws′ B is-rest j = record {
-        long = j .rest .same-length ∙ k .long;
-        inside = λ y e. k .inside y (and-left (rest y) (not (S y)) e);
-        whole-blocks = λ y z e o s. and-in (k .whole-blocks y z (and-left (rest y) (not (S y)) e) o s) (not-of (S z) (λ m.
-            not-both (S y) (and-right (rest y) (not (S y)) e) (block-at y ∙ block-iff n E b t x y .1 (record {
-              at = ox;
-              of = k .inside y (and-left (rest y) (not (S y)) e);
-              with = share-via x z y (in-block z m .with) (share-sym y z s);
-            }))));
-        left = λ y z e. joined y z (k .inside y (and-left (rest y) (not (S y)) e))
-            ∙ apart y z (not-true (S y) (λ m. not-both (S y) (and-right (rest y) (not (S y)) e) m)) ∙ k .left y z (and-left (rest y) (not (S y)) e);
-        made = λ y z o e. elim (true? (S y)) [
-          | yes m ↦ joined y z o ∙ ap (λ (v : Bool). v || (S y && B z)) (k .left y z (k .whole-blocks x y ex o (in-block y m .with))) ∙ ap (λ (v : Bool). v && B z) m ∙ needed y z m
-          | no nm ↦ joined y z o ∙ apart y z (not-true (S y) nm) ∙ k .made y z o (not-true (rest y) (λ r. true≢false (sym (and-in r (not-of (S y) nm)) ∙ e)))
-        ];
-      }
-        where
-          joined : (y z : ℕ) → y ∈ Open → row-of ws′ y z ≡ (row-of ws y z || (S y && B z))
-          joined y z o = j .rows y z (omega (arith, most-words-rows ws (k .long), offered-iff n E y .0 o .0, h .columns))
+sizing-more : (all rest : Set) (rows table : List ℕ) (x w : ℕ) → x < width → x ∈ rest → Sizing all rest rows table
+    → members w ≡ inserted (row-of table (# width (row-of rows x))) x → Sizing all (removed rest x) rows (with-row table (# width (row-of rows x)) w)
+sizing-more all rest rows table x w lx ex s e = record {
+  long = with-row-length table k₀ w ∙ s .long;
+  inside = λ y m. s .inside y (removed-old rest x y m);
+  sized = λ k y l. elim (ℕ-discrete k k₀) [
+    | no nk ↦ ap (λ (S : Set). S y) (put-other table k₀ w k nk) ∙ s .sized k y l ∙ elim (ℕ-discrete y x) [
+      | no ny ↦ ap (λ (v : Bool). (all y && not v) && eqb (# width (row-of rows y)) k) (sym (same y ny))
+      | yes d ↦ rw d (ap (λ (v : Bool). (all x && not v) && eqb k₀ k) ex ∙ ap (λ (v : Bool). v && eqb k₀ k) (and-false (all x))
+          ∙ sym (ap (λ (v : Bool). (all x && not (removed rest x x)) && v) (ne-eqb k₀ k (λ z. nk (sym z))) ∙ and-false (all x && not (removed rest x x))))
+    ]
+    | yes d ↦
+        let here : HasRow table k₀ = omega (arith, rows-length table, s .long, d) in
+        rw d (ap (λ (S : Set). S y) (put-same table k₀ w here ∙ e) ∙ elim (ℕ-discrete y x) [
+          | yes z ↦ rw z (inserted-same (row-of table k₀) x lx
+              ∙ sym (and-in (and-in (s .inside x ex) (not-of (removed rest x x) (λ m. removed-gone rest x x m refl))) (eq-eqb k₀ k₀ refl)))
+          | no nz ↦ inserted-other y nz ∙ s .sized k₀ y (rw d at l) ∙ ap (λ (v : Bool). (all y && not v) && eqb (# width (row-of rows y)) k₀) (sym (same y nz))
+        ])
+  ];
+}
+  where
+    k₀ : ℕ
+    k₀ = # width (row-of rows x)
 
-          apart : (y z : ℕ) → S y ≡ false → (row-of ws y z || (S y && B z)) ≡ row-of ws y z
-          apart y z e = ap (λ (v : Bool). row-of ws y z || (v && B z)) e ∙ or-false (row-of ws y z)
-            where
-              or-false : (v : Bool) → (v || false) ≡ v
-              or-false true = refl
-              or-false false = refl
+    and-false : (v : Bool) → (v && false) ≡ false
+    and-false true = refl
+    and-false false = refl
 
-          needed : (y z : ℕ) → y ∈ S → B z ≡ needs n E b t y z
-          needed y z m = ap (λ (T : Set). T z) is-rest ∙ ap (λ (v : Bool). R x z && not v) (block-at z) ∙ others-needed x z ox ∙ needs-same x y z (in-block y m .with)
+    same : (y : ℕ) → y ≢ x → removed rest x y ≡ rest y
+    same y ny = iff-eq (removed rest x y) (rest y) (λ m. removed-old rest x y m) (λ m. removed-other rest x y m ny)
 
-    pub needing-done : (rest : Set) (ws : List ℕ) → Needing rest ws → # width rest ≡ 0 → NeedsShown n E b t ws
-    needing-done rest ws k none x o y = k .made x y o (not-true (rest x) (λ e. nothing-in width rest none x (omega (arith, offered-iff n E x .0 o .0, h .columns)) e))
+    inserted-other : (y : ℕ) → y ≢ x → inserted (row-of table k₀) x y ≡ row-of table k₀ y
+    inserted-other y ny = iff-eq (inserted (row-of table k₀) x y) (row-of table k₀ y)
+        (λ m. elim (inserted-split (row-of table k₀) x y m) [ inl d ↦ absurd (ny d) | inr o ↦ o ])
+        (λ m. inserted-old (row-of table k₀) x y m)
+
+pub sizing-turn : (all rest : Set) (rows table : List ℕ) (x w k : ℕ) → x < width → x ∈ rest → Sizing all rest rows table → k ≡ # width (row-of rows x)
+    → members w ≡ inserted (row-of table k) x → Sizing all (removed rest x) rows (with-row table k w)
+sizing-turn all rest rows table x w k lx ex s d e = rw d (sizing-more all rest rows table x w lx ex s (rw d at e))
+
+pub sizing-done : (all rest : Set) (rows table : List ℕ) → Sizing all rest rows table → ((x : ℕ) → x ∈ rest → ⊥) → BySize all rows table
+sizing-done all rest rows table s none-left = record {
+  sized = λ k y l. s .sized k y l ∙ ap (λ (v : Bool). (all y && not v) && eqb (# width (row-of rows y)) k) (not-true (rest y) (none-left y))
+      ∙ ap (λ (v : Bool). v && eqb (# width (row-of rows y)) k) (and-true (all y));
+}
+  where
+    and-true : (v : Bool) → (v && true) ≡ v
+    and-true true = refl
+    and-true false = refl
+
+-- ---- what is needed, a column after another
+
+-- the rows of the columns of `all` that are not in `rest` are written
+pub record Needing (all rest : Set) (f : ℕ → Set) (ws : List ℕ) : Type 0 where
+  pub long : length ws ≡ most-words
+  pub inside : rest ⊆ all
+  pub made : (x y : ℕ) → x < most-rows → x ∈ all → rest x ≡ false → row-of ws x y ≡ f x y
+
+pub needing-start : (all : Set) (f : ℕ → Set) → Needing all all f (replicate most-words 0)
+needing-start all f = record { long = refl; inside = λ x e. e; made = λ x y l e n. absurd (true≢false (sym e ∙ n)) }
+
+pub needing-more : (all rest : Set) (f : ℕ → Set) (ws : List ℕ) (x w : ℕ) → x ∈ rest → Needing all rest f ws → members w ≡ f x → Needing all (removed rest x) f (with-row ws x w)
+needing-more all rest f ws x w ex s e = record {
+  long = with-row-length ws x w ∙ s .long;
+  inside = λ y m. s .inside y (removed-old rest x y m);
+  made = λ z y l m n. elim (ℕ-discrete z x) [
+    | yes d ↦ rw d (ap (λ (S : Set). S y) (put-same ws x w (omega (arith, most-words-rows ws (s .long), l, d)) ∙ e))
+    | no nd ↦ ap (λ (S : Set). S y) (put-other ws x w z nd) ∙ s .made z y l m (not-true (rest z) (λ k. true≢false (sym (removed-other rest x z k nd) ∙ n)))
+  ];
+}
+
+-- the rest of each row, without the columns whose rows are of its size
+abbrev pub unlike : (rows table : List ℕ) → ℕ → Set
+unlike rows table x = row-of rows x ∩ ∁ (row-of table (# width (row-of rows x)))
+
+pub needing-done : (n : ℕ) (E : Set) (b t : ℕ → ℕ → Bool) (all rest : Set) (rows table ws : List ℕ) → Ordered n E b t all rows → BySize all rows table
+    → Needing all rest (unlike rows table) ws → ((x : ℕ) → x ∈ rest → ⊥) → NeedsShown n E b t ws
+needing-done n E b t all rest rows table ws h s k none-left x o y =
+    k .made x y (omega (arith, offered-iff n E x .0 o .0, h .columns)) (h .is-all x ∙ o) (not-true (rest x) (none-left x)) ∙ rest-needed n E b t all rows h table s x y o

@@ -1,113 +1,67 @@
--- The loops over the columns of a set: those that share a block with one, the least that is permitted, and the number of a block. Assumes nothing.
-use Prim.Native.Nat.{ℕ, _≤_, _<_}
+-- The loops over the columns of a set: those that wait for one of it, and the number of a block; and the least of a set. Assumes nothing.
+use Prim.Native.Nat.{ℕ, _<_}
 use mathlib.Core.Path.{_≡_, refl, sym, ap, _∙_}
 use mathlib.Core.Logic.{_≢_, _⊎_, inl, inr}
-use mathlib.Core.Bool.{Bool, true, false, not, _&&_, cond, true≢false, false≢true}
+use mathlib.Core.Bool.{Bool, true, false, cond, true≢false}
 use mathlib.Core.List.{List}
 use native.Mathlib.Omega.{arith}
 use native.Mathlib.Decide.{ℕ-discrete, decLt}
 use lib.ListN.{length, getD, length-set}
 use lib.ListN as ListN
 use lib.Seq.{getD-set-same, getD-set-other}
-use Rattle.counting.specs.Bools.{true?, not-true, and-in, and-left}
-use Rattle.counting.specs.Sets.{Set, _∈_, _⊆_}
-use Rattle.columns.specs.Columns.{least, removed}
-use Rattle.columns.specs.Words.Operations.{least-le, least-in, least-first}
-use Rattle.columns.specs.Words.SetLaws.{removed-old, removed-gone, removed-other}
-use Rattle.blocks.specs.Code.{Numbered}
+use Rattle.counting.specs.Bools.{true?, not-true, or-left, or-right}
+use Rattle.counting.specs.Sets.{Set, _∈_, _⊆_, _∪_}
+use Rattle.columns.specs.Columns.{least, members, inserted, removed}
+use Rattle.columns.specs.ColumnSets.{row-numbers, with-row}
+use Rattle.columns.specs.Words.Operations.{least-in, least-first}
+use Rattle.columns.specs.Words.Rows.{with-row-length}
+use Rattle.columns.specs.Words.SetLaws.{inserted-same, inserted-old, removed-old, removed-gone, removed-other}
+use Rattle.relation.specs.Relations.{row-of}
+use Rattle.relation.specs.RowLaws.{put-same, put-other, put-past}
+use Rattle.blocks.specs.Code.{Waits, Numbered}
 
 -- a column that is not left after x is taken out was not left, or is x
 gone : (rest : Set) (x y : ℕ) → y ≢ x → removed rest x y ≡ false → rest y ≡ false
 gone rest x y ne e = not-true (rest y) (λ k. true≢false (sym (removed-other rest x y k ne) ∙ e))
 
--- ---- the columns that share a block
+-- ---- the least of a set
 
--- of the columns in the row of x, those that are not left have been tested
-pub record Sharing (R : ℕ → Set) (x : ℕ) (rest set : Set) : Type 0 where
-  pub in-row : rest ⊆ R x
-  pub left : rest ⊆ set
-  pub tested : (y : ℕ) → rest y ≡ false → set y ≡ (R x y && R y x)
-
-pub sharing-start : (R : ℕ → Set) (x : ℕ) (S : Set) → S ≡ R x → Sharing R x S S
-sharing-start R x S e = record {
-  in-row = λ y k. sym (ap (λ (T : Set). T y) e) ∙ k;
-  left = λ y k. k;
-  tested = λ y k. k ∙ sym (ap (λ (b : Bool). b && R y x) (sym (ap (λ (T : Set). T y) e) ∙ k));
-}
-
-module _ (R : ℕ → Set) (x : ℕ) (rest set : Set) (s : Sharing R x rest set) (y : ℕ) (ey : y ∈ rest) where
-  pub sharing-kept : R y x ≡ true → Sharing R x (removed rest y) set
-  sharing-kept e = record {
-    in-row = λ z k. s .in-row z (removed-old rest y z k);
-    left = λ z k. s .left z (removed-old rest y z k);
-    tested = λ z k. elim (ℕ-discrete z y) [
-      | yes d ↦ rw d (s .left y ey ∙ sym (and-in (s .in-row y ey) e))
-      | no nd ↦ s .tested z (gone rest y z nd k)
-    ];
-  }
-
-  pub sharing-dropped : R y x ≡ false → Sharing R x (removed rest y) (removed set y)
-  sharing-dropped e = record {
-    in-row = λ z k. s .in-row z (removed-old rest y z k);
-    left = λ z k. removed-other set y z (s .left z (removed-old rest y z k)) (removed-gone rest y z k);
-    tested = λ z k. elim (ℕ-discrete z y) [
-      | yes d ↦ rw d (not-true (removed set y y) (λ m. removed-gone set y y m refl) ∙ sym (ap (λ (b : Bool). R x y && b) e ∙ and-false (R x y)))
-      | no nd ↦ same z nd ∙ s .tested z (gone rest y z nd k)
-    ];
-  }
-    where
-      and-false : (b : Bool) → (b && false) ≡ false
-      and-false true = refl
-      and-false false = refl
-
-      same : (z : ℕ) → z ≢ y → removed set y z ≡ set z
-      same z nd = elim (true? (set z)) [
-        | yes k ↦ removed-other set y z k nd ∙ sym k
-        | no nk ↦ not-true (removed set y z) (λ m. nk (removed-old set y z m)) ∙ sym (not-true (set z) nk)
-      ]
-
--- ---- the least that is permitted
-
--- the least member, and that there is none
 pub least-is : (n k : ℕ) (S : Set) → k < n → k ∈ S → ((x : ℕ) → x < k → S x ≡ false) → least n S ≡ k
 least-is n k S l e none = elim (decLt (least n S) k) [
   | yes m ↦ absurd (true≢false (sym (least-in n S (omega arith)) ∙ none (least n S) m))
   | no nm ↦ omega (arith, least-first n S k l e)
 ]
 
-pub least-none : (n : ℕ) (S : Set) → ((x : ℕ) → x < n → S x ≡ false) → least n S ≡ n
-least-none n S none = elim (decLt (least n S) n) [
-  | yes m ↦ absurd (true≢false (sym (least-in n S m) ∙ none (least n S) m))
-  | no nm ↦ omega (arith, least-le n S)
-]
+-- ---- the columns that wait
 
--- the columns of a set that are not left do not pass a test
-pub record Passed (test : Set) (rest left : Set) : Type 0 where
-  pub inside : left ⊆ rest
-  pub failed : (x : ℕ) → x ∈ rest → left x ≡ false → test x ≡ false
+pub waits-put : (ws : List ℕ) (y x w : ℕ) → members w ≡ inserted (row-of ws y) x → Waits y x ws (with-row ws y w)
+waits-put ws y x w e = record {
+  same-length = with-row-length ws y w;
+  more = λ z v m. elim (ℕ-discrete z y) [
+    | no nz ↦ ap (λ (S : Set). S v) (put-other ws y w z nz) ∙ m
+    | yes d ↦ elim (decLt y (length (row-numbers ws))) [
+      | yes l ↦ rw d (ap (λ (S : Set). S v) (put-same ws y w l ∙ e) ∙ inserted-old (row-of ws y) x v (rw d at m))
+      | no nl ↦ rw d (ap (λ (S : Set). S v) (put-past ws y w y (omega arith)) ∙ rw d at m)
+    ]
+  ];
+  itself = λ lx l. ap (λ (S : Set). S x) (put-same ws y w l ∙ e) ∙ inserted-same (row-of ws y) x lx;
+}
 
-pub passed-start : (test rest : Set) → Passed test rest rest
-passed-start test rest = record { inside = λ x e. e; failed = λ x e n. absurd (true≢false (sym e ∙ n)) }
+-- the columns that wait for one of `set` that is not left have been met
+abbrev pub Waking : (waiting : List ℕ) (set rest all : Set) → Type 0
+Waking waiting set rest all = (rest ⊆ set) × ((x y : ℕ) → y ∈ set → rest y ≡ false → x ∈ row-of waiting y → x ∈ all)
 
-module _ (test rest left : Set) (h : Passed test rest left) where
-  pub passed-more : (x : ℕ) → test x ≡ false → Passed test rest (removed left x)
-  passed-more x e = record {
-    inside = λ z k. h .inside z (removed-old left x z k);
-    failed = λ z k n. elim (ℕ-discrete z x) [ yes d ↦ rw d e | no nd ↦ h .failed z k (gone left x z nd n) ];
-  }
+pub waking-start : (waiting : List ℕ) (set all : Set) → Waking waiting set set all
+waking-start waiting set all = ((λ x e. e), λ x y e n. absurd (true≢false (sym e ∙ n)))
 
-  -- the first column that passes is the least
-  pub passed-least : (n k : ℕ) → k < n → k ∈ left → ((x : ℕ) → x ∈ left → k ≤ x) → test k ≡ true → k ≡ least n (λ x. rest x && test x)
-  passed-least n k l e first t = sym (least-is n k (λ x. rest x && test x) l (and-in (h .inside k e) t) (λ x m. elim (true? (rest x)) [
-    | no nr ↦ ap (λ (b : Bool). b && test x) (not-true (rest x) nr)
-    | yes r ↦ ap (λ (b : Bool). b && test x) r ∙ h .failed x r (not-true (left x) (λ k. omega (arith, first x k)))
-  ]))
-
-  pub passed-none : (n : ℕ) → ((x : ℕ) → x < n → left x ≡ false) → n ≡ least n (λ x. rest x && test x)
-  passed-none n empty = sym (least-none n (λ x. rest x && test x) (λ x m. elim (true? (rest x)) [
-    | no nr ↦ ap (λ (b : Bool). b && test x) (not-true (rest x) nr)
-    | yes r ↦ ap (λ (b : Bool). b && test x) r ∙ h .failed x r (empty x m)
-  ]))
+pub waking-more : (waiting : List ℕ) (set rest all row : Set) (y : ℕ) → Waking waiting set rest all → row ≡ row-of waiting y → Waking waiting set (removed rest y) (all ∪ row)
+waking-more waiting set rest all row y h e = (
+  (λ x m. h .0 x (removed-old rest y x m)),
+  λ x z ez n m. elim (ℕ-discrete z y) [
+    | yes d ↦ or-right (all x) (row x) (ap (λ (S : Set). S x) e ∙ rw d at m)
+    | no nd ↦ or-left (all x) (row x) (h .1 x z ez (gone rest y z nd n) m)
+  ],
+)
 
 -- ---- the number of a block
 

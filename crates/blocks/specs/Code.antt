@@ -4,10 +4,12 @@ use mathlib.Core.Path.{_≡_}
 use mathlib.Core.Logic.{_↔_}
 use mathlib.Core.Bool.{Bool, true, _&&_, cond}
 use mathlib.Core.List.{List}
+use lib.Dec.{eqb}
 use lib.ListN.{length, getD}
 use Rattle.limits.specs.Limits.{most-columns, no-column}
-use Rattle.counting.specs.Sets.{Set, Some, _∈_}
-use Rattle.relation.specs.Relations.{row-of}
+use Rattle.counting.specs.Sets.{Set, _∈_, _⊆_, #}
+use Rattle.columns.specs.Columns.{width}
+use Rattle.relation.specs.Relations.{row-of, HasRow}
 use Rattle.listings.specs.Offered.{offered}
 use Rattle.listings.specs.Blocks.{needs, blocks-by, block-count-by}
 use Rattle.blocks.specs.declared.Blocks.{Blocks}
@@ -21,9 +23,19 @@ pub record Ordered (n : ℕ) (E : Set) (before share : ℕ → ℕ → Bool) (al
   pub via : (x y z : ℕ) → before x y ≡ true → before y z ≡ true → before x z ≡ true
   pub both : (x y : ℕ) → (share x y ≡ true) ↔ ((before x y ≡ true) × (before y x ≡ true))
 
+-- row k of the table has the columns of the set whose rows have k columns
+pub record BySize (all : Set) (rows table : List ℕ) : Type 0 where
+  pub sized : (k y : ℕ) → k ≤ most-columns → row-of table k y ≡ (all y && eqb (# width (row-of rows y)) k)
+
 -- the row of each offered column has what must come before its block
 abbrev pub NeedsShown : (n : ℕ) (E : Set) (before share : ℕ → ℕ → Bool) (rows : List ℕ) → Type 0
 NeedsShown n E before share rows = (x : ℕ) → x ∈ offered n E → (y : ℕ) → row-of rows x y ≡ needs n E before share x y
+
+-- column x has gone among those that wait for column y
+pub record Waits (y x : ℕ) (ws ws′ : List ℕ) : Type 0 where
+  pub same-length : length ws′ ≡ length ws
+  pub more : (z : ℕ) → row-of ws z ⊆ row-of ws′ z
+  pub itself : x < width → HasRow ws y → x ∈ row-of ws′ y
 
 -- the columns of a block have its number, the others what they had
 pub record Numbered (block : Set) (k : ℕ) (ns ns′ : List ℕ) : Type 0 where

@@ -1,12 +1,12 @@
 // The blocks of a model in solving order, of a model handed over or in a file; and the bytes of the answer.
 ghost use mathlib.Core.Path.{_≡_};
-ghost use mathlib.Core.Bool.{Bool, not, _&&_};
+ghost use mathlib.Core.Bool.{Bool};
 ghost use mathlib.Core.Option.{none};
 ghost use Prim.Native.Nat.{ℕ, _<_, _≤_};
 ghost use lib.ListN.{length};
 ghost use Rattle.limits.specs.Limits.{most-columns};
-ghost use Rattle.counting.specs.Sets.{Set, _∈_, _∩_, any};
-ghost use Rattle.columns.specs.Columns.{width, members, least};
+ghost use Rattle.counting.specs.Sets.{Set, _∈_};
+ghost use Rattle.columns.specs.Columns.{members};
 ghost use Rattle.columns.specs.ColumnSets.{whole, row-numbers};
 ghost use Rattle.rank.specs.ListedModel.{listed-model};
 ghost use Rattle.relation.specs.Relations.{row-of};
@@ -15,10 +15,10 @@ ghost use Rattle.format.specs.TestLaws.{Accepted};
 ghost use Rattle.host.specs.AreaCall.{PutOver};
 ghost use Rattle.blocks.specs.Answers.{BlocksRefused, BlocksAsked, BlocksCall, BlocksFileCall};
 ghost use Rattle.blocks.specs.Bytes.{blocks-length, blocks-bytes};
-ghost use Rattle.blocks.specs.Code.{Ordered, NeedsShown, Numbered, ListedBy};
+ghost use Rattle.blocks.specs.Code.{Ordered, BySize, NeedsShown, Waits, Numbered, ListedBy};
 use columns::ColumnSet;
 use columns::MOST_WORDS;
-use columns::WIDTH;
+use columns::ROW_WORDS;
 use exchange::column_reach;
 use format::judge_model;
 use format::refusals;
@@ -47,52 +47,41 @@ fn refuse(number: u32) -> Blocks
     }
 }
 
-// Of the columns in the row of x, those in whose rows x is: its block.
-fn shared(rows: &[u64], x: usize) -> ColumnSet
-    ensures { λ r. ⌜ ((y : ℕ) → members (whole r) y ≡ (row-of (now (rows .entry)) x y && row-of (now (rows .entry)) y x)) ⌝ }
+// The words of an area with a row for each size that a column's row may have.
+const SIZE_WORDS: usize = MOST_WORDS + ROW_WORDS;
+
+// The columns by the size of their rows: row k has those of the set whose rows have k columns.
+fn by_size(rows: &[u64], all: ColumnSet) -> [u64; SIZE_WORDS]
+    ensures { λ r. ⌜ BySize (members (whole all)) (now (rows .entry)) r ⌝ }
 {
-    let mut rest = columns::row(rows, x);
-    let mut set = rest;
+    let mut table = [0u64; SIZE_WORDS];
+    let mut rest = all;
     while !columns::is_empty(rest) {
-        let y = columns::first(rest);
-        if !columns::contains(columns::row(rows, y), x) {
-            set = columns::without(set, y);
-        }
-        rest = columns::without(rest, y);
+        let x = columns::first(rest);
+        let k = columns::size(columns::row(rows, x));
+        let more = columns::with(columns::row(&table, k), x);
+        columns::put_row(&mut table, k, more);
+        rest = columns::without(rest, x);
     }
-    set
+    table
 }
 
-// What must come before the block of each column, worked out once a block.
+// What must come before the block of each column. What stands in the row of x has a row of its own within that of x: of the same size
+// where it shares the block, and smaller where it does not.
 fn all_needs(rows: &[u64], all: ColumnSet) -> [u64; MOST_WORDS]
-    requires { ⌜ ((n : ℕ) × (E : Set) × (b : ℕ → ℕ → Bool) × (t : ℕ → ℕ → Bool) × Ordered n E b t (members (whole all)) (now rows)) ⌝ }
     ensures { λ r. ⌜ ((n : ℕ) (E : Set) (b t : ℕ → ℕ → Bool) → Ordered n E b t (members (whole all)) (now (rows .entry)) → NeedsShown n E b t r) ⌝ }
 {
+    let sizes = by_size(rows, all);
     let mut needs = [0u64; MOST_WORDS];
     let mut rest = all;
     while !columns::is_empty(rest) {
         let x = columns::first(rest);
-        let block = shared(rows, x);
-        let before = columns::difference(columns::row(rows, x), block);
-        relation::join(&mut needs, block, before);
-        rest = columns::difference(rest, block);
+        let row = columns::row(rows, x);
+        let block = columns::row(&sizes, columns::size(row));
+        columns::put_row(&mut needs, x, columns::difference(row, block));
+        rest = columns::without(rest, x);
     }
     needs
-}
-
-// The least column of those left whose block needs none of them, or `WIDTH`.
-fn next_column(needs: &[u64], rest: ColumnSet) -> usize
-    ensures { λ r. ⌜ r ≡ least width (λ x. members (whole rest) x && not (any width (members (whole rest) ∩ row-of (now (needs .entry)) x))) ⌝ }
-{
-    let mut left = rest;
-    while !columns::is_empty(left) {
-        let x = columns::first(left);
-        if !columns::touches(columns::row(needs, x), rest) {
-            return x;
-        }
-        left = columns::without(left, x);
-    }
-    WIDTH
 }
 
 // The columns of a block get its number.
@@ -108,20 +97,53 @@ fn number_block(numbers: &mut [u8], block: ColumnSet, k: u8)
     }
 }
 
-// The blocks, one after another: always the permitted one with the least column.
+// Column x waits for column y.
+fn wait(waiting: &mut [u64], y: usize, x: usize)
+    ensures { λ _. ⌜ Waits y x (now (waiting .entry)) (now (waiting .exit)) ⌝ }
+{
+    let more = columns::with(columns::row(waiting, y), x);
+    columns::put_row(waiting, y, more);
+}
+
+// The columns that wait for one of the set.
+fn woken(waiting: &[u64], set: ColumnSet) -> ColumnSet
+    ensures { λ r. ⌜ ((x y : ℕ) → y ∈ members (whole set) → x ∈ row-of (now (waiting .entry)) y → x ∈ members (whole r)) ⌝ }
+{
+    let mut rest = set;
+    let mut all = columns::empty();
+    while !columns::is_empty(rest) {
+        let y = columns::first(rest);
+        all = columns::union(all, columns::row(waiting, y));
+        rest = columns::without(rest, y);
+    }
+    all
+}
+
+// The blocks, one after another: always the permitted one with the least column. A column that is not permitted waits for one that
+// must come before, and is not looked at until that is listed.
 fn list(rows: &[u64], needs: &[u64], all: ColumnSet) -> Blocks
     requires { ⌜ ((n : ℕ) × (E : Set) × (b : ℕ → ℕ → Bool) × (t : ℕ → ℕ → Bool) × Ordered n E b t (members (whole all)) (now rows) × NeedsShown n E b t (now needs)) ⌝ }
     ensures { λ r. ⌜ ((n : ℕ) (E : Set) (b t : ℕ → ℕ → Bool) → Ordered n E b t (members (whole all)) (now (rows .entry)) → NeedsShown n E b t (now (needs .entry)) → ListedBy n E b t r) ⌝ }
 {
     let mut numbers = [NO_COLUMN; MOST_COLUMNS];
+    let mut waiting = [0u64; MOST_WORDS];
     let mut k: u8 = 0;
     let mut rest = all;
+    let mut awake = all;
     while !columns::is_empty(rest) {
-        let x = next_column(needs, rest);
-        let block = columns::difference(columns::row(rows, x), columns::row(needs, x));
-        number_block(&mut numbers, block, k);
-        rest = columns::difference(rest, block);
-        k += 1;
+        let x = columns::first(awake);
+        let before = columns::row(needs, x);
+        let missing = columns::intersection(rest, before);
+        if columns::is_empty(missing) {
+            let block = columns::difference(columns::row(rows, x), before);
+            number_block(&mut numbers, block, k);
+            rest = columns::difference(rest, block);
+            awake = columns::intersection(columns::union(awake, woken(&waiting, block)), rest);
+            k += 1;
+        } else {
+            wait(&mut waiting, columns::first(missing), x);
+            awake = columns::without(awake, x);
+        }
     }
     Blocks {
         refusal: 0,

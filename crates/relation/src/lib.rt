@@ -2,13 +2,15 @@
 // each has all that it leads to. A column without a row of its own leads nowhere, and nothing is put there.
 ghost use mathlib.Core.Path.{_≡_};
 ghost use mathlib.Core.Bool.{false};
-ghost use Rattle.counting.specs.Sets.{Set};
+ghost use Rattle.counting.specs.Sets.{Set, _∈_, #};
+ghost use mathlib.Core.Logic.{_≢_};
 ghost use Prim.Native.Nat.{ℕ, _<_};
 ghost use Rattle.columns.specs.Columns.{width, members};
 ghost use Rattle.columns.specs.ColumnSets.{whole};
 ghost use Rattle.relation.specs.Relations.{Joined, ClosedOver};
 ghost use Rattle.relation.specs.Closures.{Ahead, Partly, LeadsTo};
 use columns::ColumnSet;
+use limits::MOST_COLUMNS;
 
 // The columns of a set go into the rows of the columns named.
 pub fn join(rows: &mut [u64], at: ColumnSet, set: ColumnSet)
@@ -35,6 +37,18 @@ fn ahead(front: ColumnSet, found: ColumnSet, row: ColumnSet, y: usize, known: bo
     columns::without(columns::union(front, new), y)
 }
 
+// A column of the set, and one that is done where there is such a one: it spares most others.
+fn pick_done(set: ColumnSet, done: ColumnSet) -> usize
+    requires { ⌜ # width (members (whole set)) ≢ 0 ⌝ }
+    ensures { λ r. ⌜ (r < width) × (r ∈ members (whole set)) ⌝ }
+{
+    let both = columns::intersection(set, done);
+    if columns::is_empty(both) {
+        return columns::first(set);
+    }
+    columns::first(both)
+}
+
 // The column and all that its row leads to.
 fn reached(rows: &[u64], done: ColumnSet, x: usize) -> ColumnSet
     requires { ⌜ (x < width) × (members (whole done) x ≡ false) ⌝ }
@@ -44,12 +58,28 @@ fn reached(rows: &[u64], done: ColumnSet, x: usize) -> ColumnSet
     let mut found = columns::with(direct, x);
     let mut front = columns::without(direct, x);
     while !columns::is_empty(front) {
-        let y = columns::first(front);
+        let y = pick_done(front, done);
         let row = columns::row(rows, y);
         front = ahead(front, found, row, y, columns::contains(done, y));
         found = columns::union(found, row);
     }
     found
+}
+
+// From one column to the next in which rows are closed: about 0.618 of all, so that those that are done lie spread. Where columns lead to
+// one another in the order of their numbers, up or down, one that is done is then soon met.
+const STEP: usize = 59;
+
+// A column of the set.
+fn pick_spread(set: ColumnSet) -> usize
+    requires { ⌜ # width (members (whole set)) ≢ 0 ⌝ }
+    ensures { λ r. ⌜ (r < width) × (r ∈ members (whole set)) ⌝ }
+{
+    let x = columns::size(set) * STEP % MOST_COLUMNS;
+    if columns::contains(set, x) {
+        return x;
+    }
+    columns::first(set)
 }
 
 // Each row of the columns named gets its own column and all that it leads to.
@@ -59,7 +89,7 @@ pub fn close(rows: &mut [u64], over: ColumnSet)
     let mut rest = over;
     let mut done = columns::empty();
     while !columns::is_empty(rest) {
-        let x = columns::first(rest);
+        let x = pick_spread(rest);
         let all = reached(rows, done, x);
         columns::put_row(rows, x, all);
         done = columns::with(done, x);

@@ -42,9 +42,7 @@ slice-aggregate-all-needs : tie.Need-slice-aggregate-all-needs
 slice-aggregate-all-needs c = search needs
 
 all-needs-requires : tie.Need-all-needs-requires
-all-needs-requires c κs =
-    let r = c .before .before in
-    (asked r .n, asked r .E, before (asked r), share (asked r), ordered r)
+all-needs-requires c κs = search needs
 
 slice-aggregate-list : tie.Need-slice-aggregate-list
 slice-aggregate-list c = search needs

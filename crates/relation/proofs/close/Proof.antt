@@ -9,7 +9,7 @@ use Rattle.counting.specs.Sets.{_∈_, #}
 use Rattle.columns.specs.Columns.{width, members}
 use Rattle.columns.specs.ColumnSets.{whole}
 use Rattle.columns.specs.Words.Sets.{columns-below, empty-none}
-use Rattle.columns.specs.Words.SetLaws.{removed-less, least-there, nothing-in}
+use Rattle.columns.specs.Words.SetLaws.{removed-less, nothing-in}
 use Rattle.relation.specs.Relations.{row-of}
 use Rattle.relation.proofs.TurnLaws.{Closing, closing-start, closing-more, closing-done}
 use borrow.Author.Needs.{needs}
@@ -30,21 +30,18 @@ written c = c .before .before .before .before
 abbrev row-found : tie.After-without Inv-loop μ-loop → tie.After-reached Inv-loop μ-loop
 row-found c = written c .before .before
 
-abbrev chosen : tie.After-without Inv-loop μ-loop → tie.After-first Inv-loop μ-loop
+abbrev chosen : tie.After-without Inv-loop μ-loop → tie.After-pick-spread Inv-loop μ-loop
 chosen c = row-found c .before .before
 
-abbrev turn : tie.After-first Inv-loop μ-loop → tie.At-loop Inv-loop μ-loop
+abbrev turn : tie.After-pick-spread Inv-loop μ-loop → tie.At-loop Inv-loop μ-loop
 turn f = f .before .before .before
 
 abbrev begun : tie.At-loop Inv-loop μ-loop → tie.Start Inv-loop μ-loop
 begun k = k .before .before .before
 
--- the column of a turn is one of those that are left
-there : (f : tie.After-first Inv-loop μ-loop) → (f .first .result < width) × (f .first .result ∈ members (whole (turn f .loop .rest)))
-there f =
-    let some : # width (members (whole (turn f .loop .rest))) ≢ 0 = eqb-false _ 0 (sym (f .before .before .is-empty .ensures) ∙ not-in _ (f .before .if1 .taken)) in
-    let t = least-there width _ some in
-    (rw (sym (f .first .ensures)) at t .0, rw (sym (f .first .ensures)) at t .1)
+-- a column is left
+some : (c : tie.Then1 Inv-loop μ-loop) → # width (members (whole (c .before .before .loop .rest))) ≢ 0
+some c = eqb-false _ 0 (sym (c .before .is-empty .ensures) ∙ not-in _ (c .if1 .taken))
 
 empty-requires : tie.Need-empty-requires Inv-loop μ-loop
 empty-requires c κs = search needs
@@ -55,14 +52,14 @@ loop-holds c = closing-start (members (whole (c .before .before .args .over))) (
 is-empty-requires : tie.Need-is-empty-requires Inv-loop μ-loop
 is-empty-requires c κs = search needs
 
-first-requires : tie.Need-first-requires Inv-loop μ-loop
-first-requires c κs = search needs
+pick-spread-requires : tie.Need-pick-spread-requires Inv-loop μ-loop
+pick-spread-requires c κs = some c
 
 reached-requires : tie.Need-reached-requires Inv-loop μ-loop
 reached-requires c κs =
     let f = c .before in
-    let t = there f in
-    (t .0, turn f .loop .inv .apart (f .first .result) (t .1))
+    let t = f .pick-spread .ensures in
+    (t .0, turn f .loop .inv .apart (f .pick-spread .result) (t .1))
 
 put-row-requires : tie.Need-put-row-requires Inv-loop μ-loop
 put-row-requires c κs = search needs
@@ -74,17 +71,17 @@ without-requires : tie.Need-without-requires Inv-loop μ-loop
 without-requires c κs = search needs
 
 loop-less : tie.Need-loop-less Inv-loop μ-loop
-loop-less c = let w = there (chosen c) in rw (c .without .ensures) (removed-less width _ _ (w .0) (w .1))
+loop-less c = let w = chosen c .pick-spread .ensures in rw (c .without .ensures) (removed-less width _ _ (w .0) (w .1))
 
 loop-again : tie.Need-loop-again Inv-loop μ-loop
 loop-again c =
     let f = chosen c in
     let l = turn f .loop in
     let a = begun (turn f) .args in
-    let t = there f in
+    let t = f .pick-spread .ensures in
     let r = row-found c in
     rw (c .without .ensures, c .before .with .ensures, written c .put-row .ensures)
-    (closing-more (members (whole (a .over))) (members (whole (l .rest))) (members (whole (l .done))) (a .rows .now) (l .rows) (l .inv) (f .first .result) (t .0) (t .1) (whole (r .reached .result))
+    (closing-more (members (whole (a .over))) (members (whole (l .rest))) (members (whole (l .done))) (a .rows .now) (l .rows) (l .inv) (f .pick-spread .result) (t .0) (t .1) (whole (r .reached .result))
     (r .reached .ensures (row-of (a .rows .now)) (l .inv .partly)) (λ y e. columns-below (r .reached .result) y (search (needs, r .reached .ok)) e))
 
 same-length : tie.Need-same-length Inv-loop μ-loop
@@ -107,7 +104,7 @@ close-spec =
     empty-requires
     loop-holds
     is-empty-requires
-    first-requires
+    pick-spread-requires
     reached-requires
     put-row-requires
     with-requires

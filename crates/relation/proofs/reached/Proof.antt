@@ -9,7 +9,7 @@ use Rattle.counting.specs.Sets.{Set, _∈_, _⊆_, #}
 use Rattle.columns.specs.Columns.{width, members}
 use Rattle.columns.specs.ColumnSets.{whole, Fits}
 use Rattle.columns.specs.Words.Sets.{columns-below}
-use Rattle.columns.specs.Words.SetLaws.{least-there, nothing-in}
+use Rattle.columns.specs.Words.SetLaws.{nothing-in}
 use Rattle.relation.specs.Relations.{row-of}
 use Rattle.relation.specs.Closures.{Partly}
 use Rattle.relation.proofs.ReachLaws.{Reaching, unread, reaching-start, reaching-done, reaching-more, inside-start, inside-more, unread-less}
@@ -25,21 +25,18 @@ abbrev μ-loop : tie.MeasureT-loop
 μ-loop rows done x found₀ front₀ found front = # width (unread (members (whole found)) (members (whole front)))
 
 -- the places of a turn: where its column is chosen, where its row is read, and where it begins; and where the call did
-abbrev chosen : tie.After-row2 Inv-loop μ-loop → tie.After-first Inv-loop μ-loop
+abbrev chosen : tie.After-row2 Inv-loop μ-loop → tie.After-pick-done Inv-loop μ-loop
 chosen c = c .before
 
-abbrev turn : tie.After-first Inv-loop μ-loop → tie.At-loop Inv-loop μ-loop
+abbrev turn : tie.After-pick-done Inv-loop μ-loop → tie.At-loop Inv-loop μ-loop
 turn f = f .before .before .before
 
 abbrev begun : tie.At-loop Inv-loop μ-loop → tie.Start Inv-loop μ-loop
 begun k = k .before .before .before .before .before
 
--- the column of a turn is one of the front
-there : (f : tie.After-first Inv-loop μ-loop) → (f .first .result < width) × (f .first .result ∈ members (whole (turn f .loop .front)))
-there f =
-    let some : # width (members (whole (turn f .loop .front))) ≢ 0 = eqb-false _ 0 (sym (f .before .before .is-empty .ensures) ∙ not-in _ (f .before .if1 .taken)) in
-    let t = least-there width _ some in
-    (rw (sym (f .first .ensures)) at t .0, rw (sym (f .first .ensures)) at t .1)
+-- the front of a turn is not empty
+some : (c : tie.Then1 Inv-loop μ-loop) → # width (members (whole (c .before .before .loop .front))) ≢ 0
+some c = eqb-false _ 0 (sym (c .before .is-empty .ensures) ∙ not-in _ (c .if1 .taken))
 
 row-requires : tie.Need-row-requires Inv-loop μ-loop
 row-requires c κs = search needs
@@ -63,8 +60,8 @@ loop-holds c =
 is-empty-requires : tie.Need-is-empty-requires Inv-loop μ-loop
 is-empty-requires c κs = search needs
 
-first-requires : tie.Need-first-requires Inv-loop μ-loop
-first-requires c κs = search needs
+pick-done-requires : tie.Need-pick-done-requires Inv-loop μ-loop
+pick-done-requires c κs = some c
 
 row-requires-2 : tie.Need-row-requires-2 Inv-loop μ-loop
 row-requires-2 c κs = search needs
@@ -84,9 +81,9 @@ loop-less c =
     let r = h .before .before in
     let f = chosen r in
     let l = turn f .loop in
-    let t = there f in
+    let t = f .pick-done .ensures in
     rw (c .union .ensures)
-    (unread-less (members (whole (l .found))) (members (whole (l .front))) (members (whole (r .row2 .result))) (members (whole (h .ahead .result))) (f .first .result) (h .before .contains .result)
+    (unread-less (members (whole (l .found))) (members (whole (l .front))) (members (whole (r .row2 .result))) (members (whole (h .ahead .result))) (f .pick-done .result) (h .before .contains .result)
     (t .0) (t .1) (l .inv .1) (h .ahead .ensures))
 
 loop-again : tie.Need-loop-again Inv-loop μ-loop
@@ -95,8 +92,8 @@ loop-again c =
     let r = h .before .before in
     let f = chosen r in
     let l = turn f .loop in
-    let t = there f in
-    let y = f .first .result in
+    let t = f .pick-done .ensures in
+    let y = f .pick-done .result in
     let row = members (whole (r .row2 .result)) in
     let found = members (whole (l .found)) in
     let front = members (whole (l .front)) in
@@ -131,7 +128,7 @@ reached-spec =
     without-requires
     loop-holds
     is-empty-requires
-    first-requires
+    pick-done-requires
     row-requires-2
     contains-requires
     ahead-requires
