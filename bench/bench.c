@@ -1,10 +1,12 @@
 /* Times the library's layered call, the same in plain Rust, and FLINT's ranks, on the same models in one process; then the longest
  * file against that of the same model unnumbered; then the calls about a column against the layered call and FLINT's solving; then
- * the call about a claim against the layered call and FLINT's ranks.
+ * the call about a claim against the layered call and FLINT's ranks; then the call about blocks against the layered call and against
+ * the reference's blocks, in plain C.
  * Prints a line for each kind of model: its table, its name, then microseconds a call of each method, parted by '|'. */
 #define _POSIX_C_SOURCE 200809L
 #include "harness.h"
 #include "model.h"
+#include "parts.h"
 #include "wundreska.h"
 
 #include <flint/nmod_mat.h>
@@ -62,13 +64,15 @@ static Model many_parameters(void)
 
 /* Parameter row r has the columns r - 1 and r. Each column but the last takes the later of its rows; the last has one row only, and
  * gets it when all others have moved. */
-static Model chain(void)
+static Model chain_of(size_t n)
 {
-    Model m = {.p = 1021, .n = WORD, .a = 0, .b = WORD};
+    Model m = {.p = 1021, .n = n, .a = 0, .b = n};
     for (size_t r = 0; r < m.b; r++)
         m.parameters[r] = just(r) | (r ? just(r - 1) : 0);
     return m;
 }
+
+static Model chain(void) { return chain_of(WORD); }
 
 static Model dense_1021(void) { return dense(1021, WORD, WORD); }
 static Model dense_largest(void) { return dense(WUNDRESKA_PRIME_MAX, WORD, WORD); }
@@ -98,6 +102,8 @@ typedef struct {
     File numbered, unnumbered; /* the longest file, and that of its model without numbers */
     uint8_t answer[WUNDRESKA_REASON_SIZE]; /* the longest that there is */
     slong rank;
+    Assignment assignment; /* the reference's own, */
+    Blocks blocks;         /* and its blocks */
 } Work;
 
 typedef void Method(Work *work);
@@ -471,6 +477,126 @@ static void measure_claims(const char *kind, Model (*make)(void))
     clear_claims(works);
 }
 
+/* ---- blocks, against the layered call on the same model and the reference's own search ---- */
+
+static Model blocks_constants(size_t n) { return dense(1021, n, 0); }
+static Model blocks_halves(size_t n) { return dense_rows(1021, n, n / 2, n / 2); }
+static Model blocks_dense(size_t n) { return dense(1021, n, n); }
+static Model blocks_plant(size_t n) { return balances(n, n, n, PARAMETERS_A_ROW); }
+
+/* As many rows in all as columns, so that blocks are neither few nor small alone. */
+static Model blocks_square_plant(size_t n) { return balances(n, n / 2, n / 2, PARAMETERS_A_ROW); }
+
+/* Row r has the columns r and r + 1. Each column finds its own row free, and the last one is the first block. */
+static Model blocks_falling(size_t n)
+{
+    Model m = {.p = 1021, .n = n, .a = 0, .b = n};
+    for (size_t r = 0; r < n; r++)
+        m.parameters[r] = just(r) | (r + 1 < n ? just(r + 1) : 0);
+    return m;
+}
+
+/* The rows of a chain, the last one first, so that here too each column finds its own row free; the first one is the first block. */
+static Model blocks_rising(size_t n)
+{
+    Model m = chain_of(n), turned = m;
+    for (size_t r = 0; r < n; r++)
+        turned.parameters[r] = m.parameters[n - 1 - r];
+    return turned;
+}
+
+static Model blocks_diagonal(size_t n)
+{
+    Model m = {.p = 1021, .n = n, .a = 0, .b = n};
+    for (size_t r = 0; r < n; r++)
+        m.parameters[r] = just(r);
+    return m;
+}
+
+/* All columns from a row's own on, or up to it. */
+static Model triangle(size_t n, int upper, int constant)
+{
+    Model m = {.p = 1021, .n = n, .a = constant ? n : 0, .b = constant ? 0 : n};
+    for (size_t r = 0; r < n; r++)
+        for (size_t c = upper ? r : 0; c < (upper ? n : r + 1); c++) {
+            if (constant)
+                m.constants[r * n + c] = 1 + draw(m.p - 1);
+            else
+                m.parameters[r] |= just(c);
+        }
+    return m;
+}
+
+static Model blocks_upper_constants(size_t n) { return triangle(n, 1, 1); }
+static Model blocks_lower_constants(size_t n) { return triangle(n, 0, 1); }
+static Model blocks_upper(size_t n) { return triangle(n, 1, 0); }
+static Model blocks_lower(size_t n) { return triangle(n, 0, 0); }
+
+static const struct {
+    const char *kind;
+    Model (*make)(size_t n);
+} cut[] = {
+    {"dense", blocks_constants},
+    {"dense", blocks_halves},
+    {"dense", blocks_dense},
+    {"plant-like", blocks_plant},
+    {"plant-like", blocks_square_plant},
+    {"chain", chain_of},
+    {"falling chain", blocks_falling},
+    {"rising chain", blocks_rising},
+    {"diagonal", blocks_diagonal},
+    {"upper triangle", blocks_upper},
+    {"lower triangle", blocks_lower},
+    {"upper triangle", blocks_upper_constants},
+    {"lower triangle", blocks_lower_constants},
+};
+
+static void blocks(Work *w)
+{
+    const Model *m = &w->model;
+    memset(w->answer, 0, WUNDRESKA_BLOCKS_SIZE);
+    if (harness_blocks(m->p, m->n, m->a, m->b, m->constants, m->a * m->n, w->rows, m->b * ROW_WORDS, false, NULL, 0, w->answer,
+                       WUNDRESKA_BLOCKS_SIZE))
+        abort();
+}
+
+static void reference_parts(Work *w)
+{
+    Graph graph = graph_by(&w->assignment);
+    w->blocks = blocks_of_graph(&graph);
+}
+
+static void reference_blocks(Work *w)
+{
+    find_assignment(&w->model, &w->assignment);
+    reference_parts(w);
+}
+
+static void check_blocks(Work *w)
+{
+    reference_blocks(w);
+    blocks(w);
+    Blocks given = blocks_in(w->answer);
+    if (!same_blocks(&given, &w->blocks)) {
+        fprintf(stderr, "the library and the reference differ about blocks\n");
+        exit(1);
+    }
+}
+
+static void measure_blocks(const char *kind, Model (*make)(size_t n), size_t n)
+{
+    static Work works[MODELS];
+    static Method *const methods[] = {blocks, library, reference_blocks, reference_parts};
+    double t[4];
+    for (int k = 0; k < MODELS; k++) {
+        prepare(&works[k], make(n));
+        check_blocks(&works[k]);
+    }
+    time_all(methods, 4, works, t);
+    print_times("blocks", kind, &works[0].model, t, 4);
+    clear_works(works);
+}
+
 int main(void)
 {
     measure("dense", dense_1021);
@@ -497,5 +623,9 @@ int main(void)
     measure_claims("dense", dense_most);
     measure_claims("plant-like", plant_like);
     measure_claims("plant-like", plant_like_most);
+    for (size_t i = 0; i < sizeof cut / sizeof *cut; i++) {
+        measure_blocks(cut[i].kind, cut[i].make, WORD);
+        measure_blocks(cut[i].kind, cut[i].make, MOST);
+    }
     return 0;
 }

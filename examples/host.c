@@ -4,9 +4,11 @@
  *        gcc examples/host.c -Iinclude target/staticlib/libsolvability.a -o host
  * Run:   ./host models/s2.model
  *        ./host --mixed models/s9.model
+ *        ./host --blocks models/s2.model
  *        ./host --partner models/s2.model
  *
- * With --partner the search is another program's, and the host starts on what it claims, where that is accepted.
+ * With --blocks the solver starts on one block after another, in place of the whole model. With --partner the search is
+ * another program's, and the host starts on what it claims, where that is accepted.
  *
  * Exit status: 0 the solver started, 1 it did not, 2 the file could not be read.
  */
@@ -37,7 +39,7 @@ static const char *fault(uint32_t refusal)
 /* Stands for the host's own solver. */
 static void start_solver(unsigned unknowns)
 {
-    printf("solver starts on %u unknowns\n", unknowns);
+    printf("solver starts on %u unknown%s\n", unknowns, unknowns == 1 ? "" : "s");
 }
 
 /* How many bytes of the file were read, or -1. One byte above the limit is enough to have a longer file refused. */
@@ -154,6 +156,40 @@ static int treat_mixed(const uint8_t *file, size_t length)
     return act(answer[WUNDRESKA_MIXED_VERDICT], answer[WUNDRESKA_MIXED_RANK], answer + WUNDRESKA_MIXED_SHORT, file[9]);
 }
 
+/* Prints the columns of a block; how many these are. */
+static unsigned print_block(const uint8_t *answer, int number)
+{
+    unsigned unknowns = 0;
+    int c;
+    printf("block %d: columns", number);
+    for (c = 0; c < WUNDRESKA_COLUMNS_MAX; c++)
+        if (answer[WUNDRESKA_BLOCKS + c] == number) {
+            printf(" %d", c);
+            unknowns++;
+        }
+    printf("\n");
+    return unknowns;
+}
+
+/* A determined model is solved block by block, in the order of their numbers. */
+static int treat_blocks(const uint8_t *file, size_t length)
+{
+    uint8_t layered[WUNDRESKA_ANSWER_SIZE], answer[WUNDRESKA_BLOCKS_SIZE];
+    uint32_t refusal = wundreska_check(file, length, layered, sizeof layered);
+    int determined, number;
+    if (refusal == WUNDRESKA_ACCEPTED)
+        refusal = wundreska_blocks(file, length, answer, sizeof answer);
+    if (refusal != WUNDRESKA_ACCEPTED)
+        return complain(refusal);
+    determined = layered[WUNDRESKA_VERDICT] == WUNDRESKA_DETERMINED;
+    for (number = 0; number < answer[WUNDRESKA_BLOCK_COUNT]; number++) {
+        unsigned unknowns = print_block(answer, number);
+        if (determined)
+            start_solver(unknowns);
+    }
+    return determined || act(layered[WUNDRESKA_VERDICT], layered[WUNDRESKA_RANK], layered + WUNDRESKA_SHORT, 0);
+}
+
 /* Stands for the partner's own search: the answer of wundreska_check, laid out as a claim. Of a refused model nothing is found. */
 static void search_elsewhere(const uint8_t *file, size_t length, uint8_t *claim)
 {
@@ -197,10 +233,11 @@ static int treat_claimed(const uint8_t *file, size_t length)
 int main(int count, char **words)
 {
     static uint8_t file[WUNDRESKA_FILE_MAX + 1];
-    int mixed = count == 3 && strcmp(words[1], "--mixed") == 0, claimed = count == 3 && strcmp(words[1], "--partner") == 0;
+    const char *option = count == 3 ? words[1] : "";
+    int mixed = strcmp(option, "--mixed") == 0, blocks = strcmp(option, "--blocks") == 0, claimed = strcmp(option, "--partner") == 0;
     long length;
-    if (count != 2 && !mixed && !claimed) {
-        fprintf(stderr, "usage: host [--mixed | --partner] MODEL\n");
+    if (count != 2 && !mixed && !blocks && !claimed) {
+        fprintf(stderr, "usage: host [--mixed | --blocks | --partner] MODEL\n");
         return 2;
     }
     length = read_file(words[count - 1], file, sizeof file);
@@ -210,6 +247,8 @@ int main(int count, char **words)
     }
     if (mixed)
         return treat_mixed(file, (size_t)length) ? 0 : 1;
+    if (blocks)
+        return treat_blocks(file, (size_t)length) ? 0 : 1;
     if (claimed)
         return treat_claimed(file, (size_t)length) ? 0 : 1;
     return treat_layered(file, (size_t)length) ? 0 : 1;

@@ -3,8 +3,9 @@
  * A call judges a model file and, if it is accepted, answers a question about the model. wundreska_check for a layered model and
  * wundreska_mixed for a mixed one say whether it determines all its unknowns with no equation left over: start a solver on
  * WUNDRESKA_DETERMINED alone. wundreska_reason says what blocks a column that wundreska_check does not place, and
- * wundreska_multipliers how the constants of one column depend on those of others. wundreska_accepts checks a rank that another
- * program found, by the assignment and the column set that come with it.
+ * wundreska_multipliers how the constants of one column depend on those of others. wundreska_blocks cuts the model into blocks, which
+ * those who solve a determined model can solve one after another. wundreska_accepts checks a rank that another program found, by the
+ * assignment and the column set that come with it.
  *
  * Words. A model has a prime p, n columns (the unknowns), a constant rows and b parameter rows. Rows and columns count
  * from 0. A constant is a whole number from 0 to p - 1 (minus one is p - 1); a parameter row only says at which columns it
@@ -61,9 +62,9 @@ extern "C" {
 #endif
 
 /* The version of this header and of the archive that it comes with. */
-#define WUNDRESKA_VERSION "3.4.0"
+#define WUNDRESKA_VERSION "3.5.0"
 #define WUNDRESKA_VERSION_MAJOR 3
-#define WUNDRESKA_VERSION_MINOR 4
+#define WUNDRESKA_VERSION_MINOR 5
 #define WUNDRESKA_VERSION_PATCH 0
 
 /* The limits: p is a prime from 2 to WUNDRESKA_PRIME_MAX, n is 1 to WUNDRESKA_COLUMNS_MAX, a and b are 0 to WUNDRESKA_ROWS_MAX
@@ -184,6 +185,28 @@ uint32_t wundreska_multipliers(const uint8_t *file, size_t file_len, const uint8
  * - a named column whose constants are all 0, and that has no parameter, is the whole reason. Multipliers are given, and all are
  *   0. */
 uint32_t wundreska_reason(const uint8_t *file, size_t file_len, size_t column, uint8_t *answer, size_t answer_len);
+
+/* The answer about blocks: where each part starts, and the size of all. */
+#define WUNDRESKA_BLOCK_COUNT 0 /* 1 byte, 1 to n: how many blocks there are */
+#define WUNDRESKA_BLOCKS (WUNDRESKA_BLOCK_COUNT + 1) /* for each column, one byte: the number of its block, from 0 on, or */
+#define WUNDRESKA_NO_BLOCK 255 /* for every column from n on */
+#define WUNDRESKA_BLOCKS_SIZE (WUNDRESKA_BLOCKS + WUNDRESKA_COLUMNS_MAX) /* 97 */
+
+/* The question about blocks: which unknowns are to be solved together, and in which order. It depends on the tight sets: the column sets
+ * K for which the rank of the constant columns in K, plus the parameter rows with a parameter in K, plus the columns outside K, make
+ * the rank of wundreska_check. The short set is the smallest of them. Of an accepted model:
+ * - each column below n is in one block, and each block has a column;
+ * - two columns share a block exactly if every tight set has both or neither;
+ * - a block must come before another one if every tight set that has it has the other one, too. The blocks are numbered so that this
+ *   holds: the next number always goes to the block with the smallest column, among the blocks for which every block that must come
+ *   before has its number. Nothing is left open;
+ * - the columns that no tight set has, where there are any, are the first block; the short set, unless it is empty, is the last one;
+ * - any block but the first, together with all later ones, makes a tight set. So a block that is neither the first nor the last has as
+ *   many equations of its own as columns: the parameter rows that touch it and no later block, and as many constant equations as its
+ *   columns add to the rank of the constants of the later ones. In a determined model this holds of every block.
+ * So a host that starts on a determined model can take the blocks one after another, in the order of their numbers. The refusals are
+ * those of wundreska_check. */
+uint32_t wundreska_blocks(const uint8_t *file, size_t file_len, uint8_t *answer, size_t answer_len);
 
 /* A claim, which is a rank, an assignment and a column set: where each part starts, and the size of all. */
 #define WUNDRESKA_CLAIM_RANK 0 /* 1 byte */

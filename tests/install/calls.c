@@ -1,6 +1,6 @@
 /* Tries what the header says of every call, beside its answer: a NULL pointer at length 0, the stack it takes, several threads at
- * once on one file; and that a claim which is not accepted is no refusal. The last line is 'N passed, M failed'; the exit status is
- * 1 where any failed. */
+ * once on one file; that a claim which is not accepted is no refusal; and that the blocks behind a cut make a set which a claim can
+ * have. The last line is 'N passed, M failed'; the exit status is 1 where any failed. */
 #include <pthread.h>
 #include <stdio.h>
 #include <stdlib.h>
@@ -54,7 +54,7 @@ static uint32_t no_claim(const uint8_t *file, size_t file_len, uint8_t *answer, 
 }
 
 /* The largest models that a call takes with as many rows as columns. A reason is asked for in one with a row less than columns in all,
- * and in one without parameters, where multipliers are given. */
+ * and in one without parameters, where multipliers are given; blocks also where rows are in all as many as columns. */
 #define HALF (WUNDRESKA_COLUMNS_MAX / 2)
 static const Entry entries[] = {
     {"wundreska_check", wundreska_check, WUNDRESKA_ANSWER_SIZE, WUNDRESKA_COLUMNS_MAX, WUNDRESKA_ROWS_MAX, WUNDRESKA_ROWS_MAX},
@@ -62,6 +62,8 @@ static const Entry entries[] = {
     {"wundreska_multipliers", last_column, WUNDRESKA_MULTIPLIERS_SIZE, WUNDRESKA_COLUMNS_MAX, WUNDRESKA_ROWS_MAX, WUNDRESKA_ROWS_MAX},
     {"wundreska_reason", last_unplaced, WUNDRESKA_REASON_SIZE, WUNDRESKA_COLUMNS_MAX, HALF, HALF - 1},
     {"wundreska_reason with multipliers", last_unplaced, WUNDRESKA_REASON_SIZE, WUNDRESKA_COLUMNS_MAX, WUNDRESKA_COLUMNS_MAX - 1, 0},
+    {"wundreska_blocks", wundreska_blocks, WUNDRESKA_BLOCKS_SIZE, WUNDRESKA_COLUMNS_MAX, WUNDRESKA_ROWS_MAX, WUNDRESKA_ROWS_MAX},
+    {"wundreska_blocks, square", wundreska_blocks, WUNDRESKA_BLOCKS_SIZE, WUNDRESKA_COLUMNS_MAX, HALF, HALF},
     {"wundreska_accepts", our_answer, WUNDRESKA_ACCEPTS_SIZE, WUNDRESKA_COLUMNS_MAX, WUNDRESKA_ROWS_MAX, WUNDRESKA_ROWS_MAX},
 };
 enum { ENTRIES = sizeof entries / sizeof *entries, MODELS = 12, NUMBERED = MODELS, THREADS = 8, TURNS = 200, PAINT = 0xA5 };
@@ -262,6 +264,53 @@ static void try_claims(const Entry *entry)
     }
 }
 
+/* Whether the columns below n have numbers below the count, each of these is used, and the other columns have none. */
+static int numbers_all(const uint8_t *answer, unsigned columns)
+{
+    uint8_t used[256] = {0};
+    unsigned c, number;
+    int due = answer[WUNDRESKA_BLOCK_COUNT] >= 1 && answer[WUNDRESKA_BLOCK_COUNT] <= columns;
+    for (c = 0; c < WUNDRESKA_COLUMNS_MAX; c++) {
+        number = answer[WUNDRESKA_BLOCKS + c];
+        due = due && (c < columns ? number < answer[WUNDRESKA_BLOCK_COUNT] : number == WUNDRESKA_NO_BLOCK);
+        used[number] = 1;
+    }
+    for (number = 0; number < answer[WUNDRESKA_BLOCK_COUNT]; number++)
+        due = due && used[number];
+    return due;
+}
+
+/* Puts the columns of the blocks from one on into the claim. */
+static void claim_blocks_from(const uint8_t *answer, unsigned number, unsigned columns)
+{
+    unsigned c;
+    memset(claim + WUNDRESKA_CLAIM_SET, 0, WUNDRESKA_SET_SIZE);
+    for (c = 0; c < columns; c++)
+        if (answer[WUNDRESKA_BLOCKS + c] >= number)
+            claim[WUNDRESKA_CLAIM_SET + c / 8] |= (uint8_t)(1 << c % 8);
+}
+
+static void try_blocks(const Entry *entry)
+{
+    uint8_t answer[WUNDRESKA_BLOCKS_SIZE], accepts[WUNDRESKA_ACCEPTS_SIZE];
+    unsigned number;
+    int nth;
+    for (nth = 0; nth < NUMBERED + MODELS; nth++) {
+        make_nth_model(nth, entry);
+        expect(wundreska_blocks(file, file_len, answer, sizeof answer) == WUNDRESKA_ACCEPTED && numbers_all(answer, entry->columns),
+               "every column below n has a block, and every block a column", "wundreska_blocks");
+        for (number = 1; number < answer[WUNDRESKA_BLOCK_COUNT]; number++) {
+            claim_blocks_from(answer, number, entry->columns);
+            expect(our_answer(file, file_len, accepts, sizeof accepts) == WUNDRESKA_ACCEPTED && accepts[WUNDRESKA_CLAIM_HOLDS] == 1,
+                   "the blocks behind a cut are accepted as a claim's set", "wundreska_blocks");
+        }
+        memset(answer, 2, sizeof answer);
+        expect(wundreska_blocks(file, file_len - 1, answer, sizeof answer) == WUNDRESKA_TRUNCATED && answer[0] == 2 &&
+                   memcmp(answer, answer + 1, sizeof answer - 1) == 0,
+               "a refused file leaves the answer as it was", "wundreska_blocks");
+    }
+}
+
 static void try_stack(const Entry *entry)
 {
     size_t most = 0;
@@ -306,8 +355,10 @@ int main(void)
         try_stack(&entries[k]);
         try_threads(&entries[k]);
     }
-    for (k = 0; k < ENTRIES; k++)
+    for (k = 0; k < ENTRIES; k++) {
         try_claims(&entries[k]);
+        try_blocks(&entries[k]);
+    }
     printf("%d passed, %d failed\n", passed, failed);
     return failed != 0;
 }

@@ -31,6 +31,8 @@ static int compare_all(const char *models)
     compare_placed();
     compare_claims(models);
     compare_sent();
+    compare_blocks(models);
+    compare_unlisted();
     return end_tally() > 0;
 }
 

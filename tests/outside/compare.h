@@ -40,6 +40,9 @@ typedef struct {
 
 extern const Question layered_question, mixed_question;
 
+/* Of a question that refuses no sound model. */
+uint32_t judge_nothing(const Model *model);
+
 /* About the call on any bytes, with an answer area of any length; the model is that of the file. */
 const char *file_complaint(const Question *question, const uint8_t *file, size_t length, size_t answer_length, Model *model);
 
@@ -109,5 +112,7 @@ void compare_reasons(const char *folder); /* compare_reasons.c */
 void compare_placed(void); /* compare_placed.c */
 void compare_claims(const char *folder); /* compare_claims.c */
 void compare_sent(void); /* compare_sent.c */
+void compare_blocks(const char *folder); /* compare_blocks.c */
+void compare_unlisted(void); /* compare_unlisted.c */
 
 #endif

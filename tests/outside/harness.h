@@ -45,6 +45,9 @@ uint32_t harness_accepts(uint32_t p, size_t n, size_t a, size_t b, const uint16_
                          const uint64_t *parameters, size_t parameters_len, bool numbered, const uint16_t *numbers,
                          size_t numbers_len, const uint8_t *claim, size_t claim_len, uint8_t *out, size_t out_len);
 
+/* The bytes of wundreska_blocks' answer. */
+ModelCall harness_blocks;
+
 /* The model of a file, written to the front of areas laid out as above; the numbers are written where it is numbered, 0 where no
  * parameter stands. It returns 0 or the refusal: the file's, then 8 for the areas. */
 uint32_t harness_read(const uint8_t *file, size_t file_len, uint16_t *constants, size_t constants_len, uint64_t *parameters,

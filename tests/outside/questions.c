@@ -5,7 +5,7 @@
 
 #include <string.h>
 
-static uint32_t judge_nothing(const Model *m)
+uint32_t judge_nothing(const Model *m)
 {
     (void)m;
     return 0;

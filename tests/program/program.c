@@ -1,9 +1,10 @@
 /* Runs a program that reports on a model file, on some thousands of inputs, and holds what it writes against the reference.
  *
- * Run: program layered|mixed|reason PROGRAM MODELS [FILES], where MODELS is the folder of stored models. Prints the cases of each
+ * Run: program layered|mixed|reason|blocks PROGRAM MODELS [FILES], where MODELS is the folder of stored models. Prints the cases of each
  * category and, as its last line, 'N passed, M failed' over all cases. What the rules fix is compared to the byte; where they leave
  * a choice, the one shown is tested. Every input goes to FILES too, with the number of its refusal as a file. */
 #include "child.h"
+#include "doubled.h"
 #include "numbers.h"
 #include "tally.h"
 #include "text.h"
@@ -76,10 +77,25 @@ static const char *reason_text(const Model *m, const char *text, char *due)
     return NULL;
 }
 
-enum { LAYERED_REPORT, MIXED_REPORT, REASON_REPORT };
+/* How often an answer about blocks had one block, several, and as many as columns, of more than one. */
+static unsigned long with_one, with_several, with_each;
+
+static const char *blocks_text(const Model *m, const char *text, char *due)
+{
+    (void)text;
+    Brought brought = brought_by_doubling(m);
+    Blocks blocks = list_blocks(&brought);
+    size_t rank = layered_truth(m).rank;
+    *(blocks.count == 1 ? &with_one : blocks.count < m->n ? &with_several : &with_each) += 1;
+    write_blocks(&blocks, verdict_on(rank, m->n, m->a + m->b), rank, due);
+    return NULL;
+}
+
+enum { LAYERED_REPORT, MIXED_REPORT, REASON_REPORT, BLOCKS_REPORT };
 static const Report all_reports[] = {[LAYERED_REPORT] = {"layered", judge_layered, layered_complaint},
                                      [MIXED_REPORT] = {"mixed", judge_mixed, mixed_complaint},
-                                     [REASON_REPORT] = {"reason", judge_reason, reason_text}};
+                                     [REASON_REPORT] = {"reason", judge_reason, reason_text},
+                                     [BLOCKS_REPORT] = {"blocks", judge_layered, blocks_text}};
 static const Report *report;
 
 static int is_about(int kind)
@@ -358,6 +374,13 @@ static void try_columns(void)
     print_count(placed, "refusals of a column that is placed");
 }
 
+static void print_block_counts(void)
+{
+    print_count(with_one, "answers of one block among all cases");
+    print_count(with_several, "answers of several blocks");
+    print_count(with_each, "answers of a block for each column");
+}
+
 static int compare_all(const char *models)
 {
     try_stored_models(models);
@@ -373,6 +396,8 @@ static int compare_all(const char *models)
     try_numbered_files();
     if (is_about(REASON_REPORT))
         try_columns();
+    if (is_about(BLOCKS_REPORT))
+        print_block_counts();
     return end_tally() > 0;
 }
 
@@ -388,7 +413,7 @@ int main(int count, char **words)
 {
     report = count > 1 ? report_named(words[1]) : NULL;
     if (count < 4 || count > 5 || !report) {
-        fprintf(stderr, "usage: program layered|mixed|reason PROGRAM MODELS [FILES]\n");
+        fprintf(stderr, "usage: program layered|mixed|reason|blocks PROGRAM MODELS [FILES]\n");
         return 2;
     }
     if (count == 5 && !write_numbers_to(words[4])) {

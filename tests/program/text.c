@@ -1,4 +1,4 @@
-/* Reports as document 01 has them, and those of reasons likewise: one word, then items with one space before each; each line ends in
+/* Reports as document 01 has them, and those of reasons and blocks likewise: one word, then items with one space before each; each line ends in
  * a line feed. */
 #include "text.h"
 
@@ -62,6 +62,16 @@ void write_reason(const Reason *reason, char *text)
     char *out = put_set(text, "reason", reason->set);
     if (reason->given)
         put_multipliers(out, reason->multipliers);
+}
+
+void write_blocks(const Blocks *blocks, unsigned verdict, unsigned rank, char *text)
+{
+    char name[16], *out = text;
+    for (unsigned k = 0; k < blocks->count; k++) {
+        sprintf(name, "block %u", k);
+        out = put_set(out, name, columns_of_block(blocks, k));
+    }
+    put_start(out, verdict, rank);
 }
 
 void write_refused(uint32_t refusal, char *text)

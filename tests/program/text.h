@@ -2,6 +2,7 @@
 #ifndef TEXT_H
 #define TEXT_H
 
+#include "block.h"
 #include "reason.h"
 #include "reference.h"
 
@@ -11,6 +12,7 @@ enum { TEXT_MAX = 4096 };
 void write_layered(const Answer *answer, char *text);
 void write_mixed(const MixedAnswer *answer, char *text);
 void write_reason(const Reason *reason, char *text);
+void write_blocks(const Blocks *blocks, unsigned verdict, unsigned rank, char *text);
 void write_refused(uint32_t refusal, char *text);
 
 /* Whether the text has the lines of a report; the answer that it shows. How the text is set is not judged here: the answer

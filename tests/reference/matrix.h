@@ -11,12 +11,15 @@ enum { TRIES = 4, MATRIX_ROWS = 2 * WUNDRESKA_ROWS_MAX };
 
 typedef struct {
     const Field *field;
-    size_t rows, columns;
-    uint32_t cells[MATRIX_ROWS][WUNDRESKA_COLUMNS_MAX];
+    size_t rows, columns, behind; /* so many more columns stand behind, in which no pivot is taken */
+    uint32_t cells[MATRIX_ROWS][2 * WUNDRESKA_COLUMNS_MAX];
 } Matrix;
 
 /* Constant rows above parameter rows. */
 void substitute_layered(Matrix *matrix, const Model *model);
+
+/* The same, and behind it every column once more, with letters of its own. */
+void substitute_doubled(Matrix *matrix, const Model *model);
 
 /* Each row the sum of a constant row and a parameter row. */
 void substitute_mixed(Matrix *matrix, const Model *model);

@@ -34,6 +34,13 @@ static inline int has(Set set, size_t number)
     return set >> number & 1;
 }
 
+/* The smallest number of a set that is not empty. */
+static inline size_t smallest_of(Set set)
+{
+    uint64_t low = (uint64_t)set, high = (uint64_t)(set >> 64);
+    return low ? __builtin_ctzll(low) : 64 + __builtin_ctzll(high);
+}
+
 /* The set of all numbers below a bound. */
 Set all_below(size_t bound);
 

@@ -2,14 +2,14 @@
 use Prim.Native.Nat.{ℕ, _+_, _≤_, _<_}
 use mathlib.Core.Path.{_≡_, refl, sym, ap, _∙_}
 use mathlib.Core.Logic.{_≢_}
-use mathlib.Core.Bool.{Bool, true, false, not, _&&_, _||_, cond, true≢false, false≢true}
+use mathlib.Core.Bool.{Bool, true, false, not, _&&_, _||_, cond, true≢false}
 use mathlib.Core.List.{List}
 use native.Mathlib.Omega.{arith}
-use native.Mathlib.Decide.{ℕ-discrete, decLt}
+use native.Mathlib.Decide.{ℕ-discrete}
 use native.Mathlib.Numerals.{add-one}
 use lib.ListN.{length, getD, replicate, getD-replicate}
 use Rattle.limits.specs.Limits.{most-columns, most-rows, no-column}
-use Rattle.counting.specs.Bools.{true?, not-true, iff-eq, and-in, and-left, and-right, or-left, or-right, or-split, not-both, not-of, implied, implies}
+use Rattle.counting.specs.Bools.{true?, not-true, iff-eq, and-in, and-left, and-right, or-left, or-right, not-both, not-of, implied, implies}
 use Rattle.counting.specs.Sets.{Set, _∈_, _⊆_, _∩_, _∪_, ∁, #, Some, all, any}
 use Rattle.counting.specs.Counts.{all-iff, any-iff, #-le}
 use Rattle.counting.specs.Injections.{#-strict}
@@ -20,8 +20,8 @@ use Rattle.columns.specs.Words.Operations.{least-in, least-first}
 use Rattle.columns.specs.Words.SetLaws.{nothing-in, least-there, removed-old, removed-other}
 use Rattle.relation.specs.Relations.{row-of}
 use Rattle.listings.specs.Offered.{offered, offered-iff}
-use Rattle.listings.specs.Blocks.{block, needs, permitted, next-block, listed, blocks-by, block-count-by}
-use Rattle.listings.specs.Listings.Tests.{Block, block-iff, Needs, needs-iff, Permitted, permitted-iff}
+use Rattle.listings.specs.Blocks.{block, needs, permitted, next-block, listed, blocks-by}
+use Rattle.listings.specs.Listings.Tests.{Block, block-iff, needs-iff, Permitted, permitted-iff}
 use Rattle.listings.specs.Listings.Made.{some-free, fresh, in-listed, listed-from, block-offered, count-stops}
 use Rattle.blocks.specs.Code.{Ordered, NeedsShown, Waits, Numbered, ListedBy}
 use Rattle.blocks.specs.declared.Blocks.{Blocks}

@@ -17,7 +17,7 @@ use Rattle.layered.specs.Answers.{RankCall}
 use Rattle.layered.specs.FileModel.{file-model}
 use Rattle.blocks.specs.declared.Blocks.{Blocks}
 
--- what is shown of column x: the number of its block in the listing, and 255 past the last column
+-- what is shown of column x, of a model whose columns are all offered: the number of its block in the listing, and 255 past the last column
 unfoldable pub shown-number : Model → ℕ → ℕ
 shown-number M x = cond (ltb x (M .n)) (block-number M x) no-column
 

@@ -120,7 +120,7 @@ fn woken(waiting: &[u64], set: ColumnSet) -> ColumnSet
 }
 
 // The blocks, one after another: always the permitted one with the least column. A column that is not permitted waits for one that
-// must come before, and is not looked at until that is listed.
+// must come before, and is not looked at until that is listed. While a column is left, a permitted one is awake.
 fn list(rows: &[u64], needs: &[u64], all: ColumnSet) -> Blocks
     requires { ⌜ ((n : ℕ) × (E : Set) × (b : ℕ → ℕ → Bool) × (t : ℕ → ℕ → Bool) × Ordered n E b t (members (whole all)) (now rows) × NeedsShown n E b t (now needs)) ⌝ }
     ensures { λ r. ⌜ ((n : ℕ) (E : Set) (b t : ℕ → ℕ → Bool) → Ordered n E b t (members (whole all)) (now (rows .entry)) → NeedsShown n E b t (now (needs .entry)) → ListedBy n E b t r) ⌝ }

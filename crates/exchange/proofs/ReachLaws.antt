@@ -2,23 +2,23 @@
 use Prim.Native.Nat.{ℕ, _+_, _≤_, _<_}
 use mathlib.Core.Path.{_≡_, refl, sym, ap, _∙_}
 use mathlib.Core.Logic.{_↔_, _⊎_, inl, inr}
-use mathlib.Core.Bool.{Bool, true, false, not, _&&_, _||_, cond, true≢false, false≢true}
+use mathlib.Core.Bool.{Bool, false, not, _&&_, _||_, cond, true≢false, false≢true}
 use mathlib.Core.List.{List}
 use native.Mathlib.Omega.{arith}
 use native.Mathlib.Decide.{decLt}
 use lib.ListN.{length, replicate}
 use Rattle.limits.specs.Limits.{most-columns, most-rows}
-use Rattle.counting.specs.Bools.{true?, not-true, iff-eq, and-in, and-left, and-right, or-left, or-right, or-split, not-of, not-both}
-use Rattle.counting.specs.Sets.{Set, _∈_, _∩_, ∁, Some}
-use Rattle.columns.specs.Columns.{width, members, none}
-use Rattle.columns.specs.ColumnSets.{most-words, row-numbers}
+use Rattle.counting.specs.Bools.{true?, not-true, and-in, and-left, and-right, or-left, or-right, or-split, not-of, not-both}
+use Rattle.counting.specs.Sets.{Set, _∈_, _∩_, ∁}
+use Rattle.columns.specs.Columns.{width}
+use Rattle.columns.specs.ColumnSets.{most-words}
 use Rattle.columns.specs.Words.Rows.{most-words-rows}
-use Rattle.rank.specs.Graph.States.{State, Placed, Terminal, Arc, placed?}
+use Rattle.rank.specs.Graph.States.{State}
 use Rattle.rank.specs.Layered.Model.{Model}
 use Rattle.rank.specs.Layered.Offers.{finished}
 use Rattle.relation.specs.Relations.{row-of, HasRow, closure, Joined, ClosedOver}
 use Rattle.relation.specs.RowLaws.{no-row, no-rows, same-rows}
-use Rattle.relation.specs.Closures.{LeadsTo, closure-leads}
+use Rattle.relation.specs.Closures.{closure-leads}
 use Rattle.listings.specs.Offered.{offered, offered-iff}
 use Rattle.listings.specs.Blocks.{earlier}
 use Rattle.listings.specs.Direct.{Direct, closure-is-earlier}

@@ -193,10 +193,9 @@ pub fn column_dependence(
     read_column(&mut t, &[], p as u16, n, a, held, x)
 }
 
-// What reaches each column in the final state: itself, where it is offered, every column from which arcs lead there, every column from
-// which they lead to a free row and, where it is reached from an unplaced column, every offered one. Row x of the area has the columns
-// that reach column x. These are the columns that share its block or must come before it. Where the call is not taken, the rows have
-// none.
+// What reaches each column in the final state. Row x of the area, of an offered column: x itself, every column from which arcs lead to
+// x, every column from which they lead to a free row and, where arcs lead to x from an unplaced column, every offered one. These are the
+// columns that share the block of x or must come before it. The other rows are empty, and all are where the call is not taken.
 pub struct Reach {
     pub valid: bool,
     pub rows: [u64; MOST_WORDS],

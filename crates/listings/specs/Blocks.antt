@@ -26,7 +26,7 @@ module _ (M : Model) where
   unfoldable pub before : ℕ → ℕ → Bool
   before x y = every-part n E (λ J. not (tight J && J x) || J y)
 
-  -- the columns that share a block with x or must come before it, both offered
+  -- the columns that share a block with x or must come before it; x and they are offered
   unfoldable pub earlier : ℕ → Set
   earlier x y = offered n E x && offered n E y && before y x
 
@@ -73,10 +73,11 @@ module _ (n : ℕ) (E : Set) (comes-before shares : ℕ → ℕ → Bool) where
   listed zero = λ x. false
   listed (suc i) = λ x. listed i x || next-block (listed i) x
 
-  -- block i, and the number of blocks: the first round in which none is permitted
+  -- block i
   unfoldable pub blocks-by : ℕ → Set
   blocks-by i = next-block (listed i)
 
+  -- the number of blocks: the first round in which no block is permitted
   unfoldable pub block-count-by : ℕ
   block-count-by = least n (λ i. not (any n (permitted (listed i))))
 

@@ -2,7 +2,7 @@
 -- before another where an arc leads there, and besides every terminal column before all, and every column before the unplaced ones. What the steps lead
 -- to is `before`. Assumes nothing.
 use Prim.Native.Nat.{ℕ, _<_}
-use mathlib.Core.Path.{_≡_, sym, _∙_}
+use mathlib.Core.Path.{_≡_}
 use mathlib.Core.Bool.{true, not, _&&_}
 use mathlib.Core.Logic.{_↔_, _⊎_, inl, inr}
 use Rattle.counting.specs.Bools.{true?, iff-eq, and-in, and-left, and-right, not-both, not-of}
@@ -17,7 +17,7 @@ use Rattle.rank.specs.Layered.Augmenting.{StateOf}
 use Rattle.relation.specs.Closures.{LeadsTo}
 use Rattle.listings.specs.Offered.{offered, offered-iff}
 use Rattle.listings.specs.Blocks.{before, earlier}
-use Rattle.listings.specs.BlockLaws.{Tight, before-iff, before-self, before-via}
+use Rattle.listings.specs.BlockLaws.{before-iff, before-self, before-via}
 use Rattle.listings.specs.TightSets.{Shut, tight-shut, shut-tight}
 
 module _ (M : Model) (s : StateOf M) where

@@ -6,3 +6,4 @@ pub mod BlockLaws
 pub mod TightSets
 pub mod Direct
 pub mod Theorems
+pub mod LaterBlocks

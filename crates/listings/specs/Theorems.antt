@@ -7,7 +7,6 @@ use mathlib.Core.Logic.{_↔_}
 use native.Mathlib.Omega.{arith}
 use Rattle.counting.specs.Sets.{Set, _∈_, Some}
 use Rattle.counting.specs.Choices.{Part}
-use Rattle.columns.specs.Columns.{least}
 use Rattle.columns.specs.Words.Operations.{least-in, least-first}
 use Rattle.rank.specs.Layered.Model.{Model}
 use Rattle.rank.specs.Layered.Rank.{sum, rank, short}
@@ -17,7 +16,7 @@ use Rattle.listings.specs.Blocks.{share, before, in-no-set, first-of, bl
 use Rattle.listings.specs.Listings.Tests.{Block, block-iff, permitted-iff, Next}
 use Rattle.listings.specs.Listings.Unique.{same-listing}
 use Rattle.listings.specs.Listings.Made.{the-listing, permitted-whole}
-use Rattle.listings.specs.BlockLaws.{Tight, share-iff, before-iff, share-both, before-self, before-via, in-no-set-iff, short-before, short-shares, in-no-set-before, in-no-set-shares}
+use Rattle.listings.specs.BlockLaws.{share-iff, before-iff, share-both, before-self, before-via, in-no-set-iff, short-before, short-shares, in-no-set-before, in-no-set-shares}
 
 module _ (M : Model) where
   open Model M using (n, E)
@@ -122,7 +121,7 @@ module _ (M : Model) where
       offered-short : (z : ℕ) → z ∈ short M → z ∈ offered n E
       offered-short z h = offered-iff n E z .1 (short-of-E M z h)
 
-      -- a column of the last block comes before it
+      -- every column comes before z, since z is short
       last : (z : ℕ) → z ∈ short M → block-number M z ≡ block-count M - 1
       last z h =
           let l : block-number M z < block-count M = number-of-its-block z (offered-short z h) .0 in

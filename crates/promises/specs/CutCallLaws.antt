@@ -20,6 +20,7 @@ use Rattle.format.specs.File.Format.{FileModel, ValidModel, fields, judge, deco
 use Rattle.format.specs.File.FormatLaws.{decoded-valid, encode-decode}
 use Rattle.format.specs.File.RowSizes.{parameter-rows-most}
 use Rattle.format.specs.File.WriteLaws.{file-length, numbers-size-most}
+use Rattle.layered.specs.Answers.{Answered}
 use Rattle.layered.specs.FileModel.{file-model}
 use Rattle.mixed.specs.MixedAnswers.{MixedAnswered, file-mixed, mixed-question}
 use Rattle.host.specs.AreaCall.{area-refusal, AreaCall, WrittenOver}
@@ -29,12 +30,17 @@ use Rattle.multipliers.specs.Bytes.{multipliers-length, multipliers-bytes}
 use Rattle.reason.specs.Answers.{reason-question, FileReason}
 use Rattle.reason.specs.Bytes.{reason-length, reason-bytes}
 use Rattle.acceptance.specs.Bytes.{claim-question, AcceptanceOf, acceptance-length, acceptance-bytes}
-use Rattle.solvability.specs.Host.{HostAnswer, HostMixedAnswer, set-shown, multipliers-question, HostMultipliers, HostReason, HostAccepts}
+use Rattle.blocks.specs.Answers.{BlocksAnswered}
+use Rattle.blocks.specs.Bytes.{blocks-length, blocks-bytes}
+use Rattle.solvability.specs.Host.{HostAnswer, HostMixedAnswer, set-shown, multipliers-question, HostMultipliers, HostReason, HostAccepts, HostBlocks}
 use Rattle.text.specs.Text.{refused-line, Prints}
 use Rattle.text.specs.declared.Printed.{Printed}
+use Rattle.report.specs.Report.{answer-text}
 use Rattle.report.specs.FileReport.{Reports, FileReport}
 use Rattle.mixed_report.specs.MixedReport.{mixed-answer-text, MixedFileReport}
 use Rattle.reason_report.specs.ReasonReport.{reason-text, ReasonFileReport}
+use Rattle.blocks_report.specs.BlocksReport.{blocks-text, BlocksFileReport}
+use Rattle.rank.specs.Layered.Rank.{rank, verdict}
 use Rattle.promises.specs.CutLaws.{rows-most, judge-cut}
 
 -- an accepted file is no longer than the longest
@@ -139,6 +145,9 @@ module _ (k : ℕ) (s : List ℕ) (bytes : AreBytes s) (h : longest-file < k) wh
   pub host-accepts-cut : (claim area : List ℕ) (number : ℕ) (area′ : List ℕ) → HostAccepts (take k s) claim area number area′ → HostAccepts s claim area number area′
   host-accepts-cut claim = area-cut (λ t. claim-question claim) acceptance-length (λ t. WrittenOver (AcceptanceOf (file-model t) claim) acceptance-bytes)
 
+  pub host-blocks-cut : (area : List ℕ) (number : ℕ) (area′ : List ℕ) → HostBlocks (take k s) area number area′ → HostBlocks s area number area′
+  host-blocks-cut = area-cut (λ t. []) blocks-length (λ t. WrittenOver (BlocksAnswered (file-model t)) blocks-bytes)
+
   -- ---- the reports
 
   -- of every report of a file
@@ -159,11 +168,22 @@ module _ (k : ℕ) (s : List ℕ) (bytes : AreBytes s) (h : longest-file < k) wh
           if-accepted = λ z. absurd (nz (e ∙ z));
         })
 
+  -- of those that ask nothing but the file's judgement
+  module _ {A : Type 0} (Holds : List ℕ → A → Type 0) (text : List ℕ → A → List ℕ) where
+    abbrev Judged : List ℕ → List ℕ → Printed → List ℕ → Type 0
+    Judged t = Reports (judge t) (Holds t) (text t)
+
+    judged-cut : (area : List ℕ) (r : Printed) (area′ : List ℕ) → Judged (take k s) area r area′ → Judged s area r area′
+    judged-cut area r area′ g = record {
+      if-refused = λ nz. subst (λ (j : ℕ). Prints (refused-line j) area r area′) (judge-cut k s h) (g .if-refused (λ z. nz (sym (judge-cut k s h) ∙ z)));
+      if-accepted = λ z. subst (λ (t : List ℕ). Judged t area r area′) (accepted-whole z) g .if-accepted z;
+    }
+
   pub report-cut : (area : List ℕ) (r : Printed) (area′ : List ℕ) → FileReport (take k s) area r area′ → FileReport s area r area′
-  report-cut area r area′ g = record {
-    if-refused = λ nz. subst (λ (j : ℕ). Prints (refused-line j) area r area′) (judge-cut k s h) (g .if-refused (λ z. nz (sym (judge-cut k s h) ∙ z)));
-    if-accepted = λ z. subst (λ (t : List ℕ). FileReport t area r area′) (accepted-whole z) g .if-accepted z;
-  }
+  report-cut = judged-cut (λ t. Answered (file-model t)) (λ t. answer-text)
+
+  pub blocks-report-cut : (area : List ℕ) (r : Printed) (area′ : List ℕ) → BlocksFileReport (take k s) area r area′ → BlocksFileReport s area r area′
+  blocks-report-cut = judged-cut (λ t. BlocksAnswered (file-model t)) (λ t. blocks-text (verdict (file-model t)) (rank (file-model t)))
 
   pub mixed-report-cut : (area : List ℕ) (r : Printed) (area′ : List ℕ) → MixedFileReport (take k s) area r area′ → MixedFileReport s area r area′
   mixed-report-cut = reports-cut mixed-question (λ t. MixedAnswered (file-mixed t)) mixed-answer-text

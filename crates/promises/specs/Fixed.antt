@@ -5,6 +5,7 @@ use Rattle.layered.specs.declared.Answer.{Answer}
 use Rattle.mixed.specs.declared.MixedAnswer.{MixedAnswer}
 use Rattle.reason.specs.declared.Reason.{Reason}
 use Rattle.acceptance.specs.declared.Acceptance.{Acceptance}
+use Rattle.blocks.specs.declared.Blocks.{Blocks}
 
 -- layered answers; open is which side and row a placed column takes
 pub record SameAnswer (r s : Answer) : Type 0 where
@@ -44,6 +45,12 @@ pub record SameReason (r s : Reason) : Type 0 where
 pub record SameAcceptance (r s : Acceptance) : Type 0 where
   pub same-refusal : r .refusal ≡ s .refusal
   pub same-accepted : r .accepted ≡ s .accepted
+
+-- answers about blocks; nothing is open
+pub record SameBlocks (r s : Blocks) : Type 0 where
+  pub same-refusal : r .refusal ≡ s .refusal
+  pub same-count : r .count ≡ s .count
+  pub same-numbers : r .numbers ≡ s .numbers
 
 -- two results show two answers that agree so
 pub record TwoShown {A : Type 0} (Same : A → A → Type 0) (Shows Also : A → Type 0) : Type 0 where

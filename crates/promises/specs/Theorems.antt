@@ -1,5 +1,5 @@
 -- What is proved over the promises of the calls, one theorem after another. Assumes nothing.
-use Prim.Native.Nat.{ℕ, suc, _+_, _*_, _%_, _^_, _≤_, _<_}
+use Prim.Native.Nat.{ℕ, suc, _+_, _-_, _*_, _%_, _^_, _≤_, _<_}
 use mathlib.Core.Path.{_≡_, refl, sym, _∙_, subst}
 use mathlib.Core.Bool.{Bool, true, false}
 use mathlib.Core.Option.{Option, none, some}
@@ -10,19 +10,21 @@ use lib.ListN.{length, getD, take, drop}
 use lib.Seq.{take-take}
 use Rattle.counting.specs.Sets.{Set, _∈_, _⊆_, #, touching, Some}
 use Rattle.counting.specs.Counts.{_⊖_}
+use Rattle.counting.specs.Choices.{Part}
 use Rattle.columns.specs.Columns.{word-width, width, members}
 use Rattle.columns.specs.ColumnSets.{whole, Fits, row-numbers}
 use Rattle.columns.specs.declared.ColumnSet.{ColumnSet}
 use Rattle.columns.specs.Words.Rows.{rows-below}
 use Rattle.columns.specs.Words.Bytes.{AreBytes}
 use Rattle.rank.specs.Layered.Model.{Model, Assignment, Legal, size}
-use Rattle.rank.specs.Layered.Rank.{constant-rank, rank, short}
+use Rattle.rank.specs.Layered.Rank.{constant-rank, sum, rank, short}
 use Rattle.rank.specs.ListedModel.{listed-model}
 use Rattle.rank.specs.ListedModelLaws.{OnlyZero}
 use Rattle.dependence.specs.PlainNumbers.{SumsTo}
 use Rattle.blocking.specs.Reason.{Blocking, BlockedWith}
 use Rattle.blocking.specs.Theorems.{short-is-all-reasons}
 use Rattle.claims.specs.Claim.{Shows}
+use Rattle.listings.specs.Blocks.{Listing}
 use Rattle.mixed_models.specs.Mixed.{Mixed, mixed}
 use Rattle.mixed_models.specs.MixedRowUse.{UsesEveryRow, LeavesRow}
 use Rattle.mixed_models.specs.MixedVerdicts.{mixed-determined-uses-every-row, mixed-surplus-leaves-a-row}
@@ -45,7 +47,7 @@ use Rattle.layered.specs.declared.Answer.{Answer}
 use Rattle.layered.specs.FileModel.{file-model}
 use Rattle.mixed.specs.MixedAnswers.{MixedAnswered, MixedCall, file-mixed}
 use Rattle.mixed.specs.declared.MixedAnswer.{MixedAnswer}
-use Rattle.promises.specs.Fixed.{SameAnswer, SameMixed, SameReason, SameAcceptance}
+use Rattle.promises.specs.Fixed.{SameAnswer, SameMixed, SameReason, SameAcceptance, SameBlocks}
 use Rattle.multipliers.specs.Answers.{MultipliersCall, MultipliersFileCall}
 use Rattle.multipliers.specs.Bytes.{multipliers-bytes}
 use Rattle.multipliers.specs.declared.Multipliers.{Multipliers}
@@ -56,14 +58,18 @@ use Rattle.acceptance.specs.Answers.{AcceptanceCall, AcceptanceFileCall}
 use Rattle.acceptance.specs.Bytes.{claim-length, claim-rank, claim-side, claim-rows, claim-set, ClaimShown, acceptance-bytes}
 use Rattle.acceptance.specs.declared.Claim.{Claim}
 use Rattle.acceptance.specs.declared.Acceptance.{Acceptance}
-use Rattle.solvability.specs.Host.{HostAnswer, HostMixedAnswer, set-shown, HostMultipliers, HostReason, HostAccepts}
+use Rattle.blocks.specs.Answers.{BlocksAnswered, BlocksCall, BlocksFileCall}
+use Rattle.blocks.specs.Bytes.{blocks-bytes}
+use Rattle.blocks.specs.declared.Blocks.{Blocks}
+use Rattle.solvability.specs.Host.{HostAnswer, HostMixedAnswer, set-shown, HostMultipliers, HostReason, HostAccepts, HostBlocks}
 use Rattle.text.specs.declared.Printed.{Printed}
 use Rattle.report.specs.FileReport.{FileReport}
 use Rattle.mixed_report.specs.MixedReport.{MixedFileReport}
 use Rattle.reason_report.specs.ReasonReport.{ReasonFileReport}
+use Rattle.blocks_report.specs.BlocksReport.{BlocksFileReport}
 use Rattle.promises.specs.TripLaws.{read-then-written, written-then-read}
 use Rattle.promises.specs.CutLaws.{judge-cut}
-use Rattle.promises.specs.CutCallLaws.{reading-cut, rows-reading-cut, host-cut, host-mixed-cut, host-multipliers-cut, host-reason-cut, host-accepts-cut, report-cut, mixed-report-cut, reason-report-cut}
+use Rattle.promises.specs.CutCallLaws.{reading-cut, rows-reading-cut, host-cut, host-mixed-cut, host-multipliers-cut, host-reason-cut, host-accepts-cut, host-blocks-cut, report-cut, mixed-report-cut, reason-report-cut, blocks-report-cut}
 use Rattle.promises.specs.AnswerLaws.{refusal-same, mixed-refusal-same, write-same, layered-same, mixed-same}
 use Rattle.promises.specs.NumberingLaws.{numbers-front, front-same, named, mixed-unnumbered, picked-same, without-numbers, file-unnumbered}
 use Rattle.promises.specs.RowLaws.{determined-rows, surplus-rows}
@@ -77,6 +83,9 @@ use Rattle.promises.specs.ReasonSameLaws.{reason-calls-same}
 use Rattle.promises.specs.AcceptanceLaws.{claim-of, rank-accepted, reported-accepted, own-claim-accepted, any-claim-accepted}
 use Rattle.promises.specs.AcceptanceSameLaws.{acceptance-calls-same}
 use Rattle.promises.specs.AcceptanceCallLaws.{acceptance-file-call, acceptance-host-call, claim-from-C, own-from-C, any-from-C, host-refused-alike, claim-surplus}
+use Rattle.promises.specs.BlocksLaws.{shown-block, InNoSet, past-columns, number-below, count-most, shown-listing, any-listing, number-occurs, same-number, order-shown, PermittedAfter, smallest-next, last-is-short, first-are-in-no-set}
+use Rattle.promises.specs.BlocksSameLaws.{blocks-calls-same}
+use Rattle.promises.specs.BlocksCallLaws.{blocks-file-call, blocks-host-call, blocks-bytes-read, host-blocks-refused-alike}
 use Rattle.promises.specs.FileLaws.{file-accepted}
 use Rattle.promises.specs.DocumentFile.{document-file, document-accepted, document-model}
 
@@ -148,6 +157,10 @@ pub cut-input-host-accepts : (k : ℕ) (s : List ℕ) → AreBytes s → longest
     → (claim area : List ℕ) (number : ℕ) (area′ : List ℕ) → HostAccepts (take k s) claim area number area′ → HostAccepts s claim area number area′
 cut-input-host-accepts = host-accepts-cut
 
+pub cut-input-host-blocks : (k : ℕ) (s : List ℕ) → AreBytes s → longest-file < k
+    → (area : List ℕ) (number : ℕ) (area′ : List ℕ) → HostBlocks (take k s) area number area′ → HostBlocks s area number area′
+cut-input-host-blocks = host-blocks-cut
+
 -- and of the reports that the programs write.
 pub cut-input-report : (k : ℕ) (s : List ℕ) → AreBytes s → longest-file < k
     → (area : List ℕ) (r : Printed) (area′ : List ℕ) → FileReport (take k s) area r area′ → FileReport s area r area′
@@ -160,6 +173,10 @@ cut-input-report-mixed = mixed-report-cut
 pub cut-input-report-reason : (k : ℕ) (s : List ℕ) → AreBytes s → longest-file < k
     → (x : ℕ) (area : List ℕ) (r : Printed) (area′ : List ℕ) → ReasonFileReport (take k s) x area r area′ → ReasonFileReport s x area r area′
 cut-input-report-reason = reason-report-cut
+
+pub cut-input-report-blocks : (k : ℕ) (s : List ℕ) → AreBytes s → longest-file < k
+    → (area : List ℕ) (r : Printed) (area′ : List ℕ) → BlocksFileReport (take k s) area r area′ → BlocksFileReport s area r area′
+cut-input-report-blocks = blocks-report-cut
 
 -- ---- areas longer than the model
 
@@ -198,6 +215,10 @@ module _ (p n a b : ℕ) (cs ws : List ℕ) (ns : Option (List ℕ)) where
   pub surplus-not-read-acceptance : (c : Claim) (r s : Acceptance) → AcceptanceCall p n a b cs ws ns c r → AcceptanceCall p n a b (take (a * n) cs) (take b ws) front-numbers c s → SameAcceptance r s
   surplus-not-read-acceptance c = acceptance-calls-same p n a b cs (take (a * n) cs) ws (take b ws) cut-cs cut-ws c ns front-numbers surplus-not-tested
 
+  -- nor the blocks,
+  pub surplus-not-read-blocks : (r s : Blocks) → BlocksCall p n a b cs ws ns r → BlocksCall p n a b (take (a * n) cs) (take b ws) front-numbers s → SameBlocks r s
+  surplus-not-read-blocks = blocks-calls-same p n a b cs (take (a * n) cs) ws (take b ws) cut-cs cut-ws ns front-numbers surplus-not-tested
+
   -- nor the mixed answer.
   pub surplus-not-read-mixed : {r s : MixedAnswer} → MixedCall p n a b cs ws ns r → MixedCall p n a b (take (a * n) cs) (take b ws) front-numbers s → SameMixed r s
   surplus-not-read-mixed = mixed-same p n a b cs (take (a * n) cs) ws (take b ws) cut-cs cut-ws ns front-numbers surplus-not-tested-mixed
@@ -235,6 +256,10 @@ module _ (p n a b : ℕ) (cs ws ks : List ℕ) where
   -- The same claims are accepted.
   pub numbers-change-no-acceptance : refusal p n a b cs ws (some ks) ≡ 0 → (c : Claim) (r s : Acceptance) → AcceptanceCall p n a b cs ws (some ks) c r → AcceptanceCall p n a b cs ws none c s → SameAcceptance r s
   numbers-change-no-acceptance e c = acceptance-calls-same p n a b cs cs ws ws refl refl c (some ks) none (e ∙ sym (numbers-only-refuse e))
+
+  -- The blocks are the same.
+  pub numbers-change-no-blocks : refusal p n a b cs ws (some ks) ≡ 0 → (r s : Blocks) → BlocksCall p n a b cs ws (some ks) r → BlocksCall p n a b cs ws none s → SameBlocks r s
+  numbers-change-no-blocks e = blocks-calls-same p n a b cs cs ws ws refl refl (some ks) none (e ∙ sym (numbers-only-refuse e))
 
   -- An entry without a parameter is not read: another area with the same numbers at the parameters is refused alike,
   module _ (js : List ℕ) (rows : b ≤ length ws) (room : b * n ≤ length ks) (room′ : b * n ≤ length js)
@@ -465,6 +490,89 @@ host-refused-like-a-rank-call = host-refused-alike
 pub claim-surplus-not-read : (s claim other : List ℕ) → take claim-length claim ≡ take claim-length other → (area : List ℕ) (number : ℕ) (area′ : List ℕ)
     → HostAccepts s claim area number area′ → HostAccepts s other area number area′
 claim-surplus-not-read = claim-surplus
+
+-- ---- blocks in solving order
+
+-- A call about blocks that is accepted
+module _ (p n a b : ℕ) (cs ws : List ℕ) (ns : Option (List ℕ)) (r : Blocks) (call : BlocksCall p n a b cs ws ns r) (ok : r .refusal ≡ 0) where
+  abbrev M : Model
+  M = listed-model p n a b cs ws
+
+  answered : BlocksAnswered M r
+  answered = call .if-accepted (sym (call .is-refusal) ∙ ok)
+
+  few : n ≤ most-columns
+  few = model-accepted p n a b cs ws ns (sym (call .is-refusal) ∙ ok) .n-most
+
+  -- Each column has the number of a block,
+  pub shown-number-below : (x : ℕ) → x < n → getD (r .numbers) x 0 < r .count
+  shown-number-below = number-below M (λ x. refl) few r answered
+
+  -- of which there are no more than columns;
+  pub no-more-blocks-than-columns : r .count ≤ n
+  no-more-blocks-than-columns = count-most M (λ x. refl) few r answered
+
+  -- what is no column has 255,
+  pub past-columns-unnumbered : (x : ℕ) → n ≤ x → x < most-columns → getD (r .numbers) x 0 ≡ no-column
+  past-columns-unnumbered = past-columns M (λ x. refl) few r answered
+
+  -- and no block is empty.
+  pub every-number-occurs : (i : ℕ) → i < r .count → Some n (λ x. getD (r .numbers) x 0 ≡ i)
+  every-number-occurs = number-occurs M (λ x. refl) few r answered
+
+  -- Two columns are in the same block exactly if every set of columns whose sum equals the rank has both or neither;
+  pub same-number-iff-shared : (x y : ℕ) → x < n → y < n → (getD (r .numbers) x 0 ≡ getD (r .numbers) y 0) ↔ ((J : Set) → Part n (λ z. true) J → sum M J ≡ rank M → J x ≡ J y)
+  same-number-iff-shared = same-number M (λ x. refl) few r answered
+
+  -- where each such set that has x has y, the block of x does not come after that of y.
+  pub order-of-numbers-kept : (x y : ℕ) → x < n → y < n → ((J : Set) → Part n (λ z. true) J → sum M J ≡ rank M → x ∈ J → y ∈ J) → getD (r .numbers) x 0 ≤ getD (r .numbers) y 0
+  order-of-numbers-kept = order-shown M (λ x. refl) few r answered
+
+  -- Block i has the smallest of the columns whose blocks are permitted after the first i: always next is the permitted block with the smallest column.
+  pub smallest-permitted-is-next : (i : ℕ) → i < r .count → Some n (λ x. (getD (r .numbers) x 0 ≡ i) × PermittedAfter M r i x × ((y : ℕ) → y < n → PermittedAfter M r i y → x ≤ y))
+  smallest-permitted-is-next = smallest-next M (λ x. refl) few r answered
+
+  -- The blocks shown are a listing that keeps every rule,
+  pub shown-listing-keeps-the-rules : Listing M (r .count) (shown-block n r)
+  shown-listing-keeps-the-rules = shown-listing M (λ x. refl) few r answered
+
+  -- and every listing that keeps the rules is the one shown.
+  pub any-listing-is-the-shown-one : (m : ℕ) (B : ℕ → Set) → Listing M m B → (m ≡ r .count) × ((i x : ℕ) → i < m → (x ∈ B i) ↔ ((x < n) × (getD (r .numbers) x 0 ≡ i)))
+  any-listing-is-the-shown-one = any-listing M (λ x. refl) few r answered
+
+  -- The short set that the layered call reports is the last block, where it has a column,
+  pub short-set-is-the-last-block : (s : Answer) → LayeredCall p n a b cs ws ns s → (x : ℕ) → x ∈ members (whole (s .short)) → (y : ℕ) → y < n → (y ∈ members (whole (s .short))) ↔ (getD (r .numbers) y 0 ≡ r .count - 1)
+  short-set-is-the-last-block s answer = last-is-short M (λ x. refl) few r answered s (answer .if-accepted (sym (call .is-refusal) ∙ ok))
+
+  -- and the columns that no set has whose sum equals the rank are the first, where there are any.
+  pub columns-of-no-set-are-first : (x : ℕ) → x < n → InNoSet M x → (y : ℕ) → y < n → InNoSet M y ↔ (getD (r .numbers) y 0 ≡ 0)
+  columns-of-no-set-are-first = first-are-in-no-set M (λ x. refl) few r answered
+
+-- The model is refused as the layered call refuses it, with the same number.
+pub blocks-refused-like-a-rank-call : (p n a b : ℕ) (cs ws : List ℕ) (ns : Option (List ℕ)) (r : Blocks) → BlocksCall p n a b cs ws ns r → (s : Answer) → LayeredCall p n a b cs ws ns s → r .refusal ≡ s .refusal
+blocks-refused-like-a-rank-call p n a b cs ws ns r call s answer = call .is-refusal ∙ sym (answer .is-refusal)
+
+-- All this holds of files and from C too. A call on a file that is accepted is the call on the file's model, handed over;
+pub blocks-file-call-is-of-its-model : (s : List ℕ) → AreBytes s → (r : Blocks) → BlocksFileCall s r → r .refusal ≡ 0
+    → BlocksCall (decode s .p) (decode s .n) (decode s .a) (decode s .b) (flatten (decode s .constants)) (decode s .parameters) none r
+blocks-file-call-is-of-its-model = blocks-file-call
+
+pub blocks-file-refused-like-a-rank-call : (file : List ℕ) (r : Blocks) → BlocksFileCall file r → (s : Answer) → LayeredFileCall file s → r .refusal ≡ s .refusal
+blocks-file-refused-like-a-rank-call file r call s answer = call .is-refusal ∙ sym (answer .is-refusal)
+
+-- a host's call that is accepted writes the bytes of an answer of the call on its file;
+pub blocks-host-call-is-of-its-file : (s area area′ : List ℕ) → HostBlocks s area 0 area′
+    → AnswerShown (λ r. (r .refusal ≡ 0) × BlocksFileCall s r) (λ r. area′ ≡ over (blocks-bytes r) area)
+blocks-host-call-is-of-its-file = blocks-host-call
+
+-- so byte 0 is the number of blocks and byte 1 + x the number of column x, or 255;
+pub blocks-from-C-are-the-numbers : (s area area′ : List ℕ) → HostBlocks s area 0 area′ → (r : Blocks) → BlocksFileCall s r → r .refusal ≡ 0
+    → (getD area′ 0 0 ≡ r .count) × ((x : ℕ) → x < most-columns → getD area′ (suc x) 0 ≡ getD (r .numbers) x 0)
+blocks-from-C-are-the-numbers = blocks-bytes-read
+
+-- and a file that the layered call refuses is refused with the same number.
+pub host-blocks-refused-like-a-rank-call : (s area area′ out out′ : List ℕ) (k j : ℕ) → HostAnswer s area k area′ → HostBlocks s out j out′ → judge s ≢ 0 → (k ≡ judge s) × (j ≡ judge s)
+host-blocks-refused-like-a-rank-call = host-blocks-refused-alike
 
 -- ---- rows used and left over
 

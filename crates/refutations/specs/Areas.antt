@@ -6,10 +6,11 @@ use mathlib.Core.Logic.{_≢_, _⊎_, inl, inr}
 use mathlib.Core.Bool.{Bool, true, false, true≢false, false≢true}
 use mathlib.Core.Option.{Option, none, some}
 use mathlib.Core.List.{List, [], _∷_, _++_, flatten}
+use native.Mathlib.Omega.{arith}
 use lib.ListN.{length, drop}
 use lib.Dec.{leb}
 use borrow.Author.Tests.{lt-leb}
-use Rattle.limits.specs.Limits.{set-bytes}
+use Rattle.limits.specs.Limits.{most-columns, set-bytes}
 use Rattle.format.specs.Lists.{over}
 use Rattle.format.specs.Numbers.{number-entries, is-numbered}
 use Rattle.format.specs.Refusals.{Tests, unless, _then_, first-refusal, where-accepted, area-short, area-test}
@@ -23,7 +24,8 @@ use Rattle.host.specs.AreaCall.{area-refusal, AreaCall, WrittenOver}
 use Rattle.multipliers.specs.Bytes.{multipliers-length}
 use Rattle.reason.specs.Bytes.{reason-length}
 use Rattle.acceptance.specs.Bytes.{claim-length, acceptance-length}
-use Rattle.solvability.specs.Host.{HostAnswer, HostMixedAnswer, HostMultipliers, HostReason, HostAccepts}
+use Rattle.blocks.specs.Bytes.{blocks-length}
+use Rattle.solvability.specs.Host.{HostAnswer, HostMixedAnswer, HostMultipliers, HostReason, HostAccepts, HostBlocks}
 
 where-refused : {A : Type 0} (k : ℕ) (x o : A) → k ≢ 0 → where-accepted k x o ≡ o
 where-refused zero x o h = absurd (h refl)
@@ -181,6 +183,26 @@ unfolding area-refusal judge
 claims-never-refused file claim area k area′ h ok l m =
     h .is-number ∙ zero-then (closed fields file) _ ok (zero-then (unless (area-test acceptance-length (length area)) area-short) (unless (area-test claim-length (length claim)) area-short)
     (zero-unless _ area-short (area-reads _ _ .1 l)) (zero-unless _ area-short (area-reads _ _ .1 m)))
+
+-- and the one about blocks,
+pub host-blocks-number : (file area : List ℕ) (k k′ : ℕ) (area′ area″ : List ℕ) → HostBlocks file area k area′ → HostBlocks file area k′ area″ → k ≡ k′
+host-blocks-number file area = area-number _ _ _ _ area
+
+pub host-blocks-refused : (file area : List ℕ) (k : ℕ) (area′ : List ℕ) → HostBlocks file area k area′ → k ≢ 0 → area′ ≡ area
+host-blocks-refused file area = area-refused _ _ _ _ area
+
+-- which refuses too short an area, behind the file's own numbers, so one with a byte for each column and none for the number of blocks, and nothing else
+pub blocks-area-refused : (file area : List ℕ) (k : ℕ) (area′ : List ℕ) → HostBlocks file area k area′ → judge file ≡ 0 → length area < blocks-length → k ≡ 8
+unfolding area-refusal area-test judge first-refusal
+blocks-area-refused file area k area′ h ok short = h .is-number ∙ sym (then-passed (closed fields file) _ 8 ok (rw (lt-leb blocks-length (length area) short) refl))
+
+pub blocks-area-without-the-count : (file area : List ℕ) (k : ℕ) (area′ : List ℕ) → HostBlocks file area k area′ → judge file ≡ 0 → length area ≡ most-columns → k ≡ 8
+blocks-area-without-the-count file area k area′ h ok e = blocks-area-refused file area k area′ h ok (omega (arith, e))
+
+pub blocks-never-refused : (file area : List ℕ) (k : ℕ) (area′ : List ℕ) → HostBlocks file area k area′ → judge file ≡ 0 → blocks-length ≤ length area → k ≡ 0
+unfolding area-refusal judge first-refusal
+blocks-never-refused file area k area′ h ok l =
+    h .is-number ∙ zero-then (closed fields file) _ ok (zero-then (unless (area-test blocks-length (length area)) area-short) [] (zero-unless _ area-short (area-reads _ _ .1 l)) refl)
 
 -- the bytes behind an answer are as they were
 pub written-surplus : {A : Type 0} (Holds : A → Type 0) (bytes : A → List ℕ) (area area′ : List ℕ) (w : WrittenOver Holds bytes area area′)

@@ -30,14 +30,19 @@ use Rattle.multipliers.specs.Bytes.{multipliers-bytes}
 use Rattle.multipliers.specs.declared.Multipliers.{Multipliers}
 use Rattle.reason.specs.Answers.{reason-question, FileReason, ReasonCall}
 use Rattle.reason_report.specs.ReasonReport.{multiplier-line, reason-text, ReasonFileReport}
+use Rattle.blocks_report.specs.BlocksReport.{block-lines, blocks-text, BlocksFileReport}
 use Rattle.reason.specs.Bytes.{reason-bytes}
 use Rattle.reason.specs.declared.Reason.{Reason}
 use Rattle.acceptance.specs.Answers.{AcceptanceCall}
 use Rattle.acceptance.specs.Bytes.{claim-question, acceptance-bytes}
 use Rattle.acceptance.specs.declared.Claim.{Claim}
 use Rattle.acceptance.specs.declared.Acceptance.{Acceptance}
-use Rattle.solvability.specs.Host.{HostAnswer, HostMixedAnswer, multipliers-question, HostMultipliers, HostReason, HostAccepts}
-use Rattle.text.specs.Text.{ascii, line, column-items, print-refusal, printed, Prints}
+use Rattle.blocks.specs.Answers.{BlocksCall}
+use Rattle.blocks.specs.Bytes.{blocks-bytes}
+use Rattle.blocks.specs.declared.Blocks.{Blocks}
+use Rattle.solvability.specs.Host.{HostAnswer, HostMixedAnswer, multipliers-question, HostMultipliers, HostReason, HostAccepts, HostBlocks}
+use Rattle.text.specs.Text.{ascii, line, item, column-items, verdict-line, print-refusal, printed, Prints}
+use Rattle.rank.specs.Layered.Rank.{rank, verdict}
 use Rattle.text.specs.declared.Printed.{Printed}
 use Rattle.report.specs.Report.{answer-text}
 use Rattle.report.specs.FileReport.{FileReport}
@@ -45,10 +50,11 @@ use Rattle.format.specs.Lists.{over}
 use Rattle.format.specs.File.Piece.{closed}
 use Rattle.format.specs.File.Format.{fields, entry-bytes, judge}
 use Rattle.mixed.specs.declared.MixedAnswer.{MixedAnswer}
-use Rattle.promises.specs.Fixed.{SameAnswer, SameShown, SameMixed, SameMixedShown, SameReason, SameAcceptance, TwoShown}
+use Rattle.promises.specs.Fixed.{SameAnswer, SameShown, SameMixed, SameMixedShown, SameReason, SameAcceptance, SameBlocks, TwoShown}
 use Rattle.promises.specs.AnswerLaws.{layered-same, mixed-same}
 use Rattle.promises.specs.ReasonSameLaws.{reason-calls-same}
 use Rattle.promises.specs.AcceptanceSameLaws.{acceptance-calls-same}
+use Rattle.promises.specs.BlocksSameLaws.{blocks-calls-same}
 
 -- ---- two results of one call
 
@@ -89,12 +95,15 @@ multipliers-fixed p n a b cs ws ns held x {r} {s} f g = elim (ℕ-discrete (r .r
     same : r .refusal ≡ s .refusal
     same = f .is-refusal ∙ sym (g .is-refusal)
 
--- and so do two of the call about the reason for a column, and of the call about a claim
+-- and so do two of the call about the reason for a column, of the call about a claim, and of the call about blocks
 pub reason-fixed : (p n a b : ℕ) (cs ws : List ℕ) (ns : Option (List ℕ)) (x : ℕ) {r s : Reason} → ReasonCall p n a b cs ws ns x r → ReasonCall p n a b cs ws ns x s → SameReason r s
 reason-fixed p n a b cs ws ns x = reason-calls-same p n a b cs cs ws ws refl refl x ns ns refl
 
 pub acceptance-fixed : (p n a b : ℕ) (cs ws : List ℕ) (ns : Option (List ℕ)) (c : Claim) (r s : Acceptance) → AcceptanceCall p n a b cs ws ns c r → AcceptanceCall p n a b cs ws ns c s → SameAcceptance r s
 acceptance-fixed p n a b cs ws ns c = acceptance-calls-same p n a b cs cs ws ws refl refl c ns ns refl
+
+pub blocks-fixed : (p n a b : ℕ) (cs ws : List ℕ) (ns : Option (List ℕ)) (r s : Blocks) → BlocksCall p n a b cs ws ns r → BlocksCall p n a b cs ws ns s → SameBlocks r s
+blocks-fixed p n a b cs ws ns = blocks-calls-same p n a b cs cs ws ws refl refl ns ns refl
 
 -- ---- two results of one call on a file
 
@@ -162,12 +171,35 @@ module _ (file area : List ℕ) where
   host-accepts-fixed claim = bytes-fixed acceptance-bytes (closed fields file) (claim-question claim)
       (λ r s u v. ap (λ (t : Bool). indicator t ∷ []) (iff-eq (r .accepted) (s .accepted) (λ e. v .1 (u .0 e)) (λ e. u .1 (v .0 e))))
 
+  -- about blocks,
+  pub host-blocks-fixed : (k j : ℕ) (area′ area″ : List ℕ) → HostBlocks file area k area′ → HostBlocks file area j area″ → area′ ≡ area″
+  host-blocks-fixed = bytes-fixed blocks-bytes (closed fields file) []
+      (λ r s u v. ap₂ (λ (c : ℕ) (ns : List ℕ). c ∷ ns) (u .count-is ∙ sym (v .count-is)) (u .numbers-are ∙ sym (v .numbers-are)))
+
   -- and the text of a report is that of two answers that agree,
   pub report-fixed : (r s : Printed) (area′ area″ : List ℕ) → FileReport file area r area′ → FileReport file area s area″ → judge file ≡ 0
       → TwoShown SameShown (λ t. Prints (answer-text t) area r area′) (λ t. Prints (answer-text t) area s area″)
   report-fixed r s area′ area″ x y e = two-shown (λ t u. answered-fixed (file-model file)) (x .if-accepted e) (y .if-accepted e)
 
-  -- whose numbers and bytes are the same where it is that of the reason for a column
+  printed-fixed : {r s : Printed} {area′ area″ t t′ : List ℕ} → t ≡ t′ → Prints t area r area′ → Prints t′ area s area″ → (r .refusal ≡ s .refusal) × (r .length ≡ s .length) × (area′ ≡ area″)
+  printed-fixed e p q = (
+    p .refusal-is ∙ ap (λ (t : List ℕ). print-refusal t area) e ∙ sym (q .refusal-is),
+    p .length-is ∙ ap (λ (t : List ℕ). length (printed t area)) e ∙ sym (q .length-is),
+    p .bytes-are ∙ ap (λ (t : List ℕ). over (printed t area) area) e ∙ sym (q .bytes-are),
+  )
+
+  -- whose numbers and bytes are the same where it is that of the blocks
+  pub blocks-report-fixed : (r s : Printed) (area′ area″ : List ℕ) → BlocksFileReport file area r area′ → BlocksFileReport file area s area″
+      → (r .refusal ≡ s .refusal) × (r .length ≡ s .length) × (area′ ≡ area″)
+  unfolding blocks-text
+  blocks-report-fixed r s area′ area″ f g = elim (ℕ-discrete (judge file) 0) [
+    | no nz ↦ printed-fixed refl (f .if-refused nz) (g .if-refused nz)
+    | yes z ↦ let u = f .if-accepted z in let v = g .if-accepted z in
+        printed-fixed (ap₂ (λ (ns : List ℕ) (c : ℕ). block-lines ns c 0 ++ (verdict-line (verdict (file-model file)) ++ line (ascii "rank") (item (rank (file-model file)))))
+        (u .is-answer .numbers-are ∙ sym (v .is-answer .numbers-are)) (u .is-answer .count-is ∙ sym (v .is-answer .count-is))) (u .is-shown) (v .is-shown)
+  ]
+
+  -- or of the reason for a column
   pub reason-report-fixed : (x : ℕ) (r s : Printed) (area′ area″ : List ℕ) → ReasonFileReport file x area r area′ → ReasonFileReport file x area s area″
       → (r .refusal ≡ s .refusal) × (r .length ≡ s .length) × (area′ ≡ area″)
   unfolding reason-text
@@ -176,13 +208,6 @@ module _ (file area : List ℕ) where
     | yes z ↦ let u = f .if-accepted z in let v = g .if-accepted z in printed-fixed (same-text (u .answer) (v .answer) (u .is-answer) (v .is-answer)) (u .is-shown) (v .is-shown)
   ]
     where
-      printed-fixed : {t t′ : List ℕ} → t ≡ t′ → Prints t area r area′ → Prints t′ area s area″ → (r .refusal ≡ s .refusal) × (r .length ≡ s .length) × (area′ ≡ area″)
-      printed-fixed e p q = (
-        p .refusal-is ∙ ap (λ (t : List ℕ). print-refusal t area) e ∙ sym (q .refusal-is),
-        p .length-is ∙ ap (λ (t : List ℕ). length (printed t area)) e ∙ sym (q .length-is),
-        p .bytes-are ∙ ap (λ (t : List ℕ). over (printed t area) area) e ∙ sym (q .bytes-are),
-      )
-
       same-text : (t u : Reason) → FileReason file x t → FileReason file x u → reason-text t ≡ reason-text u
       same-text t u h k =
           ap₂ (λ (w : ℕ) (given : Bool). line (ascii "reason") (column-items (members w)) ++ multiplier-line given (t .multipliers)) (h .set-number ∙ sym (k .set-number)) (h .is-given ∙ sym (k .is-given))

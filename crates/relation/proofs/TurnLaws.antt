@@ -16,7 +16,7 @@ use Rattle.columns.specs.Words.Rows.{with-row-length, with-row-there, with-row-
 use Rattle.columns.specs.Words.SetLaws.{removed-old, removed-gone, removed-other, inserted-same, inserted-old, inserted-split}
 use Rattle.relation.specs.Relations.{row-of, closure, HasRow, SameRest, Joined, ClosedOver}
 use Rattle.relation.specs.RowLaws.{put-same, put-other, no-row, put-past, same-rows}
-use Rattle.relation.specs.Closures.{HasAll, LeadsTo, DoneRow, Partly, closure-is}
+use Rattle.relation.specs.Closures.{LeadsTo, DoneRow, Partly, closure-is}
 
 -- ---- what is no row
 

@@ -1,8 +1,8 @@
 -- What `closure` says; and the least set that has a column and, with each column, all of its row, as a statement. Assumes nothing.
 use Prim.Native.Nat.{ℕ, _<_}
-use mathlib.Core.Path.{_≡_, refl, _∙_}
+use mathlib.Core.Path.{_≡_, refl}
 use mathlib.Core.Bool.{Bool, true, false, not, _&&_, _||_, decide, decide-iff}
-use mathlib.Core.Logic.{_↔_, _⊎_, inl, inr}
+use mathlib.Core.Logic.{_↔_, _⊎_}
 use mathlib.Core.List.{List}
 use native.Mathlib.Decide.{decLt}
 use Rattle.counting.specs.Bools.{iff-eq, and-in, and-left, and-right, implied, implies}

@@ -25,8 +25,8 @@ pub fn join(rows: &mut [u64], at: ColumnSet, set: ColumnSet)
     }
 }
 
-// What is left to be read of a front when the row of its column y has been. Where the row is done, it has all that it leads to, and none of
-// these has to be read; else what was not found before has.
+// The columns whose rows are still to be read, after that of y. Where the row is done, it has all that it leads to, and none of these has
+// to be read; else what was not found before has.
 fn ahead(front: ColumnSet, found: ColumnSet, row: ColumnSet, y: usize, known: bool) -> ColumnSet
     ensures { λ r. ⌜ Ahead (members (whole front)) (members (whole found)) (members (whole row)) y known (members (whole r)) ⌝ }
 {
@@ -37,7 +37,7 @@ fn ahead(front: ColumnSet, found: ColumnSet, row: ColumnSet, y: usize, known: bo
     columns::without(columns::union(front, new), y)
 }
 
-// A column of the set, and one that is done where there is such a one: it spares most others.
+// A column of the set: one whose row is done, where there is one, since nothing of such a row has to be read again.
 fn pick_done(set: ColumnSet, done: ColumnSet) -> usize
     requires { ⌜ # width (members (whole set)) ≢ 0 ⌝ }
     ensures { λ r. ⌜ (r < width) × (r ∈ members (whole set)) ⌝ }
@@ -66,11 +66,11 @@ fn reached(rows: &[u64], done: ColumnSet, x: usize) -> ColumnSet
     found
 }
 
-// From one column to the next in which rows are closed: about 0.618 of all, so that those that are done lie spread. Where columns lead to
-// one another in the order of their numbers, up or down, one that is done is then soon met.
+// Which column is taken next changes the time alone. Of 96 columns each lies 59 further than the next one taken, around the end, so that
+// those that are done lie spread: where columns lead to one another in the order of their numbers, one that is done is then soon met.
 const STEP: usize = 59;
 
-// A column of the set.
+// A column of the set: the one due by the step, or the first one where that is none of the set.
 fn pick_spread(set: ColumnSet) -> usize
     requires { ⌜ # width (members (whole set)) ≢ 0 ⌝ }
     ensures { λ r. ⌜ (r < width) × (r ∈ members (whole set)) ⌝ }

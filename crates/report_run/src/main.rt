@@ -1,5 +1,5 @@
-// Prints S2's report, S9's mixed one, and that of the reason for S3's column 1, into an area a byte longer than the text, one as long and
-// one a byte shorter; then the reports of two models with surplus equations. A report is which number and which length the call gives, and
+// Prints S2's report, S9's mixed one, that of the reason for S3's column 1, and that of S4's blocks, into an area a byte longer than the
+// text, one as long and one a byte shorter; then the reports of two models with surplus equations. A report is which number and which length the call gives, and
 // then the whole area, which held full stops before.
 use text::Printed;
 
@@ -25,6 +25,7 @@ fn main() {
     let mut mixed_short = [FULL_STOP; 48];
     mixed(s9, &mut mixed_short);
     reasons();
+    blocks();
     surplus();
 }
 
@@ -38,6 +39,18 @@ fn reasons() {
     reason(s3, &mut whole);
     let mut short = [FULL_STOP; 26];
     reason(s3, &mut short);
+}
+
+fn blocks() {
+    // S4: p 1,021, n 5, constant rows 1 1 1 1 0 and 0 2 1 1 0, parameter rows {0, 4} and {1, 4}.
+    let s4 =
+        b"\x01\x02\x00\xFD\x03\x02\x03\x00\x05\x02\x02\x03\x0A\x00\x01\x00\x01\x00\x01\x00\x01\x00\x00\x00\x03\x0A\x00\x00\x00\x02\x00\x01\x00\x01\x00\x00\x00\x04\x08\x00\x11\x00\x00\x00\x00\x00\x00\x00\x04\x08\x00\x12\x00\x00\x00\x00\x00\x00\x00\x05\x00\x00";
+    let mut longer = [FULL_STOP; 47];
+    listing(s4, &mut longer);
+    let mut whole = [FULL_STOP; 46];
+    listing(s4, &mut whole);
+    let mut short = [FULL_STOP; 45];
+    listing(s4, &mut short);
 }
 
 fn surplus() {
@@ -66,6 +79,11 @@ fn mixed(file: &[u8], area: &mut [u8]) {
 fn reason(file: &[u8], area: &mut [u8]) {
     let printed = reason_report::report_reason_file(file, 1, area);
     show(b"reason", printed, area);
+}
+
+fn listing(file: &[u8], area: &mut [u8]) {
+    let printed = blocks_report::report_blocks_file(file, area);
+    show(b"blocks", printed, area);
 }
 
 fn show(word: &[u8], printed: Printed, area: &[u8]) {

@@ -118,7 +118,7 @@ fn put_pair(out: &mut [u8], at: usize, first: usize, second: usize) -> usize
 }
 
 // A number with the space before it.
-fn put_item(out: &mut [u8], at: usize, x: usize) -> usize
+pub fn put_item(out: &mut [u8], at: usize, x: usize) -> usize
     ensures { λ r. ⌜ Puts (item x) (now (out .entry)) at (now (out .exit)) r ⌝ }
 {
     let after_space = put_byte(out, at, SPACE);

@@ -5,7 +5,7 @@ use mathlib.Core.Path.{_≡_, sym, _∙_, ap}
 use mathlib.Core.Logic.{_≢_}
 use borrow.Author.Tests.{eqb-true, eqb-false, not-false}
 use Rattle.counting.specs.Bools.{not-in}
-use Rattle.counting.specs.Sets.{Set, _∈_, _∩_, ∁, #}
+use Rattle.counting.specs.Sets.{_∈_, _∩_, ∁, #}
 use Rattle.columns.specs.Columns.{width, members}
 use Rattle.columns.specs.ColumnSets.{whole}
 use Rattle.columns.specs.Words.Sets.{columns-below}
@@ -13,7 +13,6 @@ use Rattle.columns.specs.Words.SetLaws.{removed-less, least-there, nothing-in}
 use Rattle.relation.specs.Relations.{row-of}
 use Rattle.blocks.proofs.NeedLaws.{Needing, unlike, needing-start, needing-more, needing-done}
 use borrow.Author.Needs.{needs}
-use native.Mathlib.Omega.{arith}
 use Rattle.blocks.proofs.all_needs.Statement.{statement}
 use Rattle.blocks.proofs.all_needs.Tie as tie
 

@@ -13,7 +13,6 @@ use Rattle.columns.specs.Words.SetLaws.{removed-less, least-there, nothing-in}
 use Rattle.relation.specs.Relations.{row-of}
 use Rattle.blocks.proofs.NeedLaws.{Sizing, sizing-start, sizing-turn, sizing-done}
 use borrow.Author.Needs.{needs}
-use native.Mathlib.Omega.{arith}
 use Rattle.blocks.proofs.by_size.Statement.{statement}
 use Rattle.blocks.proofs.by_size.Tie as tie
 

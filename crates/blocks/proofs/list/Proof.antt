@@ -13,7 +13,7 @@ use Rattle.columns.specs.ColumnSets.{whole}
 use Rattle.columns.specs.Words.SetLaws.{least-there, removed-less}
 use Rattle.relation.specs.Relations.{row-of}
 use Rattle.blocks.specs.Code.{Ordered, NeedsShown}
-use Rattle.blocks.proofs.ListLaws.{Listing, Watched, listing-start, listing-more, listing-done, watched-start, watched-wait, watched-listed, rest-below, some-awake, least-awake, in-room, next-room, fewer-left, few-rounds}
+use Rattle.blocks.proofs.ListLaws.{Listing, Watched, listing-start, listing-more, listing-done, watched-start, watched-wait, watched-listed, rest-below, some-awake, least-awake, in-room, fewer-left, few-rounds}
 use borrow.Author.Needs.{needs}
 use native.Mathlib.Omega.{arith}
 use Rattle.blocks.proofs.list.Statement.{statement}

@@ -1,6 +1,6 @@
 -- `blocks::number_block` meets its contract. The invariant: the columns that are not left have the number. The measure is the number of those that are
 -- left. Assumes nothing.
-use Prim.Native.Nat.{ℕ, _<_}
+use Prim.Native.Nat.{_<_}
 use mathlib.Core.Path.{_≡_, sym, _∙_}
 use mathlib.Core.Logic.{_≢_}
 use borrow.Author.Tests.{eqb-true, eqb-false, not-false}

@@ -1,6 +1,6 @@
 -- `blocks::woken` meets its contract. The invariant: those that wait for a column that is not left have been met. The measure is the number of columns
 -- that are left. Assumes nothing.
-use Prim.Native.Nat.{ℕ, _<_}
+use Prim.Native.Nat.{_<_}
 use mathlib.Core.Path.{_≡_, sym, _∙_, ap}
 use mathlib.Core.Logic.{_≢_}
 use borrow.Author.Tests.{eqb-true, eqb-false, not-false}

@@ -28,7 +28,7 @@ module _ (M : Model) where
   open Model M using (K, a, b, n, Q, T, E)
 
   -- a valid state that places the placed set: its search from all unplaced columns meets no terminal column
-  optimal : (s : StateOf M) × Good M s × Closed s (layer s (unplaced s) n)
+  pub optimal : (s : StateOf M) × Good M s × Closed s (layer s (unplaced s) n)
   unfolding placed
   optimal =
       let p : (A : Assignment) × Legal M A × ((x : ℕ) → x < n → placing A x ≡ placed M x) = placed-legal M in

@@ -1,11 +1,10 @@
 -- `relation::close` meets its contract. The invariant: the rows of the columns that are not left have been closed. The measure is the number of columns
 -- that are left. Assumes nothing.
-use Prim.Native.Nat.{ℕ, _<_}
 use mathlib.Core.Path.{_≡_, sym, _∙_}
 use mathlib.Core.Logic.{_≢_}
 use borrow.Author.Tests.{eqb-true, eqb-false, not-false}
 use Rattle.counting.specs.Bools.{not-in}
-use Rattle.counting.specs.Sets.{_∈_, #}
+use Rattle.counting.specs.Sets.{#}
 use Rattle.columns.specs.Columns.{width, members}
 use Rattle.columns.specs.ColumnSets.{whole}
 use Rattle.columns.specs.Words.Sets.{columns-below, empty-none}
@@ -13,7 +12,6 @@ use Rattle.columns.specs.Words.SetLaws.{removed-less, nothing-in}
 use Rattle.relation.specs.Relations.{row-of}
 use Rattle.relation.proofs.TurnLaws.{Closing, closing-start, closing-more, closing-done}
 use borrow.Author.Needs.{needs}
-use native.Mathlib.Omega.{arith}
 use Rattle.relation.proofs.close.Statement.{statement}
 use Rattle.relation.proofs.close.Tie as tie
 

@@ -5,14 +5,13 @@ use mathlib.Core.Path.{_≡_, sym, _∙_, ap}
 use mathlib.Core.Logic.{_≢_}
 use borrow.Author.Tests.{eqb-true, eqb-false, not-false}
 use Rattle.counting.specs.Bools.{not-in}
-use Rattle.counting.specs.Sets.{Set, _∈_, _∪_, #}
+use Rattle.counting.specs.Sets.{_∈_, _∪_, #}
 use Rattle.columns.specs.Columns.{width, members}
 use Rattle.columns.specs.ColumnSets.{whole}
 use Rattle.columns.specs.Words.Sets.{columns-below}
 use Rattle.columns.specs.Words.SetLaws.{removed-less, least-there, nothing-in}
 use Rattle.relation.proofs.TurnLaws.{Joining, joining-start, joining-more, joining-done}
 use borrow.Author.Needs.{needs}
-use native.Mathlib.Omega.{arith}
 use Rattle.relation.proofs.join.Statement.{statement}
 use Rattle.relation.proofs.join.Tie as tie
 

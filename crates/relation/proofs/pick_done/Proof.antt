@@ -2,7 +2,7 @@
 use mathlib.Core.Path.{sym, _∙_, ap}
 use borrow.Author.Tests.{eqb-false}
 use Rattle.counting.specs.Bools.{and-left}
-use Rattle.counting.specs.Sets.{Set, _∈_, _∩_}
+use Rattle.counting.specs.Sets.{Set}
 use Rattle.columns.specs.Columns.{width, members}
 use Rattle.columns.specs.ColumnSets.{whole}
 use Rattle.columns.specs.Words.SetLaws.{least-there}

@@ -1,11 +1,11 @@
 -- `relation::reached` meets its contract. The invariant: what has been found is what the column leads to, up to the front. The measure is the number of
 -- columns that have not been read. Assumes nothing.
-use Prim.Native.Nat.{ℕ, _<_}
+use Prim.Native.Nat.{ℕ}
 use mathlib.Core.Path.{_≡_, sym, _∙_, ap}
 use mathlib.Core.Logic.{_≢_}
 use borrow.Author.Tests.{eqb-true, eqb-false, not-false}
 use Rattle.counting.specs.Bools.{not-in}
-use Rattle.counting.specs.Sets.{Set, _∈_, _⊆_, #}
+use Rattle.counting.specs.Sets.{Set, _⊆_, #}
 use Rattle.columns.specs.Columns.{width, members}
 use Rattle.columns.specs.ColumnSets.{whole, Fits}
 use Rattle.columns.specs.Words.Sets.{columns-below}
@@ -14,7 +14,6 @@ use Rattle.relation.specs.Relations.{row-of}
 use Rattle.relation.specs.Closures.{Partly}
 use Rattle.relation.proofs.ReachLaws.{Reaching, unread, reaching-start, reaching-done, reaching-more, inside-start, inside-more, unread-less}
 use borrow.Author.Needs.{needs}
-use native.Mathlib.Omega.{arith}
 use Rattle.relation.proofs.reached.Statement.{statement}
 use Rattle.relation.proofs.reached.Tie as tie
 

@@ -1,0 +1,2 @@
+pub mod BlockColumns
+pub mod Lines

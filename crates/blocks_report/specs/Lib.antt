@@ -1,0 +1,3 @@
+-- The report of the blocks of the model in a file.
+pub mod BlocksReport
+pub mod BlocksReportExamples
