@@ -11,15 +11,13 @@ use lib.ListN as ListN
 use lib.Dec.{eqb}
 use lib.Seq.{getD-set-same, getD-set-other}
 use borrow.Author.Tests.{ne-eqb, eq-eqb}
-use Rattle.residue.specs.Arithmetic.{is-prime, mul-of, inv-of}
-use Rattle.residue.specs.Fields.{Field}
+use Rattle.residue.specs.Arithmetic.{is-prime}
 use Rattle.counting.specs.Bools.{iff-eq}
 use Rattle.counting.specs.Sets.{_∈_, set}
 use Rattle.counting.specs.Counts.{some?, set-same, set-other}
 use Rattle.rank.specs.Modulus.{field-of, residue-of}
-use Rattle.rank.specs.ModulusLaws.{residue-mul, residue-add, residue-inv, residue-neg, residue-zero}
+use Rattle.rank.specs.ModulusLaws.{residue-zero}
 use Rattle.rank.specs.Linear.Kernels.{hits, hits-iff}
-use Rattle.rank.specs.Linear.Tableaus.{pivot, pivot-row, pivot-other}
 use Rattle.rank.specs.Graph.States.{Placed, Moved, Entered}
 use Rattle.rank.specs.Layered.Model.{Model}
 use Rattle.rank.specs.Layered.Valid.{touch, touch-constant, touch-row, Valid, state, seated, seated-constant, seated-row, seat-valid}
@@ -30,8 +28,8 @@ use Rattle.exchange.specs.Code.Cells.{cell, Below, Pivoted}
 use Rattle.exchange.specs.Code.Scanning.{Arrays, touched, owner-at}
 use Rattle.exchange.proofs.ScanningLaws.{touched-constant, touched-parameter}
 use Rattle.exchange.specs.Code.Searching.{Shows}
-use Rattle.exchange.specs.Code.Held.{vacated-owner, Sat, Given, model-of, Held}
-use Rattle.exchange.proofs.CellLaws.{cleared-is}
+use Rattle.exchange.specs.Code.Held.{vacated-owner, Sat, Given, model-of, ShowsRows, Held}
+use Rattle.exchange.proofs.PivotLaws.{pivoted-cells}
 
 -- the owner of a row that x leaves, and that of another
 pub vacated-same : (x n y : ℕ) → y ≡ x → vacated-owner x n y ≡ n
@@ -47,8 +45,6 @@ module _ (p n a b : ℕ) (ws : List ℕ) (G : Given p n b ws) where
   M = model-of p n a b ws G
 
   module _ (prime : is-prime p ≡ true) where
-    open Field (field-of p) using (inv, _+_ as _⊕_, _·_ as _⊙_)
-
     nonzero : (v : ℕ) → v < p → (not (eqb v 0) ≡ true) ↔ (residue-of p v ≢ field-of p .𝟘)
     nonzero v l = (
       λ e z. true≢false (sym e ∙ ap not (eq-eqb v 0 (residue-zero p prime v l .0 z))),
@@ -79,24 +75,10 @@ module _ (p n a b : ℕ) (ws : List ℕ) (G : Given p n b ws) where
               ∙ sym (touch-constant M (h .good .P) q x lq ∙ all-offered _ o)
         ]
 
-    -- a pivot, read in the field
-    pivoted-cells : (t u : List ℕ) (P : ℕ → ℕ → field-of p .F) (k x : ℕ) → Below p t → ((r c : ℕ) → r < a → c < n → residue-of p (cell t r c) ≡ P r c)
-        → k < a → x < n → Pivoted p n a k x t u → (r c : ℕ) → r < a → c < n → residue-of p (cell u r c) ≡ pivot (field-of p) P k x r c
-    pivoted-cells t u P k x bt e lk lx d r c lr lc = elim (ℕ-discrete r k) [
-      | yes w ↦ rw w (ap (residue-of p) (d .row c lc) ∙ first ∙ sym (ap (λ f. f c) (pivot-row (field-of p) P k x)))
-      | no nw ↦ ap (residue-of p) (d .others r c lr nw lc ∙ cleared-is p _ _ _)
-          ∙ residue-add p prime _ _
-          ∙ ap (λ y. residue-of p (cell t r c) ⊕ y) (residue-mul p prime _ _ ∙ ap (λ y. y ⊙ residue-of p (mul-of p (inv-of p (cell t k x)) (cell t k c))) (residue-neg p prime _ (omega (arith, bt (r * stride + x)))))
-          ∙ rw (first, e r c lr lc, e r x lr lx) (sym (ap (λ f. f c) (pivot-other (field-of p) P k x r nw)))
-    ]
-      where
-        first : residue-of p (mul-of p (inv-of p (cell t k x)) (cell t k c)) ≡ inv (P k x) ⊙ P k c
-        first = residue-mul p prime _ _ ∙ rw (residue-inv p prime (cell t k x), e k x lk lx, e k c lk lc) refl
-
-    seated-cells : (t u : List ℕ) (P : ℕ → ℕ → field-of p .F) (q x : ℕ) → Below p t → ((r c : ℕ) → r < a → c < n → residue-of p (cell t r c) ≡ P r c)
-        → x < n → (q < a → Pivoted p n a q x t u) → (a ≤ q → u ≡ t) → (r c : ℕ) → r < a → c < n → residue-of p (cell u r c) ≡ seated M P q x r c
+    seated-cells : (t u : List ℕ) (P : ℕ → ℕ → field-of p .F) (q x : ℕ) → Below p t → ShowsRows p n a P t
+        → x < n → (q < a → Pivoted p n a q x t u) → (a ≤ q → u ≡ t) → ShowsRows p n a (seated M P q x) u
     seated-cells t u P q x bt e lx d k r c lr lc = elim (decLt q a) [
-      | yes l ↦ pivoted-cells t u P q x bt e l lx (d l) r c lr lc ∙ sym (ap (λ f. f r c) (seated-constant M P q x l))
+      | yes l ↦ pivoted-cells p prime n a t u P q x bt e l lx (d l) r c lr lc ∙ sym (ap (λ f. f r c) (seated-constant M P q x l))
       | no nl ↦ ap (λ v. residue-of p (cell v r c)) (k (omega arith)) ∙ e r c lr lc ∙ sym (ap (λ f. f r c) (seated-row M P q x (omega arith)))
     ]
 

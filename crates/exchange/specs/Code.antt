@@ -9,3 +9,4 @@ pub mod Offering
 pub mod Answer
 pub mod Reading
 pub mod Arcs
+pub mod Reducing

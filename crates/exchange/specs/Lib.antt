@@ -5,4 +5,5 @@ pub mod Solve
 pub mod SolveLaws
 pub mod DependenceCall
 pub mod ReachCall
+pub mod Reduction
 pub mod Code

@@ -1,9 +1,10 @@
-// Whether a model can be taken: its sizes, its areas, its prime and its constants.
+// Whether a model can be taken: its sizes, its areas, its prime and its constants; and whether constants can, to be reduced.
 ghost use mathlib.Core.Path.{_≡_};
 ghost use Prim.Native.Nat.{_*_, _<_, _≤_};
 ghost use lib.ListN.{length};
 ghost use Rattle.columns.specs.ColumnSets.{whole, row-numbers};
 ghost use Rattle.exchange.specs.Solve.{all-below, fitting, admissible};
+ghost use Rattle.exchange.specs.Reduction.{reducible};
 ghost use Rattle.exchange.specs.Code.Admission.{Largest};
 use columns::ColumnSet;
 use limits::MOST_COLUMNS;
@@ -73,4 +74,24 @@ pub fn is_admissible(
         return false;
     }
     constants_below(constants, a * n, p)
+}
+
+// Whether rows can be reduced: the constants can be taken, and each column has a weight and each row a level.
+pub fn is_reducible(
+    p: u32,
+    n: usize,
+    a: usize,
+    weights: &[u16],
+    levels: &[u16],
+    constants: &[u16],
+) -> bool
+    ensures { λ r. ⌜ r ≡ reducible p n a (now (weights .entry)) (now (levels .entry)) (now (constants .entry)) ⌝ }
+{
+    if !is_admissible(p, n, a, 0, columns::empty(), constants, &[]) {
+        return false;
+    }
+    if n > weights.len() {
+        return false;
+    }
+    a <= levels.len()
 }

@@ -1,6 +1,7 @@
 // Elimination and matching: the answer to a layered model, by placing one column after another on a row of its own.
 // Over the column sets of `columns`: the tableau, the search of the exchange graph, seats, and the offering of columns; how a
-// column depends on others, read off the tableau; and what reaches each column in the final state. Code outside sees three calls.
+// column depends on others, read off the tableau; what reaches each column in the final state; and rows of constants reduced, each at
+// an entry that stands at its level. Code outside sees four calls.
 ghost use mathlib.Core.Path.{_≡_};
 ghost use mathlib.Core.Logic.{_↔_};
 ghost use mathlib.Core.Bool.{true, false};
@@ -15,6 +16,7 @@ ghost use Rattle.columns.specs.ColumnSets.{most-words, whole, row-numbers};
 ghost use Rattle.exchange.specs.Solve.{Nothing, SolvedBy, Solves};
 ghost use Rattle.exchange.specs.DependenceCall.{NoMultipliers, DependenceShown, DependenceCall};
 ghost use Rattle.exchange.specs.ReachCall.{ReachShown, ReachCall};
+ghost use Rattle.exchange.specs.Reduction.{ReduceCall};
 ghost use Rattle.exchange.specs.Code.Cells.{TableauArray};
 ghost use Rattle.exchange.specs.Code.Held.{Given, model-of, ShowsRows, ShowsConstants};
 
@@ -22,6 +24,7 @@ mod admission;
 mod arcs;
 mod offering;
 mod reading;
+mod reduction;
 mod search;
 mod seating;
 mod sizes;
@@ -259,4 +262,31 @@ pub fn column_reach(
         return reach_rows(&mut t, parameters, &inverses, p as u16, n, a, b, offered);
     }
     reach_rows(&mut t, parameters, &[], p as u16, n, a, b, offered)
+}
+
+// The constants, row by row, after each row has been reduced at its first entry that stands at its level: where a column's weight is
+// the row's level and the row is not zero there. Whether the call was taken; where not, nothing has changed.
+pub fn reduce(
+    p: u32,
+    n: usize,
+    a: usize,
+    weights: &[u16],
+    levels: &[u16],
+    constants: &mut [u16],
+) -> bool
+    ensures { λ r. ⌜ ReduceCall p n a (now (weights .entry)) (now (levels .entry)) (now (constants .entry)) r (now (constants .exit)) ⌝ }
+{
+    if !admission::is_reducible(p, n, a, weights, levels, constants) {
+        return false;
+    }
+    let mut t = [0u16; CELLS];
+    tableau::fill(&mut t, constants, n, a);
+    if p == LISTED_PRIME {
+        let inverses = residue::listed_inverses();
+        reduction::reduce_rows(&mut t, &inverses, weights, levels, p as u16, n, a);
+    } else {
+        reduction::reduce_rows(&mut t, &[], weights, levels, p as u16, n, a);
+    }
+    tableau::copy_back(&t, constants, n, a);
+    true
 }

@@ -1,4 +1,4 @@
--- Who causes which number: the refusals of document 01 and of document 02, E1, E2 and E4, the test behind each, and the judgement of a model handed over.
+-- Who causes which number: the refusals of document 01 and of document 02, E1, E2, E4 and E14, the test behind each, and the judgement of a model handed over.
 -- A judgement is a list of tests in the order in which they are made; it gives the number of the first that fails, or 0.
 -- Definitions only; RefusalLaws says how they read.
 use Prim.Native.Nat.{ℕ, zero, suc, _+_, _-_, _*_}
@@ -35,6 +35,8 @@ pub data Cause : Type 0 where
   column-placed : Cause
   -- whoever numbered the parameters
   number-twice : Cause
+  -- whoever asks for a degree
+  no-degree : Cause
 
 abbrev pub number-of : Cause → ℕ
 number-of truncated = 1
@@ -50,6 +52,7 @@ number-of not-mixed = 10
 number-of column-beyond = 11
 number-of column-placed = 12
 number-of number-twice = 13
+number-of no-degree = 16
 
 -- ---- tests in their order
 
@@ -156,16 +159,24 @@ number-test n ws (some ks) = once (flatten (numbers-in n ws ks))
 
 -- ---- a model handed over without a file: p, n, a, b, and the areas that hold its constants, its parameter rows and, where it is numbered, their numbers
 
-unfoldable pub model-tests : (p n a b : ℕ) (cs ws : List ℕ) → Option (List ℕ) → Tests
-model-tests p n a b cs ws ns =
+-- its numbers and its areas
+abbrev pub area-tests : (p n a b : ℕ) (cs ws : List ℕ) → Option (List ℕ) → Tests
+area-tests p n a b cs ws ns =
     unless (prime-test p) not-prime
     then unless (size-test n a b) sizes-beyond
     then unless (area-test (a * n) (length cs)) area-short
     then unless (area-test b (length ws)) area-short
     then unless (numbers-room (b * n) ns) area-short
-    then unless (constant-test p (take (a * n) cs)) constant-beyond
+
+-- what stands in the areas
+abbrev pub content-tests : (p n a b : ℕ) (cs ws : List ℕ) → Option (List ℕ) → Tests
+content-tests p n a b cs ws ns =
+    unless (constant-test p (take (a * n) cs)) constant-beyond
     then unless (parameter-test n (take b ws)) parameter-beyond
     then unless (number-test n (take b ws) ns) number-twice
+
+unfoldable pub model-tests : (p n a b : ℕ) (cs ws : List ℕ) → Option (List ℕ) → Tests
+model-tests p n a b cs ws ns = area-tests p n a b cs ws ns then content-tests p n a b cs ws ns
 
 unfoldable pub refusal : (p n a b : ℕ) (cs ws : List ℕ) → Option (List ℕ) → ℕ
 unfolding model-tests

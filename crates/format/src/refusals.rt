@@ -30,3 +30,6 @@ pub const COLUMN_PLACED: u32 = 12;
 
 // Whoever numbered the parameters.
 pub const NUMBER_TWICE: u32 = 13;
+
+// Whoever asks for a degree.
+pub const NO_DEGREE: u32 = 16;

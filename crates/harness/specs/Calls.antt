@@ -18,6 +18,9 @@ use Rattle.reason.specs.Bytes.{reason-length, reason-bytes}
 use Rattle.acceptance.specs.Bytes.{claim-question, AcceptanceOf, acceptance-length, acceptance-bytes}
 use Rattle.blocks.specs.Answers.{BlocksAnswered}
 use Rattle.blocks.specs.Bytes.{blocks-length, blocks-bytes}
+use Rattle.degrees.specs.Degrees.{listed-powers}
+use Rattle.degree.specs.Answers.{dynamic-tests, DegreeAnswered}
+use Rattle.degree.specs.Bytes.{degree-length, degree-bytes}
 
 -- the layered call: as the model is judged, then 8 for the area
 abbrev pub LayeredBytes : (p n a b : ℕ) (cs ws : List ℕ) → Option (List ℕ) → (area : List ℕ) (number : ℕ) (area′ : List ℕ) → Type 0
@@ -45,6 +48,11 @@ AcceptanceCallBytes p n a b cs ws ns claim =
 -- the call about blocks: as the model is judged, then 8 for the area
 abbrev pub BlocksCallBytes : (p n a b : ℕ) (cs ws : List ℕ) → Option (List ℕ) → (area : List ℕ) (number : ℕ) (area′ : List ℕ) → Type 0
 BlocksCallBytes p n a b cs ws ns = AreaCall (model-tests p n a b cs ws ns) [] blocks-length (WrittenOver (BlocksAnswered (listed-model p n a b cs ws)) blocks-bytes)
+
+-- the call about the degree: as the model, its areas of powers and then the question are judged, then 8 for the area
+abbrev pub DegreeCallBytes : (p n a b : ℕ) (cs ws : List ℕ) → Option (List ℕ) → (rp cp pp area : List ℕ) (number : ℕ) (area′ : List ℕ) → Type 0
+DegreeCallBytes p n a b cs ws ns rp cp pp =
+    AreaCall (dynamic-tests p n a b cs ws ns rp cp pp) [] degree-length (WrittenOver (DegreeAnswered (listed-model p n a b cs ws) (listed-powers n rp cp pp)) degree-bytes)
 
 -- a reading: the refusal, and the areas afterwards; some sizes are those of the file
 pub record FileInAreas (s cs ws ks : List ℕ) (refusal : ℕ) (cs′ ws′ ks′ : List ℕ) : Type 0 where

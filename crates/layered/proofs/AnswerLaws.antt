@@ -38,7 +38,7 @@ use Rattle.layered.specs.Answers.{Answered}
 use Rattle.layered.specs.Beforehand.{beforehand}
 
 -- what holds of the first k elements
-all-taken : (Is : ℕ → Type 0) (k : ℕ) (xs : List ℕ) (d : ℕ) → k ≤ length xs → ((i : ℕ) → i < k → Is (getD xs i d)) → All Is (take k xs)
+pub all-taken : (Is : ℕ → Type 0) (k : ℕ) (xs : List ℕ) (d : ℕ) → k ≤ length xs → ((i : ℕ) → i < k → Is (getD xs i d)) → All Is (take k xs)
 all-taken Is zero xs d l h = tt
 all-taken Is (suc k) [] d l h = absurd (omega arith)
 all-taken Is (suc k) (x ∷ xs) d l h = (h 0 (omega arith), all-taken Is k xs d (omega arith) (λ i m. h (suc i) (omega arith)))

@@ -1,4 +1,4 @@
--- Document 01, "The host and the program", and document 02, E1, E2 and E12: the calls for a host in C. Definitions only.
+-- Document 01, "The host and the program", and document 02, E1, E2, E7, E12 and E14: the calls for a host in C. Definitions only.
 use Prim.Native.Nat.{ℕ}
 use mathlib.Core.List.{List, []}
 use lib.ListN.{length, take}
@@ -19,6 +19,9 @@ use Rattle.reason.specs.Bytes.{reason-length, reason-bytes}
 use Rattle.acceptance.specs.Bytes.{claim-question, AcceptanceOf, acceptance-length, acceptance-bytes}
 use Rattle.blocks.specs.Answers.{BlocksAnswered}
 use Rattle.blocks.specs.Bytes.{blocks-length, blocks-bytes}
+use Rattle.degrees.specs.Degrees.{listed-powers}
+use Rattle.degree.specs.Answers.{file-question, DegreeAnswered}
+use Rattle.degree.specs.Bytes.{degree-length, degree-bytes}
 
 -- the layered call: 1 to 7 and 13 as the file is judged, then 8 for the area; where it refuses, the area is as it was
 abbrev pub HostAnswer : (file area : List ℕ) (number : ℕ) (area′ : List ℕ) → Type 0
@@ -52,3 +55,9 @@ HostAccepts file claim = AreaCall (closed fields file) (claim-question claim) ac
 -- the call about blocks: 1 to 7 and 13, then 8
 abbrev pub HostBlocks : (file area : List ℕ) (number : ℕ) (area′ : List ℕ) → Type 0
 HostBlocks file = AreaCall (closed fields file) [] blocks-length (WrittenOver (BlocksAnswered (file-model file)) blocks-bytes)
+
+-- the call about the degree, with areas for the powers of constant rows, columns and parameters: 1 to 7 and 13, then 8 for all four areas, then 16
+abbrev pub HostDegree : (file rp cp pp area : List ℕ) (number : ℕ) (area′ : List ℕ) → Type 0
+HostDegree file rp cp pp =
+    AreaCall (closed fields file) (file-question file rp cp pp) degree-length
+    (WrittenOver (DegreeAnswered (file-model file) (listed-powers (decode file .n) rp cp pp)) degree-bytes)

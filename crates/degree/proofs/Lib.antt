@@ -1,0 +1,7 @@
+pub mod TopLaws
+pub mod LevelLaws
+pub mod TightLaws
+pub mod RoundLaws
+pub mod AnswerLaws
+pub mod JudgementLaws
+pub mod FileLaws
