@@ -1,12 +1,14 @@
 /* Times the library's layered call, the same in plain Rust, and FLINT's ranks, on the same models in one process; then the longest
  * file against that of the same model unnumbered; then the calls about a column against the layered call and FLINT's solving; then
  * the call about a claim against the layered call and FLINT's ranks; then the call about blocks against the layered call and against
- * the reference's blocks, in plain C.
+ * the reference's blocks, in plain C; then the call about a degree against the layered call and against the reference's shortest ways.
  * Prints a line for each kind of model: its table, its name, then microseconds a call of each method, parted by '|'. */
 #define _POSIX_C_SOURCE 200809L
 #include "harness.h"
 #include "model.h"
 #include "parts.h"
+#include "rounds.h"
+#include "ways.h"
 #include "wundreska.h"
 
 #include <flint/nmod_mat.h>
@@ -17,7 +19,8 @@
 
 ModelCall plain_layered;
 
-enum { MODELS = 16, ROUNDS = 25, PARAMETERS_A_ROW = 3, CONSTANTS_A_ROW = 3, FEW_CONSTANT_ROWS = 16 };
+enum { MODELS = 16, ROUNDS = 25, FEW_ROUNDS = 5, PARAMETERS_A_ROW = 3, CONSTANTS_A_ROW = 3, FEW_CONSTANT_ROWS = 16 };
+static const double long_round = 2e5; /* microseconds, above which few rounds are run */
 static const uint64_t large_prime = (UINT64_C(1) << 61) - 1;
 
 /* ---- the models ---- */
@@ -104,6 +107,10 @@ typedef struct {
     slong rank;
     Assignment assignment; /* the reference's own, */
     Blocks blocks;         /* and its blocks */
+    Powers powers;         /* as the call takes them, */
+    Weights weights;       /* and as the reference does, */
+    Heaviest heaviest;     /* with what it finds; */
+    size_t rounds;         /* and how many the descent takes */
 } Work;
 
 typedef void Method(Work *work);
@@ -183,11 +190,13 @@ static double time_once(Method *method, Work *works, int repeats)
 static void time_all(Method *const *methods, int count, Work *works, double *best)
 {
     int repeats[4];
+    double all = 0;
     for (int i = 0; i < count; i++) {
         best[i] = time_once(methods[i], works, 1);
         repeats[i] = 1 + (int)(5000 / (best[i] * MODELS));
+        all += best[i] * MODELS * repeats[i];
     }
-    for (int round = 0; round < ROUNDS; round++)
+    for (int round = 0; round < (all > long_round ? FEW_ROUNDS : ROUNDS); round++)
         for (int i = 0; i < count; i++) {
             double t = time_once(methods[i], works, repeats[i]);
             best[i] = t < best[i] ? t : best[i];
@@ -597,6 +606,173 @@ static void measure_blocks(const char *kind, Model (*make)(size_t n), size_t n)
     clear_works(works);
 }
 
+/* ---- degrees, against the layered call on the same model and the reference's shortest ways ---- */
+
+/* The column that is planted for each row, so that most models are determined. */
+static Model with_planted(Model m)
+{
+    for (size_t r = 0; r < m.a; r++)
+        m.constants[r * m.n + r] = 1;
+    for (size_t r = 0; r < m.b; r++)
+        m.parameters[r] |= just(m.a + r);
+    return m;
+}
+
+static Model degree_plant(size_t n) { return with_planted(balances(n, n / 2, n - n / 2, PARAMETERS_A_ROW)); }
+static Model degree_halves(size_t n) { return with_planted(dense_rows(1021, n, n / 2, n - n / 2)); }
+static Model degree_constants(size_t n) { return with_planted(dense_rows(1021, n, n, 0)); }
+static Model degree_parameters(size_t n) { return with_planted(dense_rows(1021, n, 0, n)); }
+
+static Model degree_full(size_t n)
+{
+    Model m = {.p = 1021, .n = n, .a = 0, .b = n};
+    for (size_t r = 0; r < n; r++)
+        m.parameters[r] = all_below(n);
+    return m;
+}
+
+/* Row i, a constant one where it is odd, has its own column and so many more. */
+static Model alternating(size_t n, size_t more)
+{
+    Model m = {.p = 1021, .n = n, .a = n / 2, .b = n - n / 2};
+    for (size_t i = 0; i < n; i++)
+        for (size_t c = i; c < n && c <= i + more; c++) {
+            if (i % 2)
+                m.constants[i / 2 * n + c] = 1 + draw(m.p - 1);
+            else
+                m.parameters[i / 2] |= just(c);
+        }
+    return m;
+}
+
+static Model degree_alternating(size_t n) { return alternating(n, 1); }
+static Model degree_alternating_triangle(size_t n) { return alternating(n, n); }
+
+typedef void Fill(const Model *model, Powers *powers);
+
+static void fill_all(const Model *m, Powers *powers, uint64_t (*power)(void))
+{
+    for (size_t r = 0; r < m->a; r++)
+        powers->rows[r] = power();
+    for (size_t c = 0; c < m->n; c++)
+        powers->columns[c] = power();
+    for (size_t i = 0; i < m->b * m->n; i++)
+        powers->parameters[i] = power();
+}
+
+static uint64_t any_power(void) { return draw(WUNDRESKA_POWER_MAX + 1); }
+static uint64_t no_power(void) { return 0; }
+static void drawn_powers(const Model *m, Powers *powers) { fill_all(m, powers, any_power); }
+static void no_powers(const Model *m, Powers *powers) { fill_all(m, powers, no_power); }
+
+/* A row has the power 0 at its own column, so that this column has to rise above all others which the row has. In a model with constant
+ * rows every other row is one. */
+static void own_powers_0(const Model *m, Powers *powers)
+{
+    size_t step = m->a > 0 ? 2 : 1;
+    for (size_t r = 0; r < m->b; r++)
+        powers->parameters[r * m->n + r * step] = 0;
+    for (size_t c = 1; c < m->n && m->a > 0; c += 2)
+        powers->columns[c] = 0;
+}
+
+static uint64_t most_power(void) { return WUNDRESKA_POWER_MAX; }
+
+/* In a chain a row has the most at the next column. There the first column rises the highest that any does. */
+static void chain_powers(const Model *m, Powers *powers)
+{
+    fill_all(m, powers, most_power);
+    own_powers_0(m, powers);
+}
+
+static void triangle_powers(const Model *m, Powers *powers)
+{
+    drawn_powers(m, powers);
+    own_powers_0(m, powers);
+}
+
+static const struct {
+    const char *kind;
+    Model (*make)(size_t n);
+    Fill *fill;
+} dynamic[] = {
+    {"plant-like", degree_plant, drawn_powers},
+    {"dense constants", degree_halves, drawn_powers},
+    {"dense constants", degree_constants, drawn_powers},
+    {"few parameters a row", degree_parameters, drawn_powers},
+    {"all parameters", degree_full, drawn_powers},
+    {"dense constants, powers 0", degree_halves, no_powers},
+    {"chain, powers 0 and 15", blocks_falling, chain_powers},
+    {"alternating chain, powers 0 and 15", degree_alternating, chain_powers},
+    {"triangle, own powers 0", blocks_upper, triangle_powers},
+    {"alternating triangle, own powers 0", degree_alternating_triangle, triangle_powers},
+};
+
+static void degree(Work *w)
+{
+    const Model *m = &w->model;
+    memset(w->answer, 0, WUNDRESKA_DEGREE_SIZE);
+    if (harness_degree(m->p, m->n, m->a, m->b, m->constants, m->a * m->n, w->rows, m->b * ROW_WORDS, false, NULL, 0, w->powers.rows,
+                       m->a, w->powers.columns, m->n, w->powers.parameters, m->b * m->n, w->answer, WUNDRESKA_DEGREE_SIZE))
+        abort();
+}
+
+static void reference_degree(Work *w)
+{
+    w->heaviest = find_heaviest(&w->model, &w->weights);
+}
+
+/* A determined model, and its powers. */
+static void prepare_degree(Work *w, Model (*make)(size_t n), Fill *fill, size_t n)
+{
+    for (;;) {
+        prepare(w, make(n));
+        library(w);
+        if (w->answer[WUNDRESKA_VERDICT] == WUNDRESKA_DETERMINED)
+            break;
+        nmod_mat_clear(w->substituted);
+        nmod_mat_clear(w->constants);
+    }
+    fill(&w->model, &w->powers);
+    weigh(&w->model, &w->powers, &w->weights);
+}
+
+static void check_degree(Work *w)
+{
+    reference_degree(w);
+    degree(w);
+    Descent descent = descend(&w->model, &w->powers);
+    int given = w->answer[WUNDRESKA_DEGREE] + 256 * w->answer[WUNDRESKA_DEGREE + 1];
+    w->rounds = descent.rounds;
+    if (given != w->heaviest.total || descent.degree != w->heaviest.total) {
+        fprintf(stderr, "the library and the reference differ about a degree\n");
+        exit(1);
+    }
+}
+
+static double mean_rounds(const Work *works)
+{
+    double rounds = 0;
+    for (int k = 0; k < MODELS; k++)
+        rounds += works[k].rounds;
+    return rounds / MODELS;
+}
+
+static void measure_degree(const char *kind, Model (*make)(size_t n), Fill *fill, size_t n)
+{
+    static Work works[MODELS];
+    static Method *const methods[] = {degree, library, reference_degree};
+    double t[4];
+    for (int k = 0; k < MODELS; k++) {
+        prepare_degree(&works[k], make, fill, n);
+        check_degree(&works[k]);
+    }
+    time_all(methods, 3, works, t);
+    t[3] = mean_rounds(works);
+    print_times("degree", kind, &works[0].model, t, 4);
+    clear_works(works);
+}
+
 int main(void)
 {
     measure("dense", dense_1021);
@@ -626,6 +802,11 @@ int main(void)
     for (size_t i = 0; i < sizeof cut / sizeof *cut; i++) {
         measure_blocks(cut[i].kind, cut[i].make, WORD);
         measure_blocks(cut[i].kind, cut[i].make, MOST);
+    }
+    for (size_t i = 0; i < sizeof dynamic / sizeof *dynamic; i++) {
+        measure_degree(dynamic[i].kind, dynamic[i].make, dynamic[i].fill, WORD / 2);
+        measure_degree(dynamic[i].kind, dynamic[i].make, dynamic[i].fill, WORD);
+        measure_degree(dynamic[i].kind, dynamic[i].make, dynamic[i].fill, MOST);
     }
     return 0;
 }

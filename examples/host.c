@@ -6,11 +6,13 @@
  *        ./host --mixed models/s9.model
  *        ./host --blocks models/s2.model
  *        ./host --partner models/s2.model
+ *        ./host --degree models/example_3_4.model models/example_3_4.powers
  *
  * With --blocks the solver starts on one block after another, in place of the whole model. With --partner the search is
- * another program's, and the host starts on what it claims, where that is accepted.
+ * another program's, and the host starts on what it claims, where that is accepted. With --degree it starts nothing: it prints the
+ * degree in s of the model's determinant, with the powers of a second file, and an assignment that reaches it.
  *
- * Exit status: 0 the solver started, 1 it did not, 2 the file could not be read.
+ * Exit status: 0 the solver started or the degree is printed, 1 neither, 2 a file could not be read.
  */
 #include <stdio.h>
 #include <string.h>
@@ -32,6 +34,7 @@ static const char *fault(uint32_t refusal)
     case WUNDRESKA_NOT_MIXED: return "a differs from b, or the mixed question has too many columns";
     case WUNDRESKA_COLUMN_BEYOND: return "a column is n or more";
     case WUNDRESKA_COLUMN_PLACED: return "the column is placed";
+    case WUNDRESKA_NO_DEGREE: return "the model is not determined, or a power is above 15";
     default: return "a number that this host does not know";
     }
 }
@@ -230,21 +233,84 @@ static int treat_claimed(const uint8_t *file, size_t length)
     return act(verdict, rank, claim + WUNDRESKA_CLAIM_SET, 0);
 }
 
+/* The bytes of a file of powers: those of the a constant rows, of the n columns, and of the b parameter rows, n to a row. */
+typedef struct {
+    uint8_t bytes[WUNDRESKA_ROWS_MAX + WUNDRESKA_COLUMNS_MAX + WUNDRESKA_ROWS_MAX * WUNDRESKA_COLUMNS_MAX];
+    size_t length, taken;
+} Powers;
+
+/* The next powers, as many as are wanted and there; one of the file's numbers may be beyond its limit. */
+static const uint8_t *take(Powers *powers, size_t wanted, size_t *given)
+{
+    const uint8_t *next = powers->bytes + powers->taken;
+    *given = wanted < powers->length - powers->taken ? wanted : powers->length - powers->taken;
+    powers->taken += *given;
+    return next;
+}
+
+static void print_assignment(const uint8_t *answer)
+{
+    int r;
+    printf("constant side: columns");
+    print_columns(answer + WUNDRESKA_DEGREE_CONSTANTS, 0);
+    for (r = 0; r < WUNDRESKA_ROWS_MAX; r++)
+        if (answer[WUNDRESKA_DEGREE_ROWS + r] != WUNDRESKA_NO_COLUMN)
+            printf("row %d: column %d\n", r, answer[WUNDRESKA_DEGREE_ROWS + r]);
+}
+
+/* The numbers n, a and b, bytes 8 to 10 of the file, say which powers are whose. A file that ends before them is refused, whatever
+ * the powers are. */
+static int treat_degree(const uint8_t *file, size_t length, Powers *powers)
+{
+    uint8_t answer[WUNDRESKA_DEGREE_SIZE];
+    int there = length > 10;
+    size_t n = there ? file[8] : 0, a = there ? file[9] : 0, b = there ? file[10] : 0, of_rows, of_columns, of_parameters;
+    const uint8_t *row_powers = take(powers, a, &of_rows), *column_powers = take(powers, n, &of_columns);
+    const uint8_t *parameter_powers = take(powers, b * n, &of_parameters);
+    uint32_t refusal = wundreska_degree(file, length, row_powers, of_rows, column_powers, of_columns, parameter_powers,
+                                        of_parameters, answer, sizeof answer);
+    if (refusal != WUNDRESKA_ACCEPTED)
+        return complain(refusal);
+    printf("degree %d\n", answer[WUNDRESKA_DEGREE] + 256 * answer[WUNDRESKA_DEGREE + 1]);
+    print_assignment(answer);
+    return 1;
+}
+
+/* The same as read_file, and says why where the file could not be read. */
+static long read_or_tell(const char *name, uint8_t *bytes, size_t room)
+{
+    long length = read_file(name, bytes, room);
+    if (length < 0)
+        perror(name);
+    return length;
+}
+
+static int print_degree(const uint8_t *file, size_t length, const char *name)
+{
+    static Powers powers;
+    long read = read_or_tell(name, powers.bytes, sizeof powers.bytes);
+    if (read < 0)
+        return 2;
+    powers.length = (size_t)read;
+    return treat_degree(file, length, &powers) ? 0 : 1;
+}
+
 int main(int count, char **words)
 {
     static uint8_t file[WUNDRESKA_FILE_MAX + 1];
     const char *option = count == 3 ? words[1] : "";
     int mixed = strcmp(option, "--mixed") == 0, blocks = strcmp(option, "--blocks") == 0, claimed = strcmp(option, "--partner") == 0;
+    int degree = count == 4 && strcmp(words[1], "--degree") == 0;
     long length;
-    if (count != 2 && !mixed && !blocks && !claimed) {
-        fprintf(stderr, "usage: host [--mixed | --blocks | --partner] MODEL\n");
+    if (count != 2 && !mixed && !blocks && !claimed && !degree) {
+        fprintf(stderr, "usage: host [--mixed | --blocks | --partner] MODEL\n       host --degree MODEL POWERS\n");
         return 2;
     }
-    length = read_file(words[count - 1], file, sizeof file);
-    if (length < 0) {
-        perror(words[count - 1]);
+    length = read_or_tell(words[count == 2 ? 1 : 2], file, sizeof file);
+    if (length < 0)
         return 2;
-    }
+    if (degree)
+        return print_degree(file, (size_t)length, words[3]);
     if (mixed)
         return treat_mixed(file, (size_t)length) ? 0 : 1;
     if (blocks)

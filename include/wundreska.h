@@ -5,12 +5,14 @@
  * WUNDRESKA_DETERMINED alone. wundreska_reason says what blocks a column that wundreska_check does not place, and
  * wundreska_multipliers how the constants of one column depend on those of others. wundreska_blocks cuts the model into blocks, which
  * those who solve a determined model can solve one after another. wundreska_accepts checks a rank that another program found, by the
- * assignment and the column set that come with it.
+ * assignment and the column set that come with it. wundreska_degree gives the degree in s of the determinant of a determined model
+ * whose entries have powers of s.
  *
  * Words. A model has a prime p, n columns (the unknowns), a constant rows and b parameter rows. Rows and columns count
  * from 0. A constant is a whole number from 0 to p - 1 (minus one is p - 1); a parameter row only says at which columns it
  * has a parameter. All ranks are taken modulo p. A mixed model has a = b = m, and its row i is the sum of constant row i and
- * parameter row i; a place may hold both. The same file can be asked every question.
+ * parameter row i; a place may hold both. The same file can be asked every question. Powers, from 0 to WUNDRESKA_POWER_MAX, are not in
+ * the file: a host hands them to wundreska_degree beside it.
  *
  * The file. Fields, each a one-byte tag, a two-byte length and the body; numbers have their low byte first. In this order:
  *
@@ -34,16 +36,17 @@
  * in the file: column c is bit c % 8 (lowest is 0) of byte c / 8.
  *
  * Every call. It takes the bytes of a file and an answer area, and returns WUNDRESKA_ACCEPTED or the number of the refusal.
- * wundreska_multipliers and wundreska_reason also take the number of a column, the first of them the bytes of a set, held, and
- * wundreska_accepts the bytes of a claim.
+ * wundreska_multipliers and wundreska_reason also take the number of a column, the first of them the bytes of a set, held,
+ * wundreska_accepts the bytes of a claim, and wundreska_degree three areas of powers, one byte each.
  * - Accepted: exactly the bytes of the answer are written, over the front of the area; the surplus is left as it was.
- * - Refused: no byte of the answer area is changed. The file, the set and the claim are never changed.
- * - Pointers: file points to file_len bytes that can be read, held to held_len and claim to claim_len such bytes, answer to
- *   answer_len bytes that can be written. The answer area overlaps no other. Where its length is 0 a pointer may be NULL: nothing
- *   is read or written through it.
+ * - Refused: no byte of the answer area is changed. The file, the set, the claim and the powers are never changed.
+ * - Pointers: file points to file_len bytes that can be read, held to held_len, claim to claim_len and each area of powers to as many
+ *   such bytes as its length says, answer to answer_len bytes that can be written. The answer area overlaps no other. Where its
+ *   length is 0 a pointer may be NULL: nothing is read or written through it.
  * - Threads: a call keeps nothing, shares nothing and allocates nothing. It may run on any thread, several at once, the same file,
- *   set and claim included, as long as nothing else writes these or touches the answer area meanwhile.
- * - Stack: a call needs less than WUNDRESKA_STACK_MAX bytes of it (measured: 43 KB, for a mixed question 62 KB).
+ *   set, claim and powers included, as long as nothing else writes these or touches the answer area meanwhile.
+ * - Stack: a call needs less than WUNDRESKA_STACK_MAX bytes of it (measured: 43 KB, for a mixed question 62 KB), and wundreska_degree
+ *   less than WUNDRESKA_DEGREE_STACK_MAX (measured: 105 KB).
  * - Platform: the archive is for x86-64 Linux, can stand in a shared object, and takes memcpy, memmove and memset of the host.
  *
  * Linking: rt staticlib solvability
@@ -62,18 +65,20 @@ extern "C" {
 #endif
 
 /* The version of this header and of the archive that it comes with. */
-#define WUNDRESKA_VERSION "3.5.0"
+#define WUNDRESKA_VERSION "3.6.0"
 #define WUNDRESKA_VERSION_MAJOR 3
-#define WUNDRESKA_VERSION_MINOR 5
+#define WUNDRESKA_VERSION_MINOR 6
 #define WUNDRESKA_VERSION_PATCH 0
 
 /* The limits: p is a prime from 2 to WUNDRESKA_PRIME_MAX, n is 1 to WUNDRESKA_COLUMNS_MAX, a and b are 0 to WUNDRESKA_ROWS_MAX
- * each. */
+ * each, a power is 0 to WUNDRESKA_POWER_MAX. */
 #define WUNDRESKA_PRIME_MAX 65521
 #define WUNDRESKA_COLUMNS_MAX 96
 #define WUNDRESKA_ROWS_MAX 96
+#define WUNDRESKA_POWER_MAX 15
 #define WUNDRESKA_SET_SIZE 12
 #define WUNDRESKA_STACK_MAX 81920
+#define WUNDRESKA_DEGREE_STACK_MAX 114688
 /* How many bytes a parameter row has in the file, in a model of n columns. */
 #define WUNDRESKA_ROW_SIZE(n) ((n) <= 64 ? 8 : WUNDRESKA_SET_SIZE)
 /* The longest file that is accepted, a numbered one with a parameter at every place. A host may cut its reading one byte above: the
@@ -98,13 +103,15 @@ extern "C" {
 #define WUNDRESKA_TRAILING 7         /* bytes follow the end field */
 #define WUNDRESKA_NUMBER_TWICE 13    /* a parameter's number is that of a parameter before it, in the same field or an earlier one */
 /* The calling program causes this one. It comes after those of the file. */
-#define WUNDRESKA_AREA_SHORT 8       /* answer_len, held_len or claim_len is below what the call writes or reads there */
+#define WUNDRESKA_AREA_SHORT 8       /* an area beside the file is shorter than what the call writes or reads there */
 /* The modeller with a mixed question causes this one, in wundreska_mixed alone. It comes last. */
 #define WUNDRESKA_NOT_MIXED 10       /* a differs from b, or a + n exceeds WUNDRESKA_COLUMNS_MAX */
 /* Whoever asks about a column causes these: the first in wundreska_multipliers and wundreska_reason, the second in wundreska_reason
  * alone. They come last, in this order. */
 #define WUNDRESKA_COLUMN_BEYOND 11   /* the named column, or a held one, is n or more */
 #define WUNDRESKA_COLUMN_PLACED 12   /* the named column is placed, so that nothing blocks it */
+/* Whoever asks for a degree causes this one, in wundreska_degree alone. It comes last. */
+#define WUNDRESKA_NO_DEGREE 16       /* the model's verdict is not WUNDRESKA_DETERMINED, or a power is above WUNDRESKA_POWER_MAX */
 
 /* The answer to a layered model: where each part starts, and the size of all. */
 #define WUNDRESKA_VERDICT 0 /* 1 byte: one of the verdicts above */
@@ -240,6 +247,38 @@ uint32_t wundreska_blocks(const uint8_t *file, size_t file_len, uint8_t *answer,
  *   legal one of as many columns. */
 uint32_t wundreska_accepts(const uint8_t *file, size_t file_len, const uint8_t *claim, size_t claim_len, uint8_t *answer,
                            size_t answer_len);
+
+/* The answer about a degree: where each part starts, and the size of all. */
+#define WUNDRESKA_DEGREE 0 /* 2 bytes, low byte first: the degree */
+#define WUNDRESKA_DEGREE_CONSTANTS (WUNDRESKA_DEGREE + 2) /* a set: the columns on the constant side, in an assignment that reaches it */
+#define WUNDRESKA_DEGREE_ROWS (WUNDRESKA_DEGREE_CONSTANTS + WUNDRESKA_SET_SIZE) /* those on rows, laid out as at WUNDRESKA_ROWS */
+#define WUNDRESKA_DEGREE_SIZE (WUNDRESKA_DEGREE_ROWS + WUNDRESKA_ROWS_SIZE)     /* 110 */
+
+/* The question about a degree: the degree in s of the determinant of a determined model, whose places have powers of s. Constant row h
+ * stands for the row that has, at column c, its constant times s to the power of row h and that of column c together; parameter row r
+ * for one that has, at each column where it has a parameter, this parameter times s to a power of its own.
+ *
+ * The powers are one byte each, and what stands behind them is not read:
+ * - row_powers: those of the a constant rows;
+ * - column_powers: those of the n columns;
+ * - parameter_powers: b * n bytes, row by row; that of row r at column c is byte r * n + c. Where row r has no parameter at column c
+ *   the byte is not read, and may be anything.
+ *
+ * The file is judged as by wundreska_check, then the lengths of all areas. After that a model whose verdict is not
+ * WUNDRESKA_DETERMINED, and a power that is read and above WUNDRESKA_POWER_MAX, are refused as WUNDRESKA_NO_DEGREE. Of an accepted
+ * model:
+ * - a legal assignment, as at wundreska_accepts, that places all n columns has a total: the powers of all constant rows, plus those of
+ *   the columns on the constant side, plus those of the parameters that it uses, each at its row and the column there. A column on a
+ *   parameter row adds nothing by its own power;
+ * - the degree is the largest total, which no such assignment exceeds. It is 0 where all powers are 0;
+ * - the assignment shown is legal, places all n columns, and its total is the degree. Which one it is, is one choice of possibly many;
+ *   each parameter row below b has a column there, every row from b on has WUNDRESKA_NO_COLUMN, and no column from n on is shown;
+ * - so it is the degree in s of the determinant of these rows, with the constants modulo p and the parameters as letters. That follows
+ *   by a theorem of the field (valuated matroids) and is tested; what is proved of the call is the points above.
+ * wundreska_accepts accepts the assignment shown, with the rank n and the empty set. */
+uint32_t wundreska_degree(const uint8_t *file, size_t file_len, const uint8_t *row_powers, size_t row_powers_len,
+                          const uint8_t *column_powers, size_t column_powers_len, const uint8_t *parameter_powers,
+                          size_t parameter_powers_len, uint8_t *answer, size_t answer_len);
 
 #ifdef __cplusplus
 }

@@ -1,6 +1,7 @@
 /* Tries what the header says of every call, beside its answer: a NULL pointer at length 0, the stack it takes, several threads at
- * once on one file; that a claim which is not accepted is no refusal; and that the blocks behind a cut make a set which a claim can
- * have. The last line is 'N passed, M failed'; the exit status is 1 where any failed. */
+ * once on one file; that a claim which is not accepted is no refusal; that the blocks behind a cut make a set which a claim can
+ * have; and that a degree is reached by the assignment shown with it, which a claim can have too. The last line is 'N passed, M
+ * failed'; the exit status is 1 where any failed. */
 #include <pthread.h>
 #include <stdio.h>
 #include <stdlib.h>
@@ -14,8 +15,9 @@ typedef uint32_t Call(const uint8_t *file, size_t file_len, uint8_t *answer, siz
 typedef struct {
     const char *name;
     Call *call;
-    size_t size;                                      /* of its answer */
+    size_t size;                                     /* of its answer */
     unsigned columns, constant_rows, parameter_rows; /* of its models */
+    int determined;                                  /* whether its models are, by a triangle that is planted */
 } Entry;
 
 /* The last column by all others. */
@@ -42,7 +44,19 @@ static uint32_t our_answer(const uint8_t *file, size_t file_len, uint8_t *answer
     return wundreska_accepts(file, file_len, claim, sizeof claim, answer, answer_len);
 }
 
-/* A set and a claim of no bytes. */
+/* The powers of the model. Where no parameter stands they are above the limit, and not read. */
+static uint8_t row_powers[WUNDRESKA_ROWS_MAX], column_powers[WUNDRESKA_COLUMNS_MAX];
+static uint8_t parameter_powers[WUNDRESKA_ROWS_MAX * WUNDRESKA_COLUMNS_MAX];
+static size_t of_rows, of_columns, of_parameters; /* how many there are */
+
+/* No pointer where there is no power. */
+static uint32_t our_powers(const uint8_t *file, size_t file_len, uint8_t *answer, size_t answer_len)
+{
+    return wundreska_degree(file, file_len, of_rows ? row_powers : NULL, of_rows, column_powers, of_columns,
+                            of_parameters ? parameter_powers : NULL, of_parameters, answer, answer_len);
+}
+
+/* A set, a claim and powers of no bytes. */
 static uint32_t no_set(const uint8_t *file, size_t file_len, uint8_t *answer, size_t answer_len)
 {
     return wundreska_multipliers(file, file_len, NULL, 0, 0, answer, answer_len);
@@ -53,20 +67,31 @@ static uint32_t no_claim(const uint8_t *file, size_t file_len, uint8_t *answer, 
     return wundreska_accepts(file, file_len, NULL, 0, answer, answer_len);
 }
 
+static uint32_t no_powers(const uint8_t *file, size_t file_len, uint8_t *answer, size_t answer_len)
+{
+    return wundreska_degree(file, file_len, NULL, 0, NULL, 0, NULL, 0, answer, answer_len);
+}
+
 /* The largest models that a call takes with as many rows as columns. A reason is asked for in one with a row less than columns in all,
- * and in one without parameters, where multipliers are given; blocks also where rows are in all as many as columns. */
-#define HALF (WUNDRESKA_COLUMNS_MAX / 2)
+ * and in one without parameters, where multipliers are given; blocks also where rows are in all as many as columns, and a degree there
+ * alone, with rows of both kinds and of one. */
+#define MOST WUNDRESKA_COLUMNS_MAX
+#define HALF (MOST / 2)
 static const Entry entries[] = {
-    {"wundreska_check", wundreska_check, WUNDRESKA_ANSWER_SIZE, WUNDRESKA_COLUMNS_MAX, WUNDRESKA_ROWS_MAX, WUNDRESKA_ROWS_MAX},
-    {"wundreska_mixed", wundreska_mixed, WUNDRESKA_MIXED_SIZE, HALF, HALF, HALF},
-    {"wundreska_multipliers", last_column, WUNDRESKA_MULTIPLIERS_SIZE, WUNDRESKA_COLUMNS_MAX, WUNDRESKA_ROWS_MAX, WUNDRESKA_ROWS_MAX},
-    {"wundreska_reason", last_unplaced, WUNDRESKA_REASON_SIZE, WUNDRESKA_COLUMNS_MAX, HALF, HALF - 1},
-    {"wundreska_reason with multipliers", last_unplaced, WUNDRESKA_REASON_SIZE, WUNDRESKA_COLUMNS_MAX, WUNDRESKA_COLUMNS_MAX - 1, 0},
-    {"wundreska_blocks", wundreska_blocks, WUNDRESKA_BLOCKS_SIZE, WUNDRESKA_COLUMNS_MAX, WUNDRESKA_ROWS_MAX, WUNDRESKA_ROWS_MAX},
-    {"wundreska_blocks, square", wundreska_blocks, WUNDRESKA_BLOCKS_SIZE, WUNDRESKA_COLUMNS_MAX, HALF, HALF},
-    {"wundreska_accepts", our_answer, WUNDRESKA_ACCEPTS_SIZE, WUNDRESKA_COLUMNS_MAX, WUNDRESKA_ROWS_MAX, WUNDRESKA_ROWS_MAX},
+    {"wundreska_check", wundreska_check, WUNDRESKA_ANSWER_SIZE, MOST, WUNDRESKA_ROWS_MAX, WUNDRESKA_ROWS_MAX, 0},
+    {"wundreska_mixed", wundreska_mixed, WUNDRESKA_MIXED_SIZE, HALF, HALF, HALF, 0},
+    {"wundreska_multipliers", last_column, WUNDRESKA_MULTIPLIERS_SIZE, MOST, WUNDRESKA_ROWS_MAX, WUNDRESKA_ROWS_MAX, 0},
+    {"wundreska_reason", last_unplaced, WUNDRESKA_REASON_SIZE, MOST, HALF, HALF - 1, 0},
+    {"wundreska_reason with multipliers", last_unplaced, WUNDRESKA_REASON_SIZE, MOST, MOST - 1, 0, 0},
+    {"wundreska_blocks", wundreska_blocks, WUNDRESKA_BLOCKS_SIZE, MOST, WUNDRESKA_ROWS_MAX, WUNDRESKA_ROWS_MAX, 0},
+    {"wundreska_blocks, square", wundreska_blocks, WUNDRESKA_BLOCKS_SIZE, MOST, HALF, HALF, 0},
+    {"wundreska_accepts", our_answer, WUNDRESKA_ACCEPTS_SIZE, MOST, WUNDRESKA_ROWS_MAX, WUNDRESKA_ROWS_MAX, 0},
+    {"wundreska_degree", our_powers, WUNDRESKA_DEGREE_SIZE, MOST, HALF, HALF, 1},
+    {"wundreska_degree without constants", our_powers, WUNDRESKA_DEGREE_SIZE, MOST, 0, MOST, 1},
+    {"wundreska_degree without parameters", our_powers, WUNDRESKA_DEGREE_SIZE, MOST, MOST, 0, 1},
 };
-enum { ENTRIES = sizeof entries / sizeof *entries, MODELS = 12, NUMBERED = MODELS, THREADS = 8, TURNS = 200, PAINT = 0xA5 };
+enum { ENTRIES = sizeof entries / sizeof *entries, MODELS = 12, NUMBERED = MODELS, THREADS = 8, PAINT = 0xA5 };
+enum { TURNS = 200, FEW_TURNS = 10 }; /* the second for a degree, which takes long */
 enum { STACK = 1 << 20, LONGEST = WUNDRESKA_REASON_SIZE }; /* bytes of a thread's stack, and of the longest answer */
 
 static int passed, failed;
@@ -103,9 +128,17 @@ static unsigned drawn(unsigned below)
     return (unsigned)rand() % below;
 }
 
-/* Fills `file` with a model in which about `share` of 100 places are not empty; its parameters may be numbered, from 0 on. */
-static void make_model(unsigned p, unsigned n, unsigned constant_rows, unsigned parameter_rows, unsigned share, int numbered)
+/* A power, or above the limit where none is read. */
+static uint8_t drawn_power(int read)
 {
+    return (uint8_t)(read ? drawn(WUNDRESKA_POWER_MAX + 1) : 255);
+}
+
+/* Fills `file` with a model in which about `share` of 100 places are not empty; its parameters may be numbered, from 0 on. Where it is
+ * to be determined, a column of its own is planted for each row, and those of the constant rows are a triangle. */
+static void make_model(const Entry *entry, unsigned p, unsigned share, int numbered)
+{
+    unsigned n = entry->columns, constant_rows = entry->constant_rows, parameter_rows = entry->parameter_rows;
     unsigned row, c, number = 0, end;
     file_len = 0;
     put_head(1, 2);
@@ -119,6 +152,8 @@ static void make_model(unsigned p, unsigned n, unsigned constant_rows, unsigned 
         put_head(3, 2 * n);
         for (c = 0; c < n; c++) {
             unsigned constant = drawn(100) < share ? drawn(p) : 0;
+            if (entry->determined && c <= row)
+                constant = c < row ? 0 : 1 + drawn(p - 1);
             put(constant & 255);
             put(constant >> 8);
         }
@@ -126,11 +161,14 @@ static void make_model(unsigned p, unsigned n, unsigned constant_rows, unsigned 
     for (row = 0; row < parameter_rows; row++) {
         uint8_t set[WUNDRESKA_SET_SIZE] = {0};
         put_head(4, WUNDRESKA_ROW_SIZE(n));
-        for (c = 0, end = number; c < n; c++)
-            if (drawn(100) < share) {
+        for (c = 0, end = number; c < n; c++) {
+            int filled = drawn(100) < share || (entry->determined && c == constant_rows + row);
+            parameter_powers[row * n + c] = drawn_power(filled);
+            if (filled) {
                 set[c / 8] |= (uint8_t)(1 << c % 8);
                 end++;
             }
+        }
         for (c = 0; c < WUNDRESKA_ROW_SIZE(n); c++)
             put(set[c]);
         if (numbered)
@@ -142,11 +180,18 @@ static void make_model(unsigned p, unsigned n, unsigned constant_rows, unsigned 
     put_head(5, 0);
 }
 
-/* What the questions about the model are: the column, and the claim. */
-static void prepare_questions(void)
+/* What the questions about the model are: the column, the claim, and the powers but those of parameters. */
+static void prepare_questions(const Entry *entry)
 {
     uint8_t answer[WUNDRESKA_ANSWER_SIZE];
     size_t c;
+    of_rows = entry->constant_rows;
+    of_columns = entry->columns;
+    of_parameters = entry->parameter_rows * entry->columns;
+    for (c = 0; c < of_rows; c++)
+        row_powers[c] = drawn_power(1);
+    for (c = 0; c < of_columns; c++)
+        column_powers[c] = drawn_power(1);
     wundreska_check(file, file_len, answer, sizeof answer);
     for (c = 0; c < WUNDRESKA_COLUMNS_MAX; c++)
         if (!(answer[WUNDRESKA_PLACED + c / 8] >> c % 8 & 1))
@@ -161,9 +206,8 @@ static void prepare_questions(void)
 static void make_nth_model(int nth, const Entry *entry)
 {
     static const unsigned primes[] = {2, 1021, WUNDRESKA_PRIME_MAX}, shares[] = {2, 5, 40, 100};
-    make_model(primes[nth % 3], entry->columns, entry->constant_rows, entry->parameter_rows, shares[nth % NUMBERED / 3],
-               nth >= NUMBERED);
-    prepare_questions();
+    make_model(entry, primes[nth % 3], shares[nth % NUMBERED / 3], nth >= NUMBERED);
+    prepare_questions(entry);
 }
 
 /* --- the call on a thread of its own */
@@ -212,11 +256,11 @@ static size_t stack_of_call(const Entry *entry)
 static void *call_often(void *of)
 {
     Job *job = (Job *)of, again;
-    int turn;
+    int turn, turns = job->entry->call == our_powers ? FEW_TURNS : TURNS;
     call_once(job);
     job->steady = 1;
     again.entry = job->entry;
-    for (turn = 1; turn < TURNS; turn++) {
+    for (turn = 1; turn < turns; turn++) {
         call_once(&again);
         if (again.refusal != job->refusal || memcmp(again.answer, job->answer, job->entry->size) != 0)
             job->steady = 0;
@@ -235,14 +279,14 @@ static void try_null(const Entry *entry)
     expect(entry->call(file, file_len, NULL, 0) == WUNDRESKA_AREA_SHORT, "no area, NULL", entry->name);
 }
 
-/* By a call that has no set, or no claim. */
+/* By a call that has no set, no claim, or no powers. */
 static void try_null_beside(Call *call, const char *name)
 {
     uint8_t answer[LONGEST];
     make_nth_model(0, &entries[0]);
-    expect(call(file, file_len, answer, sizeof answer) == WUNDRESKA_AREA_SHORT, "no set or claim, NULL", name);
-    expect(call(file, file_len, NULL, 0) == WUNDRESKA_AREA_SHORT, "no set or claim and no area, NULL", name);
-    expect(call(NULL, 0, NULL, 0) == WUNDRESKA_TRUNCATED, "no file, set or claim, and area, NULL", name);
+    expect(call(file, file_len, answer, sizeof answer) == WUNDRESKA_AREA_SHORT, "nothing beside the file, NULL", name);
+    expect(call(file, file_len, NULL, 0) == WUNDRESKA_AREA_SHORT, "nothing beside the file and no area, NULL", name);
+    expect(call(NULL, 0, NULL, 0) == WUNDRESKA_TRUNCATED, "no file, nothing beside it, and no area, NULL", name);
 }
 
 /* The number is that of the model, and the byte that of the claim. */
@@ -311,15 +355,99 @@ static void try_blocks(const Entry *entry)
     }
 }
 
+/* What the assignment shown makes: the constant rows' powers, its columns' on the constant side, and its parameters'. */
+static unsigned shown_total(const uint8_t *answer)
+{
+    unsigned total = 0, i;
+    for (i = 0; i < of_rows; i++)
+        total += row_powers[i];
+    for (i = 0; i < of_columns; i++)
+        if (answer[WUNDRESKA_DEGREE_CONSTANTS + i / 8] >> i % 8 & 1)
+            total += column_powers[i];
+    for (i = 0; i < of_parameters / of_columns; i++)
+        total += parameter_powers[i * of_columns + answer[WUNDRESKA_DEGREE_ROWS + i]];
+    return total;
+}
+
+static unsigned degree_in(const uint8_t *answer)
+{
+    return answer[WUNDRESKA_DEGREE] + 256u * answer[WUNDRESKA_DEGREE + 1];
+}
+
+/* The assignment shown is legal and places all columns, since it is accepted with the rank n and the empty set; and it reaches the
+ * degree. */
+static void try_degree_shown(void)
+{
+    uint8_t answer[WUNDRESKA_DEGREE_SIZE], accepts[WUNDRESKA_ACCEPTS_SIZE];
+    expect(our_powers(file, file_len, answer, sizeof answer) == WUNDRESKA_ACCEPTED, "a determined model has a degree",
+           "wundreska_degree");
+    memset(claim, 0, sizeof claim);
+    claim[WUNDRESKA_CLAIM_RANK] = (uint8_t)of_columns;
+    memcpy(claim + WUNDRESKA_CLAIM_CONSTANTS, answer + WUNDRESKA_DEGREE_CONSTANTS, WUNDRESKA_SET_SIZE);
+    memcpy(claim + WUNDRESKA_CLAIM_ROWS, answer + WUNDRESKA_DEGREE_ROWS, WUNDRESKA_ROWS_SIZE);
+    if (our_answer(file, file_len, accepts, sizeof accepts) == WUNDRESKA_ACCEPTED && accepts[WUNDRESKA_CLAIM_HOLDS] == 1)
+        expect(shown_total(answer) == degree_in(answer), "the assignment shown reaches the degree", "wundreska_degree");
+    else
+        expect(0, "the assignment shown is accepted as a claim", "wundreska_degree");
+}
+
+/* A refusal with this number leaves the answer as it was. */
+static void try_no_degree(uint32_t due, const char *what)
+{
+    uint8_t answer[WUNDRESKA_DEGREE_SIZE];
+    memset(answer, 2, sizeof answer);
+    expect(our_powers(file, file_len, answer, sizeof answer) == due && answer[0] == 2 &&
+               memcmp(answer, answer + 1, sizeof answer - 1) == 0,
+           what, "wundreska_degree");
+}
+
+/* With a power just above the limit, and with an area that is a byte too short, where there is one. */
+static void try_changed_powers(uint8_t *powers, size_t *count)
+{
+    uint8_t before;
+    if (*count == 0)
+        return;
+    before = powers[*count - 1];
+    powers[*count - 1] = WUNDRESKA_POWER_MAX + 1;
+    if (before <= WUNDRESKA_POWER_MAX)
+        try_no_degree(WUNDRESKA_NO_DEGREE, "a power of one more than the most is refused");
+    powers[*count - 1] = before;
+    --*count;
+    try_no_degree(WUNDRESKA_AREA_SHORT, "an area of powers that is too short is refused");
+    ++*count;
+}
+
+static void try_degrees(const Entry *entry)
+{
+    uint8_t answer[WUNDRESKA_DEGREE_SIZE];
+    int nth;
+    for (nth = 0; nth < NUMBERED + MODELS; nth++) {
+        make_nth_model(nth, entry);
+        if (entry->constant_rows + entry->parameter_rows != entry->columns)
+            try_no_degree(WUNDRESKA_NO_DEGREE, "a model that is not determined is refused");
+        if (!entry->determined)
+            continue;
+        try_degree_shown();
+        try_changed_powers(row_powers, &of_rows);
+        try_changed_powers(column_powers, &of_columns);
+        try_changed_powers(parameter_powers, &of_parameters);
+        memset(row_powers, 0, sizeof row_powers);
+        memset(column_powers, 0, sizeof column_powers);
+        memset(parameter_powers, 0, sizeof parameter_powers);
+        expect(our_powers(file, file_len, answer, sizeof answer) == WUNDRESKA_ACCEPTED && degree_in(answer) == 0,
+               "the degree is 0 where all powers are", "wundreska_degree");
+    }
+}
+
 static void try_stack(const Entry *entry)
 {
-    size_t most = 0;
+    size_t most = 0, limit = entry->determined ? WUNDRESKA_DEGREE_STACK_MAX : WUNDRESKA_STACK_MAX;
     int nth;
     for (nth = 0; nth < NUMBERED + MODELS; nth++) {
         size_t taken;
         make_nth_model(nth, entry);
         taken = stack_of_call(entry);
-        expect(taken > 0 && taken < WUNDRESKA_STACK_MAX, "takes less stack than the header says", entry->name);
+        expect(taken > 0 && taken < limit, "takes less stack than the header says", entry->name);
         if (taken > most)
             most = taken;
     }
@@ -350,6 +478,7 @@ int main(void)
     srand(13);
     try_null_beside(no_set, "wundreska_multipliers");
     try_null_beside(no_claim, "wundreska_accepts");
+    try_null_beside(no_powers, "wundreska_degree");
     for (k = 0; k < ENTRIES; k++) {
         try_null(&entries[k]);
         try_stack(&entries[k]);
@@ -358,6 +487,7 @@ int main(void)
     for (k = 0; k < ENTRIES; k++) {
         try_claims(&entries[k]);
         try_blocks(&entries[k]);
+        try_degrees(&entries[k]);
     }
     printf("%d passed, %d failed\n", passed, failed);
     return failed != 0;

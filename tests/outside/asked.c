@@ -119,6 +119,16 @@ const File *file_of(const Model *m)
     return &file;
 }
 
+const File *sound_file(const Model *m)
+{
+    enum { RARE = 10 };
+    static File file;
+    if (one_in(RARE))
+        return file_of(m);
+    file.length = write_file(m, file.bytes);
+    return &file;
+}
+
 void try_sound(const Model *m, const File *file, Set held, size_t named)
 {
     size_t handed_room = draw_room(WUNDRESKA_MULTIPLIERS_SIZE), room = draw_room(WUNDRESKA_MULTIPLIERS_SIZE);

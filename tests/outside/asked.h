@@ -34,6 +34,9 @@ typedef struct {
 
 const File *file_of(const Model *model);
 
+/* The same of a sound model, of which some go to the other judges: they have seen many such. */
+const File *sound_file(const Model *model);
+
 /* Counts two cases: a sound model handed over, and its file, with areas that are just right or longer. */
 void try_sound(const Model *model, const File *file, Set held, size_t named);
 

@@ -54,17 +54,6 @@ static const char *rank_call_complaint(const Model *m, const File *file, const C
     return cut_complaint(m, &given, checked.out[WUNDRESKA_RANK]);
 }
 
-/* The file of a sound model. The other judges have seen many such, so some go to them. */
-static const File *sound_file(const Model *m)
-{
-    enum { RARE = 10 };
-    static File file;
-    if (one_in(RARE))
-        return file_of(m);
-    file.length = write_file(m, file.bytes);
-    return &file;
-}
-
 void try_blocks(const Model *m, const Blocks *due)
 {
     enum { SIZE = WUNDRESKA_BLOCKS_SIZE };

@@ -15,7 +15,7 @@ typedef struct {
     uint8_t before[ROOM]; /* the margin and the lent bytes, as they were before the call */
 } Area;
 
-static Area file_area, constants_area, rows_area, numbers_area, beside_area, out_area;
+static Area file_area, constants_area, rows_area, numbers_area, beside_areas[BESIDE], out_area;
 
 static void open_area(Area *area)
 {
@@ -76,16 +76,24 @@ static Called outcome(uint32_t refusal, size_t written)
     return called;
 }
 
+const uint8_t *lend_beside_at(size_t place, const uint8_t *bytes, size_t length)
+{
+    const uint8_t *lent = lend_copy(&beside_areas[place], length, bytes, length);
+    remember(&beside_areas[place]);
+    return lent;
+}
+
 const uint8_t *lend_beside(const uint8_t *bytes, size_t length)
 {
-    const uint8_t *lent = lend_copy(&beside_area, length, bytes, length);
-    remember(&beside_area);
-    return lent;
+    return lend_beside_at(0, bytes, length);
 }
 
 static int beside_unchanged(void)
 {
-    return !beside_area.end || unchanged(&beside_area, 0);
+    int all = 1;
+    for (size_t i = 0; i < BESIDE; i++)
+        all = all && (!beside_areas[i].end || unchanged(&beside_areas[i], 0));
+    return all;
 }
 
 Called call_file(FileCall *call, const uint8_t *file, size_t length, size_t answer_length, size_t written)

@@ -20,7 +20,10 @@ typedef struct {
 /* Areas that just hold what the model needs, no number where it is not numbered, and so many bytes to write to. */
 Lengths exact_lengths(const Model *model, size_t out);
 
-/* Lends bytes that a call reads beside a file or a model, until others are lent. Those below see whether a call changed them. */
+/* Lends bytes that a call reads beside a file or a model, until others are lent; at one of several places, each an area of its own, or
+ * at the first. Those below see whether a call changed them. */
+enum { BESIDE = 3 };
+const uint8_t *lend_beside_at(size_t place, const uint8_t *bytes, size_t length);
 const uint8_t *lend_beside(const uint8_t *bytes, size_t length);
 
 /* A call on a file, with an answer area of this length, which writes `written` bytes where it is accepted. */

@@ -33,6 +33,8 @@ static int compare_all(const char *models)
     compare_sent();
     compare_blocks(models);
     compare_unlisted();
+    compare_degrees(models);
+    compare_powers(models);
     return end_tally() > 0;
 }
 

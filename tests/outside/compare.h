@@ -114,5 +114,7 @@ void compare_claims(const char *folder); /* compare_claims.c */
 void compare_sent(void); /* compare_sent.c */
 void compare_blocks(const char *folder); /* compare_blocks.c */
 void compare_unlisted(void); /* compare_unlisted.c */
+void compare_degrees(const char *folder); /* compare_degrees.c */
+void compare_powers(const char *folder); /* compare_powers.c */
 
 #endif

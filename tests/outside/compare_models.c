@@ -28,6 +28,7 @@ static const struct {
     {"s10", LAYERED, WUNDRESKA_OPEN, 1, NOT_STATED, 2},
     {"s11", LAYERED, WUNDRESKA_SURPLUS, 1, NOT_STATED, 0},
     {"s12", MIXED, WUNDRESKA_OPEN, 6, NOT_STATED, NOT_STATED},
+    {"example_3_4", LAYERED, WUNDRESKA_DETERMINED, 6, 63, 0},
     {"chilled_water_loop", LAYERED, WUNDRESKA_OPEN, 8, NOT_STATED, 192},
     {"chilled_water_loop_filled", LAYERED, WUNDRESKA_SURPLUS, 9, 511, 0},
     {"chilled_water_loop_square", LAYERED, WUNDRESKA_DETERMINED, 9, 511, 0},

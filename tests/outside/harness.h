@@ -48,6 +48,14 @@ uint32_t harness_accepts(uint32_t p, size_t n, size_t a, size_t b, const uint16_
 /* The bytes of wundreska_blocks' answer. */
 ModelCall harness_blocks;
 
+/* The bytes of wundreska_degree's answer. It takes the three areas of powers before the area to write to. It returns 0 or the refusal:
+ * that of a ModelCall as far as 13, where the areas of powers are judged together with those of the model, then 16, and last 8 for the
+ * area written. */
+uint32_t harness_degree(uint32_t p, size_t n, size_t a, size_t b, const uint16_t *constants, size_t constants_len,
+                        const uint64_t *parameters, size_t parameters_len, bool numbered, const uint16_t *numbers, size_t numbers_len,
+                        const uint8_t *row_powers, size_t row_powers_len, const uint8_t *column_powers, size_t column_powers_len,
+                        const uint8_t *parameter_powers, size_t parameter_powers_len, uint8_t *out, size_t out_len);
+
 /* The model of a file, written to the front of areas laid out as above; the numbers are written where it is numbered, 0 where no
  * parameter stands. It returns 0 or the refusal: the file's, then 8 for the areas. */
 uint32_t harness_read(const uint8_t *file, size_t file_len, uint16_t *constants, size_t constants_len, uint64_t *parameters,

@@ -95,8 +95,10 @@ size_t write_file(const Model *model, uint8_t *out);
 /* The refusal of a file, or 0 with the model that it holds; of a numbered one, places without a parameter have number 0. */
 uint32_t judge_file(const uint8_t *file, size_t length, Model *model);
 
-/* The refusal of a model handed over in areas for so many constants, rows and numbers, or 0. */
+/* The refusal of a model handed over in areas for so many constants, rows and numbers, or 0; and with areas beside, which are judged
+ * together with these, and are long enough or not. */
 uint32_t judge_areas(const Model *model, size_t constants, size_t rows, size_t numbers);
+uint32_t judge_areas_beside(const Model *model, size_t constants, size_t rows, size_t numbers, int beside_is_enough);
 
 /* The refusal of the mixed question about a model that is not refused, or 0. */
 uint32_t judge_mixed(const Model *model);

@@ -22,7 +22,8 @@ use Rattle.rank.specs.ListedModel.{parameter-at}
 use Rattle.rank.specs.VerdictLaws.{number-1-iff}
 use Rattle.rank.specs.Layered.Model.{Model, Legal}
 use Rattle.rank.specs.Layered.Rank.{rank, verdict}
-use Rattle.degrees.specs.Degrees.{Powers, PlacesAll, degree, listed-powers, total, weight}
+use Rattle.rank.specs.ListedModelLaws.{total}
+use Rattle.degrees.specs.Degrees.{Powers, AllPlaced, degree, listed-powers, weight}
 use Rattle.degrees.specs.Dynamics.{layered}
 use Rattle.degrees.specs.Theorems.{last-round-reaches-the-degree}
 use Rattle.degrees.specs.Totals.{total-below}
@@ -48,7 +49,7 @@ module _ (p n a b : ℕ) (Q : ℕ → ℕ → field-of p .F) (ws rp cp pp cs lev
   abbrev W : Powers
   W = listed-powers n rp cp pp
 
-  last : let A = shown n b (members (whole (s .constants))) (s .rows) in Legal M A × PlacesAll M A × (weight M W A ≡ degree M W)
+  last : let A = shown n b (members (whole (s .constants))) (s .rows) in Legal M A × AllPlaced M A × (weight M W A ≡ degree M W)
       × (degree M W + total n (λ x. getD heights x 0) ≡ total a (λ h. getD rp h 0) + total (a + b) (λ q. getD levels q 0))
   last = last-round-reaches-the-degree (model-with p n a b Q ws rp cp pp) first-most k (tableau-of p n cs) (λ q. getD levels q 0) (λ x. getD heights x 0) (d .after)
       (s .rank) (members (whole (s .placed))) (members (whole (s .constants))) (members (whole (s .short))) (s .rows) h (d .ready .square) r
@@ -58,8 +59,15 @@ module _ (p n a b : ℕ) (Q : ℕ → ℕ → field-of p .F) (ws rp cp pp cs lev
   degree-by-levels = omega (arith, last .3, ap (λ (m : ℕ). total m (λ q. getD levels q 0)) (d .ready .square))
 
   pub degree-small : degree M W < 65536
-  degree-small = omega (arith, degree-by-levels, d .after .fallen, ap (λ (m : ℕ). total m (λ q. getD levels q 0)) (d .ready .square),
-    total-below a 15 (λ i. getD rp i 0) (d .ready .row-powers-low), d .ready .square, d .ready .columns)
+  degree-small = omega (
+    arith,
+    degree-by-levels,
+    d .after .fallen,
+    ap (λ (m : ℕ). total m (λ q. getD levels q 0)) (d .ready .square),
+    total-below a 15 (λ i. getD rp i 0) (d .ready .row-powers-low),
+    d .ready .square,
+    d .ready .columns,
+  )
 
   pub answer-found : (t : Degree) → length (t .rows) ≡ most-rows → t .degree ≡ degree M W → t .constants ≡ s .constants → t .rows ≡ s .rows → DegreeAnswered M W t
   answer-found t long e c w = record {

@@ -11,7 +11,7 @@ use lib.ListN.{length, take}
 use borrow.Author.Tests.{leb-true}
 use Rattle.counting.specs.Bools.{and-left, and-right}
 use Rattle.format.specs.Refusals.{Tests, unless, _then_, first-refusal, not-prime, sizes-beyond, constant-beyond, parameter-beyond, area-short, number-twice, prime-test, size-test, constant-test, parameter-test, area-test, numbers-room, number-test, area-tests, content-tests, model-tests, refusal}
-use Rattle.format.specs.RefusalLaws.{then-refused, then-passed, then-zero, zero-then, zero-unless}
+use Rattle.format.specs.RefusalLaws.{then-refused, then-passed, zero-then, zero-unless}
 use Rattle.format.specs.TestLaws.{area-reads}
 use Rattle.rank.specs.ListedModel.{listed-model}
 use Rattle.degrees.specs.Degrees.{listed-powers}

@@ -19,7 +19,7 @@ use Rattle.columns.specs.Columns.{members, removed}
 use Rattle.columns.specs.ColumnSets.{row-numbers, with-row}
 use Rattle.columns.specs.Words.Rows.{rows-with-row}
 use Rattle.columns.specs.Words.SetLaws.{removed-old, removed-gone, removed-other}
-use Rattle.degrees.specs.Degrees.{total}
+use Rattle.rank.specs.ListedModelLaws.{total}
 use Rattle.exchange.proofs.CellLaws.{row-within}
 use Rattle.degree.specs.Code.{touches, Rise, TightRow, AtLevel, TightConstants, TightParameters, Low}
 

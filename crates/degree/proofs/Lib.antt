@@ -1,3 +1,4 @@
+-- Laws for the proofs.
 pub mod TopLaws
 pub mod LevelLaws
 pub mod TightLaws

@@ -1,11 +1,10 @@
 -- The arrays of the descent from round to round: how it starts, what a round makes of them, and how it ends. Assumes nothing.
 use Prim.Native.Nat.{ℕ, _+_, _-_, _*_, _≤_, _<_}
 use mathlib.Core.Path.{_≡_, refl, sym, ap, _∙_}
-use mathlib.Core.Logic.{_≢_, _↔_, by-cases}
-use mathlib.Core.Bool.{Bool, true, false, not, _&&_, cond, true≢false}
+use mathlib.Core.Logic.{_≢_, _↔_}
+use mathlib.Core.Bool.{Bool, true, false, not, cond, true≢false}
 use mathlib.Core.List.{List}
-use native.Mathlib.Decide.{ℕ-discrete, decLt}
-use native.Mathlib.Nat.{mul-le-mul}
+use native.Mathlib.Decide.{decLt}
 use native.Mathlib.Omega.{arith}
 use lib.Dec.{eqb}
 use lib.ListN.{length, getD}
@@ -13,16 +12,13 @@ use borrow.Author.Tests.{eq-eqb, eqb-true, eqb-false, le-leb, lt-ltb}
 use Rattle.limits.specs.Limits.{most-columns, most-rows}
 use Rattle.counting.specs.Bools.{true?, iff-eq, and-in, and-left, and-right, not-in, not-of, not-true}
 use Rattle.counting.specs.Counts.{Touching, touching-iff}
-use Rattle.counting.specs.Sets.{Set, Some, _∈_, indicator, touching}
+use Rattle.counting.specs.Sets.{Set, Some, _∈_, indicator}
 use Rattle.columns.specs.Columns.{members, upto}
 use Rattle.columns.specs.Words.Operations.{members-zero, within-iff}
-use Rattle.residue.specs.Fields.{Field}
 use Rattle.residue.specs.Arithmetic.{is-prime}
 use Rattle.residue.specs.Residues.{num-of-below, res, res-num-of}
 use Rattle.rank.specs.Modulus.{modulus, field-of}
 use Rattle.rank.specs.ModulusLaws.{modulus-is, residue-zero}
-use Rattle.rank.specs.ListedModel.{parameter-at}
-use Rattle.rank.specs.Layered.Model.{Model}
 use Rattle.rank.specs.Layered.Rank.{rank, sum}
 use Rattle.rank.specs.Linear.Kernels.{hits, hits-iff}
 use Rattle.degrees.specs.Dynamics.{Dynamic, layered}

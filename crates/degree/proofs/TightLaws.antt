@@ -11,11 +11,9 @@ use lib.Dec.{eqb}
 use lib.ListN.{length, getD}
 use borrow.Author.Tests.{eq-eqb, eqb-true, ne-eqb, le-leb, lt-ltb}
 use Rattle.limits.specs.Limits.{most-columns, most-rows, most-constants}
-use Rattle.counting.specs.Bools.{iff-eq, and-in, and-left, and-right}
+use Rattle.counting.specs.Bools.{iff-eq, and-in}
 use Rattle.counting.specs.Sets.{Set, _∈_}
-use Rattle.columns.specs.Columns.{members, upto, within}
-use Rattle.columns.specs.ColumnSets.{whole}
-use Rattle.columns.specs.declared.ColumnSet.{ColumnSet}
+use Rattle.columns.specs.Columns.{members, upto}
 use Rattle.columns.specs.Words.Operations.{within-iff}
 use Rattle.columns.specs.Words.SetLaws.{upto-iff}
 use Rattle.rank.specs.Modulus.{field-of}
@@ -23,7 +21,7 @@ use Rattle.rank.specs.ModulusLaws.{residue-zero}
 use Rattle.rank.specs.ListedModel.{parameter-at}
 use Rattle.degrees.specs.Dynamics.{Dynamic}
 use Rattle.degrees.specs.Levels.{tight-constants, tight-parameters}
-use Rattle.degrees.specs.TightEntries.{tight-at, tight-off, tight-row, row-tight}
+use Rattle.degrees.specs.TightEntries.{tight-at, tight-off}
 use Rattle.exchange.specs.Solve.{admissible, fitting, Shown}
 use Rattle.exchange.specs.SolveLaws.{all-below-iff}
 use Rattle.degree.specs.Code.{Weighed, TightConstants, TightParameters, Ready, model-with, tableau-of}

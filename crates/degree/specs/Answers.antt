@@ -1,19 +1,19 @@
 -- Document 02, E14: what the call about the degree promises, for a model handed over and for the model in a file. Definitions only.
 use Prim.Native.Nat.{ℕ, _*_, _≤_, _<_}
 use mathlib.Core.Path.{_≡_}
-use mathlib.Core.Bool.{Bool, true, not, _&&_, _||_}
+use mathlib.Core.Bool.{Bool, not, _&&_, _||_}
 use mathlib.Core.List.{List}
 use mathlib.Core.Option.{Option}
 use lib.Dec.{eqb, leb}
 use lib.ListN.{length, getD, replicate}
 use Rattle.limits.specs.Limits.{most-rows, no-column}
-use Rattle.counting.specs.Sets.{Set, all}
+use Rattle.counting.specs.Sets.{all}
 use Rattle.columns.specs.Columns.{members}
 use Rattle.columns.specs.ColumnSets.{whole, empty-set}
 use Rattle.rank.specs.ListedModel.{listed-model}
 use Rattle.rank.specs.Layered.Model.{Model, Assignment, Legal, constants}
 use Rattle.rank.specs.Layered.Rank.{verdict}
-use Rattle.degrees.specs.Degrees.{Powers, PlacesAll, degree, listed-powers, weight}
+use Rattle.degrees.specs.Degrees.{Powers, AllPlaced, degree, listed-powers, weight}
 use Rattle.exchange.specs.Solution.{ShowsRow, shown}
 use Rattle.format.specs.Refusals.{Tests, unless, _then_, first-refusal, area-short, no-degree, area-test, area-tests, content-tests}
 use Rattle.format.specs.File.Piece.{closed}
@@ -74,7 +74,7 @@ assignment M r = shown (M .n) (M .b) (members (whole (r .constants))) (r .rows)
 pub record DegreeAnswered (M : Model) (W : Powers) (r : Degree) : Type 0 where
   pub is-degree : r .degree ≡ degree M W
   pub is-legal : Legal M (assignment M r)
-  pub places-all : PlacesAll M (assignment M r)
+  pub places-all : AllPlaced M (assignment M r)
   pub reaches : weight M W (assignment M r) ≡ degree M W
   pub side-shown : (x : ℕ) → members (whole (r .constants)) x ≡ constants (assignment M r) x
   pub rows-shown : (i : ℕ) → i < M .b → ShowsRow (M .n) (M .b) (members (whole (r .constants))) (r .rows) i

@@ -9,7 +9,7 @@ ghost use Rattle.limits.specs.Limits.{most-columns, most-rows};
 ghost use Rattle.counting.specs.Sets.{_∈_};
 ghost use Rattle.columns.specs.Columns.{members, within};
 ghost use Rattle.columns.specs.ColumnSets.{whole, row-numbers};
-ghost use Rattle.degrees.specs.Degrees.{total};
+ghost use Rattle.rank.specs.ListedModelLaws.{total};
 ghost use Rattle.degree.specs.Code.{Top, Lines, ParameterRow, Tops, Weighed, touches, Rise, LevelsRaised, HeightsRaised, TightRow, AtLevel, TightConstants, TightParameters, Low};
 use columns::ColumnSet;
 use columns::MOST_WORDS;

@@ -13,7 +13,8 @@ use Rattle.counting.specs.Sets.{#, Set, touching, ∁, _∈_, _∩_}
 use Rattle.rank.specs.Layered.Model.{Assignment, Legal, Seat, constant, constants, is-constant, is-placed, row}
 use Rattle.rank.specs.Layered.Meaning.{seat-cases}
 use Rattle.rank.specs.Linear.Kernels.{hits, hits-iff, indep-count, indep-sub, same-indep}
-use Rattle.degrees.specs.Degrees.{power-at, total, weight, PlacesAll}
+use Rattle.rank.specs.ListedModelLaws.{total}
+use Rattle.degrees.specs.Degrees.{power-at, weight, AllPlaced}
 use Rattle.degrees.specs.Dynamics.{Dynamic, layered, over, powers}
 use Rattle.degrees.specs.Levels.{Levelled, tight, tight-constants, tight-parameters}
 use Rattle.degrees.specs.TightEntries.{tight-nonzero, tight-row}
@@ -25,7 +26,7 @@ module _ (X : Dynamic) where
   open Field K using (F, 𝟘)
 
   -- columns of a full assignment are no more than rows that hold them
-  module _ (P : ℕ → ℕ → F) (U : ℕ → ℕ → Bool) (A : Assignment) (l : Legal (over X P U) A) (f : PlacesAll (layered X) A) (J R : Set)
+  module _ (P : ℕ → ℕ → F) (U : ℕ → ℕ → Bool) (A : Assignment) (l : Legal (over X P U) A) (f : AllPlaced (layered X) A) (J R : Set)
       (on-constant : (h x : ℕ) → h < a → x < n → x ∈ J → A x ≡ constant → P h x ≢ 𝟘 → h ∈ R)
       (on-row : (r x : ℕ) → r < b → x < n → x ∈ J → A x ≡ row r → (a + r) ∈ R) where
     C : Set
@@ -80,7 +81,7 @@ module _ (X : Dynamic) where
     reseat A l = record { offered = l .offered; independent = same-indep (d .kernel) (l .independent); parameter = l .parameter; one-each = l .one-each }
 
     -- no full legal assignment weighs more than levels less heights
-    pub bound : (A : Assignment) → Legal (layered X) A → PlacesAll (layered X) A → weight (layered X) (powers X) A + total n z ≤ total a row-power + total (a + b) L
+    pub bound : (A : Assignment) → Legal (layered X) A → AllPlaced (layered X) A → weight (layered X) (powers X) A + total n z ≤ total a row-power + total (a + b) L
     bound A l f = omega (
       arith,
       weight-value A z,
@@ -96,7 +97,7 @@ module _ (X : Dynamic) where
     )
 
     -- a full assignment on the tight entries reaches it
-    pub reached : a + b ≡ n → (A : Assignment) → Legal (tight X P L z) A → PlacesAll (layered X) A → weight (layered X) (powers X) A + total n z ≡ total a row-power + total (a + b) L
+    pub reached : a + b ≡ n → (A : Assignment) → Legal (tight X P L z) A → AllPlaced (layered X) A → weight (layered X) (powers X) A + total n z ≡ total a row-power + total (a + b) L
     reached e A l f = omega (
       arith,
       bound A (tight-legal X P L z d A l) f,

@@ -1,6 +1,6 @@
 -- The definitions compute: degrees of small models, by running the definitions. Assumes nothing.
 use Prim.Native.Nat.{ℕ}
-use mathlib.Core.Bool.{decide, true}
+use mathlib.Core.Bool.{decide}
 use mathlib.Core.List.{List, [], _∷_}
 use mathlib.Core.Path.{refl, _≡_}
 use native.Mathlib.Decide.{decLe, decLt, ℕ-discrete}
@@ -14,7 +14,8 @@ use Rattle.rank.specs.Independent.{in-kernel, independent, is-zero, last-coeffi
 use Rattle.rank.specs.Layered.Model.{has-parameter, legal, same-row}
 use Rattle.rank.specs.Layered.Rank.{largest-assignment, last-seat, seat}
 use Rattle.rank.specs.Linear.Independence.{dot, Σ}
-use Rattle.degrees.specs.Degrees.{degree, listed-powers, power-at, total, weight}
+use Rattle.rank.specs.ListedModelLaws.{total}
+use Rattle.degrees.specs.Degrees.{degree, listed-powers, power-at, weight}
 
 module _ (P : Prime 2) where
   -- the degree of two columns, a constant rows and b parameter rows modulo 2, with powers

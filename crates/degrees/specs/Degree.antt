@@ -13,14 +13,15 @@ use Rattle.rank.specs.Layered.Duality.{rank-reached}
 use Rattle.rank.specs.Layered.Model.{Model, Assignment, Legal, Seat, legal, placing, size}
 use Rattle.rank.specs.Layered.Rank.{largest-assignment, last-seat, rank, seat}
 use Rattle.rank.specs.Layered.Meaning.{chosen-seats, legal-seats, legal-true, seat-cases, seats-chosen, true-legal}
-use Rattle.degrees.specs.Degrees.{Powers, PlacesAll, degree, power-at, total, weight}
+use Rattle.rank.specs.ListedModelLaws.{total}
+use Rattle.degrees.specs.Degrees.{Powers, AllPlaced, degree, power-at, weight}
 use Rattle.degrees.specs.Totals.{total-ext, total-zero}
 
 module _ (M : Model) (W : Powers) where
   open Model M using (b, n, T)
 
   -- as many columns as there are
-  pub size-full : (A : Assignment) → size M A ≡ n → PlacesAll M A
+  pub size-full : (A : Assignment) → size M A ≡ n → AllPlaced M A
   size-full A e x l = elim (true? (placing A x)) [
     | yes s ↦ s
     | no ns ↦ absurd (omega (arith, #-strict n (placing A) (λ y. true) (λ y m s. refl) x l refl ns, #-le n (λ y. true)))
@@ -33,7 +34,7 @@ module _ (M : Model) (W : Powers) where
   abbrev tested : Assignment → ℕ
   tested A = cond (test A) (weight M W A) 0
 
-  pub degree-bounds : (A : Assignment) → Legal M A → PlacesAll M A → weight M W A ≤ degree M W
+  pub degree-bounds : (A : Assignment) → Legal M A → AllPlaced M A → weight M W A ≤ degree M W
   unfolding degree largest-assignment
   degree-bounds A l f = omega (
     arith,
@@ -42,7 +43,7 @@ module _ (M : Model) (W : Powers) where
   )
 
   abbrev pub Reached : Type 0
-  Reached = (A : Assignment) × Legal M A × PlacesAll M A × (weight M W A ≡ degree M W)
+  Reached = (A : Assignment) × Legal M A × AllPlaced M A × (weight M W A ≡ degree M W)
 
   -- such an assignment reaches it, or there is none
   pub degree-cases : Reached ⊎ (degree M W ≡ 0)
@@ -63,7 +64,7 @@ module _ (M : Model) (W : Powers) where
   pub degree-reached : rank M ≡ n → Reached
   degree-reached e =
       let w : (A : Assignment) × Legal M A × (size M A ≡ rank M) = rank-reached M in
-      let f : PlacesAll M (w .0) = size-full (w .0) (w .2 ∙ e) in
+      let f : AllPlaced M (w .0) = size-full (w .0) (w .2 ∙ e) in
       ⊎-elim (λ r. r) (λ z. (w .0, w .1, f, omega (arith, degree-bounds (w .0) (w .1) f))) degree-cases
 
   -- without powers no legal assignment has a total

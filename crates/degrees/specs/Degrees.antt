@@ -1,16 +1,12 @@
 -- Document 02, E14: the powers of a layered model, the total of an assignment, and the degree. Definitions only; assumes nothing.
-use Prim.Native.Nat.{ℕ, zero, suc, _+_, _*_, _<_}
+use Prim.Native.Nat.{ℕ, _+_, _*_, _<_}
 use mathlib.Core.Bool.{_&&_, cond}
 use mathlib.Core.List.{List}
 use lib.ListN.{getD}
 use Rattle.counting.specs.Sets.{all, _∈_}
+use Rattle.rank.specs.ListedModelLaws.{total}
 use Rattle.rank.specs.Layered.Model.{Model, Seat, out, constant, row, Assignment, placing, legal}
 use Rattle.rank.specs.Layered.Rank.{largest-assignment}
-
--- f 0 + .. + f (n - 1)
-unfoldable pub total : ℕ → (ℕ → ℕ) → ℕ
-total zero f = 0
-total (suc n) f = f n + total n f
 
 -- the powers of s: of constant row h, of column x, and of the parameter in row r at column x, which is not read where there is none
 pub record Powers : Type 0 where
@@ -43,6 +39,6 @@ module _ (M : Model) (W : Powers) where
   unfoldable pub degree : ℕ
   degree = largest-assignment M (λ A. cond (legal M A && all n (placing A)) (weight A) 0)
 
--- A places all n columns
-abbrev pub PlacesAll : Model → Assignment → Type 0
-PlacesAll M A = (x : ℕ) → x < M .n → x ∈ placing A
+-- all n columns are placed by A
+abbrev pub AllPlaced : Model → Assignment → Type 0
+AllPlaced M A = (x : ℕ) → x < M .n → x ∈ placing A

@@ -1,4 +1,4 @@
--- E14, the descent by which the degree is found: levels of rows and heights of columns that no entry exceeds, the tight entries, and what one round does.
+-- Document 02, E14: the descent by which the degree is found: levels of rows and heights of columns that no entry exceeds, the tight entries, and what one round does.
 -- Definitions only; assumes nothing.
 use Prim.Native.Nat.{_*_, _+_, _<_, ℕ, _≤_}
 use mathlib.Core.Bool.{_&&_, Bool, decide, true}
@@ -11,7 +11,7 @@ use Rattle.counting.specs.Sets.{Set, choose, indicator, touching, _∈_}
 use Rattle.rank.specs.Layered.Model.{Model}
 use Rattle.rank.specs.Linear.Kernels.{Same, hits}
 use Rattle.rank.specs.Linear.Tableaus.{Tableau}
-use Rattle.degrees.specs.Degrees.{total}
+use Rattle.rank.specs.ListedModelLaws.{total}
 use Rattle.degrees.specs.Dynamics.{Dynamic, over}
 
 -- s more on S: so the levels of the rows that touch a set are raised, and the heights on it

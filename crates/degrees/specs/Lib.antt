@@ -1,4 +1,5 @@
--- The degree of a determinant in s: `Degrees` is the definition, `Dynamics` and `Levels` say what the descent carries, `Theorems` is what is proved of them; the rest are lemmas.
+-- The degree of a determinant in s: `Degrees` is the definition, `Dynamics` and `Levels` say what the descent carries, `Theorems` what is proved of both;
+-- the rest are lemmas.
 pub mod Degrees
 pub mod Dynamics
 pub mod Levels

@@ -3,18 +3,18 @@
 use Prim.Native.Nat.{_*_, _+_, _<_, ℕ, _≤_}
 use mathlib.Core.Bool.{Bool, false, false≢true, true}
 use mathlib.Core.Logic.{_≢_}
-use mathlib.Core.Path.{refl, sym, _∙_, _≡_}
+use mathlib.Core.Path.{refl, _≡_}
 use native.Mathlib.Nat.{mul-le-mul}
 use native.Mathlib.Omega.{arith}
 use Rattle.residue.specs.Fields.{Field}
 use Rattle.counting.specs.Blocks.{#-plus, beside-high, beside-low}
 use Rattle.counting.specs.Bools.{and-in}
-use Rattle.counting.specs.Counts.{#-ext, #-∁, touching-iff}
+use Rattle.counting.specs.Counts.{#-ext, #-∁}
 use Rattle.counting.specs.Injections.{#-mono}
-use Rattle.counting.specs.Sets.{#, Set, indicator, touching, ∁, _∈_, _∩_}
+use Rattle.counting.specs.Sets.{#, Set, indicator, touching, ∁, _∩_}
 use Rattle.rank.specs.Layered.Rank.{sum}
-use Rattle.rank.specs.Linear.Kernels.{hits, hits-iff}
-use Rattle.degrees.specs.Degrees.{total}
+use Rattle.rank.specs.Linear.Kernels.{hits}
+use Rattle.rank.specs.ListedModelLaws.{total}
 use Rattle.degrees.specs.Dynamics.{Dynamic}
 use Rattle.degrees.specs.Elimination.{constant-rows}
 use Rattle.degrees.specs.Levels.{Eliminated, Levelled, Room, raised, tight, tight-constants, tight-parameters, touched}

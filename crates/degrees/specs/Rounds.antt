@@ -1,9 +1,7 @@
 -- From round to round: how the descent starts, goes on and ends. Assumes nothing.
-use Prim.Native.Nat.{_*_, _+_, _<_, suc, zero, ℕ, _≤_}
-use mathlib.Core.Bool.{true}
-use mathlib.Core.Logic.{by-cases, _≢_, ⊎-elim}
+use Prim.Native.Nat.{_*_, _+_, _<_, ℕ, _≤_}
+use mathlib.Core.Logic.{_≢_, ⊎-elim}
 use mathlib.Core.Path.{_≡_}
-use native.Mathlib.Decide.{ℕ-discrete}
 use native.Mathlib.Omega.{arith}
 use Rattle.residue.specs.Fields.{Field}
 use Rattle.counting.specs.Counts.{#-le}
@@ -12,10 +10,9 @@ use Rattle.rank.specs.Layered.Duality.{rank-reached}
 use Rattle.rank.specs.Layered.Minimax.{sum-short}
 use Rattle.rank.specs.Layered.Model.{Assignment, Legal, placing, size}
 use Rattle.rank.specs.Layered.Rank.{rank, short, sum}
-use Rattle.rank.specs.Linear.Kernels.{same-refl}
 use Rattle.degrees.specs.Bound.{bound, reached}
 use Rattle.degrees.specs.Degree.{degree-bounds, degree-cases}
-use Rattle.degrees.specs.Degrees.{degree, weight, PlacesAll}
+use Rattle.degrees.specs.Degrees.{degree, weight, AllPlaced}
 use Rattle.degrees.specs.Dynamics.{Dynamic, layered, powers}
 use Rattle.degrees.specs.Levels.{AfterRounds, Eliminated, Levelled, Room, raised, tight, touched}
 use Rattle.degrees.specs.Raising.{bound-falls, raised-le, raised-levelled}
@@ -36,7 +33,7 @@ module _ (X : Dynamic) where
   }
 
   -- a full assignment on the tight entries has the degree
-  pub last-weight : (P : ℕ → ℕ → F) (L z : ℕ → ℕ) (d : Levelled X P L z) → a + b ≡ n → (A : Assignment) → Legal (tight X P L z) A → PlacesAll (layered X) A
+  pub last-weight : (P : ℕ → ℕ → F) (L z : ℕ → ℕ) (d : Levelled X P L z) → a + b ≡ n → (A : Assignment) → Legal (tight X P L z) A → AllPlaced (layered X) A
       → weight (layered X) (powers X) A ≡ degree (layered X) (powers X)
   last-weight P L z d e A l f =
       let le : weight (layered X) (powers X) A ≤ degree (layered X) (powers X) = degree-bounds (layered X) (powers X) A (tight-legal X P L z d A l) f in
@@ -60,7 +57,7 @@ module _ (X : Dynamic) where
     }
 
     -- the bound falls in each round, so the rise is small
-    pub rounds-few : (A : Assignment) → Legal (layered X) A → PlacesAll (layered X) A → k ≤ c * (a + b)
+    pub rounds-few : (A : Assignment) → Legal (layered X) A → AllPlaced (layered X) A → k ≤ c * (a + b)
     unfolding weight
     rounds-few A l f = omega (arith, h .fallen, bound X P L z (h .levelled) A l f)
 

@@ -15,7 +15,8 @@ use Rattle.exchange.specs.Reduction.{reduced}
 use Rattle.exchange.specs.Solution.{Solved, shown}
 use Rattle.degrees.specs.Bound.{bound, reached}
 use Rattle.degrees.specs.Degree.{Reached, degree-bounds, degree-reached, degree-zero, size-full}
-use Rattle.degrees.specs.Degrees.{Powers, PlacesAll, degree, total, weight}
+use Rattle.rank.specs.ListedModelLaws.{total}
+use Rattle.degrees.specs.Degrees.{Powers, AllPlaced, degree, weight}
 use Rattle.degrees.specs.Dynamics.{Dynamic, layered, powers}
 use Rattle.degrees.specs.Elimination.{Marked, eliminate, eliminated-as}
 use Rattle.degrees.specs.Levels.{AfterRounds, Eliminated, Levelled, Room, raised, tight, touched}
@@ -25,11 +26,11 @@ use Rattle.degrees.specs.TightPart.{tight-legal}
 
 module _ (M : Model) (W : Powers) where
   -- No legal assignment that places all n columns exceeds the degree,
-  pub none-exceeds-the-degree : (A : Assignment) → Legal M A → PlacesAll M A → weight M W A ≤ degree M W
+  pub none-exceeds-the-degree : (A : Assignment) → Legal M A → AllPlaced M A → weight M W A ≤ degree M W
   none-exceeds-the-degree = degree-bounds M W
 
   -- and where the rank is n one reaches it.
-  pub degree-is-reached : rank M ≡ M .n → (A : Assignment) × Legal M A × PlacesAll M A × (weight M W A ≡ degree M W)
+  pub degree-is-reached : rank M ≡ M .n → (A : Assignment) × Legal M A × AllPlaced M A × (weight M W A ≡ degree M W)
   degree-is-reached = degree-reached M W
 
   -- With every power 0 the degree is 0.
@@ -43,7 +44,7 @@ module _ (X : Dynamic) where
 
   -- The bound: where no entry stands above its row's level, no legal assignment that places all n columns has a total above the levels less the heights.
   pub levels-bound-every-total : (P : ℕ → ℕ → F) (L z : ℕ → ℕ) → Levelled X P L z
-      → (A : Assignment) → Legal (layered X) A → PlacesAll (layered X) A → weight (layered X) (powers X) A + total n z ≤ total a row-power + total (a + b) L
+      → (A : Assignment) → Legal (layered X) A → AllPlaced (layered X) A → weight (layered X) (powers X) A + total n z ≤ total a row-power + total (a + b) L
   levels-bound-every-total = bound X
 
   -- The descent starts with levels and heights up to some number.
@@ -70,13 +71,13 @@ module _ (X : Dynamic) where
 
       -- where its rank is n, the assignment is legal in the whole model, places all n columns, and its total is the degree: levels less heights.
       pub last-round-reaches-the-degree : a + b ≡ n → the-rank ≡ n → let A : Assignment = shown n b the-side the-rows in
-          Legal (layered X) A × PlacesAll (layered X) A × (weight (layered X) (powers X) A ≡ degree (layered X) (powers X))
+          Legal (layered X) A × AllPlaced (layered X) A × (weight (layered X) (powers X) A ≡ degree (layered X) (powers X))
           × (degree (layered X) (powers X) + total n z ≡ total a row-power + total (a + b) L)
       last-round-reaches-the-degree e r =
           let A : Assignment = shown n b the-side the-rows in
           let placed-all : size (tight X P L z) A ≡ n =
           #-ext n (placing A) (placed (tight X P L z)) (λ x l. s .places-it x) ∙ placed-size (tight X P L z) ∙ sym (s .is-rank) ∙ r in
-          let f : PlacesAll (layered X) A = size-full (layered X) (powers X) A placed-all in
+          let f : AllPlaced (layered X) A = size-full (layered X) (powers X) A placed-all in
           let d : weight (layered X) (powers X) A ≡ degree (layered X) (powers X) = last-weight X P L z (h .levelled) e A (s .is-legal) f in
           (tight-legal X P L z (h .levelled) A (s .is-legal), f, d, omega (arith, reached X P L z (h .levelled) e A (s .is-legal) f))
 

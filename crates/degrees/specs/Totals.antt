@@ -8,7 +8,7 @@ use native.Mathlib.Omega.{arith}
 use Rattle.counting.specs.Bools.{not-true, true?}
 use Rattle.counting.specs.Counts.{#-∁}
 use Rattle.counting.specs.Sets.{#, Set, indicator, ∁, _∈_}
-use Rattle.degrees.specs.Degrees.{total}
+use Rattle.rank.specs.ListedModelLaws.{total}
 use Rattle.degrees.specs.Levels.{raised}
 
 total-mono : (n : ℕ) (f g : ℕ → ℕ) → ((x : ℕ) → x < n → f x ≤ g x) → total n f ≤ total n g

@@ -9,13 +9,15 @@ ghost use Rattle.columns.specs.ColumnSets.{row-numbers};
 ghost use Rattle.format.specs.Numbers.{lent};
 ghost use Rattle.format.specs.File.Format.{WriteCall};
 ghost use Rattle.touching.specs.RowCount.{touching-count};
-ghost use Rattle.harness.specs.Calls.{LayeredBytes, MixedBytes, MultipliersBytes, ReasonBytes, AcceptanceCallBytes, BlocksCallBytes, FileInAreas};
+ghost use Rattle.harness.specs.Calls.{LayeredBytes, MixedBytes, MultipliersBytes, ReasonBytes, AcceptanceCallBytes, BlocksCallBytes, DegreeCallBytes, FileInAreas};
 use acceptance::CLAIM_LENGTH;
 use acceptance::model_acceptance;
 use acceptance::put_acceptance;
 use acceptance::read_claim;
 use blocks::model_blocks;
 use blocks::put_blocks;
+use degree::model_degree;
+use degree::put_degree;
 use format::refusals;
 use host::put_answer;
 use host::put_mixed;
@@ -179,6 +181,43 @@ pub extern "C" fn harness_blocks(
         return r.refusal;
     }
     put_blocks(answer, r)
+}
+
+// The bytes of the degree and of an assignment that reaches it.
+#[no_mangle]
+pub extern "C" fn harness_degree(
+    p: u32,
+    n: usize,
+    a: usize,
+    b: usize,
+    constants: &[u16],
+    parameters: &[u64],
+    numbered: bool,
+    numbers: &[u16],
+    rowpowers: &[u8],
+    columnpowers: &[u8],
+    parameterpowers: &[u8],
+    answer: &mut [u8],
+) -> u32
+    ensures { λ r. ⌜ DegreeCallBytes p n a b (now (constants .entry)) (row-numbers (now (parameters .entry))) (lent numbered (now (numbers .entry))) (now (rowpowers .entry)) (now (columnpowers .entry)) (now (parameterpowers .entry)) (now (answer .entry)) r (now (answer .exit)) ⌝ }
+{
+    let r = model_degree(
+        p,
+        n,
+        a,
+        b,
+        constants,
+        parameters,
+        numbered,
+        numbers,
+        rowpowers,
+        columnpowers,
+        parameterpowers,
+    );
+    if r.refusal != 0 {
+        return r.refusal;
+    }
+    put_degree(answer, r)
 }
 
 // The bytes of the model's file; what a C caller does not see is how many they are.

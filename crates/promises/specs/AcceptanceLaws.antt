@@ -2,23 +2,23 @@
 use Prim.Native.Nat.{ℕ, _<_, _≤_}
 use mathlib.Core.Path.{_≡_, sym, ap, _∙_, subst, fun-ext}
 use mathlib.Core.Logic.{inl, inr, by-cases}
-use mathlib.Core.Bool.{true, false, true≢false}
+use mathlib.Core.Bool.{true, true≢false}
 use native.Mathlib.Omega.{arith}
 use native.Mathlib.Decide.{ℕ-discrete, decLt}
 use mathlib.Core.List.{List}
-use lib.ListN.{getD}
+use lib.ListN.{length, getD}
 use Rattle.limits.specs.Limits.{most-columns, most-rows, no-column}
 use Rattle.counting.specs.Sets.{Set, _⊆_}
 use Rattle.counting.specs.Counts.{#-ext}
 use Rattle.columns.specs.Columns.{members}
 use Rattle.columns.specs.ColumnSets.{whole}
-use Rattle.rank.specs.Layered.Model.{Model, row, Assignment, is-constant, placing, Legal, size}
+use Rattle.rank.specs.Layered.Model.{Model, row, Assignment, is-constant, constants, placing, Legal, size}
 use Rattle.rank.specs.Layered.Rank.{sum, rank, placed, short}
 use Rattle.rank.specs.Theorems.{short-is-the-smallest, placed-has-the-rank}
 use Rattle.claims.specs.Claim.{Shows, AcceptsClaim}
 use Rattle.claims.specs.ClaimLaws.{constant-seat, named-below, read-below}
 use Rattle.claims.specs.Theorems.{accepted-is-the-rank, short-in-accepted}
-use Rattle.exchange.specs.Solution.{shown}
+use Rattle.exchange.specs.Solution.{ShowsRow, shown}
 use Rattle.layered.specs.Answers.{Refused, Answered, RankCall}
 use Rattle.layered.specs.declared.Answer.{Answer}
 use Rattle.acceptance.specs.Answers.{ClaimAccepted, AcceptanceRefused, AcceptanceAnswered}
@@ -28,6 +28,39 @@ use Rattle.acceptance.specs.declared.Acceptance.{Acceptance}
 -- the claim that an answer makes: its rank, its assignment and its short set
 abbrev pub claim-of : Answer → Claim
 claim-of s = record { rank = s .rank; constants = s .constants; rows = s .rows; set = s .short }
+
+-- ---- an answer's side and rows
+
+-- where they show nothing but a legal assignment, it is the one that a claim with them shows
+module _ (M : Model) (side : Set) (rows : List ℕ) where
+  abbrev A : Assignment
+  A = shown (M .n) (M .b) side rows
+
+  pub assignment-shown : M .n ≤ most-columns → M .b ≤ most-rows → length rows ≡ most-rows → Legal M A → ((x : ℕ) → side x ≡ constants A x)
+      → ((r : ℕ) → r < M .b → ShowsRow (M .n) (M .b) side rows r) → ((r : ℕ) → M .b ≤ r → r < most-rows → getD rows r 0 ≡ no-column) → Shows side rows A
+  assignment-shown few few-rows long legal side-shown rows-shown past-rows = record {
+    on-the-side = λ x. ((λ e. side-shown x ∙ ap is-constant e), λ o. constant-seat (A x) (sym (side-shown x) ∙ o));
+    on-rows = λ x r. (
+      λ e.
+          let p = legal .parameter x r e in
+          elim (rows-shown r (p .0)) [
+            | inl w ↦ let d : getD rows r 0 ≡ x = legal .one-each (getD rows r 0) x r (w .1) e in (at r (omega (arith, p .0)) ∙ d, λ z. omega (arith, z, d, w .0))
+            | inr w ↦ absurd (w .1 x e)
+          ],
+      λ m.
+          let l : r < most-rows = omega (arith, long, named-below rows r x m) in
+          elim (decLt r (M .b)) [
+            | yes below ↦ elim (rows-shown r below) [
+              | inl w ↦ subst (λ (y : ℕ). A y ≡ row r) (sym (at r l) ∙ m .0) (w .1)
+              | inr w ↦ absurd (m .1 (sym (m .0) ∙ at r l ∙ w .0))
+            ]
+            | no nb ↦ absurd (m .1 (sym (m .0) ∙ at r l ∙ past-rows r (omega arith) l))
+          ],
+    );
+  }
+    where
+      at : (r : ℕ) → r < most-rows → getD rows r no-column ≡ getD rows r 0
+      at r l = read-below rows r no-column 0 (omega (arith, long))
 
 -- ---- an answer of ours
 
@@ -56,37 +89,9 @@ module _ (M : Model) (s : Answer) (h : Answered M s) where
   pub own-size : size M (own-assignment M s) ≡ s .rank
   own-size = #-ext (M .n) (placing (own-assignment M s)) (placed M) (λ x l. h .solved .places-it x) ∙ placed-has-the-rank M ∙ sym (h .solved .is-rank)
 
-  module _ (few : M .n ≤ most-columns) (few-rows : M .b ≤ most-rows) where
-    abbrev A : Assignment
-    A = own-assignment M s
-
-    at : (r : ℕ) → r < most-rows → getD (s .rows) r no-column ≡ getD (s .rows) r 0
-    at r l = read-below (s .rows) r no-column 0 (omega (arith, h .row-count))
-
-    -- its own assignment is the one that its side and rows show
-    pub own-shown : Shows (members (whole (s .constants))) (s .rows) (own-assignment M s)
-    own-shown =
-        let v = h .solved in
-        record {
-          on-the-side = λ x. ((λ e. v .side-shown x ∙ ap is-constant e), λ o. constant-seat (A x) (sym (v .side-shown x) ∙ o));
-          on-rows = λ x r. (
-            λ e.
-                let p = v .is-legal .parameter x r e in
-                elim (v .rows-shown r (p .0)) [
-                  | inl w ↦ let d : getD (s .rows) r 0 ≡ x = v .is-legal .one-each (getD (s .rows) r 0) x r (w .1) e in (at r (omega (arith, p .0)) ∙ d, λ z. omega (arith, z, d, w .0))
-                  | inr w ↦ absurd (w .1 x e)
-                ],
-            λ m.
-                let l : r < most-rows = omega (arith, h .row-count, named-below (s .rows) r x m) in
-                elim (decLt r (M .b)) [
-                  | yes below ↦ elim (v .rows-shown r below) [
-                    | inl w ↦ subst (λ (y : ℕ). A y ≡ row r) (sym (at r l) ∙ m .0) (w .1)
-                    | inr w ↦ absurd (m .1 (sym (m .0) ∙ at r l ∙ w .0))
-                  ]
-                  | no nb ↦ absurd (m .1 (sym (m .0) ∙ at r l ∙ v .past-rows r (omega arith) l))
-                ],
-          );
-        }
+  -- its own assignment is the one that its side and rows show
+  pub own-shown : M .n ≤ most-columns → M .b ≤ most-rows → Shows (members (whole (s .constants))) (s .rows) (own-assignment M s)
+  own-shown few few-rows = let v = h .solved in assignment-shown M (members (whole (s .constants))) (s .rows) few few-rows (h .row-count) (v .is-legal) (v .side-shown) (v .rows-shown) (v .past-rows)
 
 -- ---- the call about a claim, beside the layered call on the same model
 

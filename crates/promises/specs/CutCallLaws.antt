@@ -32,7 +32,10 @@ use Rattle.reason.specs.Bytes.{reason-length, reason-bytes}
 use Rattle.acceptance.specs.Bytes.{claim-question, AcceptanceOf, acceptance-length, acceptance-bytes}
 use Rattle.blocks.specs.Answers.{BlocksAnswered}
 use Rattle.blocks.specs.Bytes.{blocks-length, blocks-bytes}
-use Rattle.solvability.specs.Host.{HostAnswer, HostMixedAnswer, set-shown, multipliers-question, HostMultipliers, HostReason, HostAccepts, HostBlocks}
+use Rattle.degrees.specs.Degrees.{listed-powers}
+use Rattle.degree.specs.Answers.{file-question, DegreeAnswered}
+use Rattle.degree.specs.Bytes.{degree-length, degree-bytes}
+use Rattle.solvability.specs.Host.{HostAnswer, HostMixedAnswer, set-shown, multipliers-question, HostMultipliers, HostReason, HostAccepts, HostBlocks, HostDegree}
 use Rattle.text.specs.Text.{refused-line, Prints}
 use Rattle.text.specs.declared.Printed.{Printed}
 use Rattle.report.specs.Report.{answer-text}
@@ -147,6 +150,9 @@ module _ (k : ℕ) (s : List ℕ) (bytes : AreBytes s) (h : longest-file < k) wh
 
   pub host-blocks-cut : (area : List ℕ) (number : ℕ) (area′ : List ℕ) → HostBlocks (take k s) area number area′ → HostBlocks s area number area′
   host-blocks-cut = area-cut (λ t. []) blocks-length (λ t. WrittenOver (BlocksAnswered (file-model t)) blocks-bytes)
+
+  pub host-degree-cut : (rp cp pp area : List ℕ) (number : ℕ) (area′ : List ℕ) → HostDegree (take k s) rp cp pp area number area′ → HostDegree s rp cp pp area number area′
+  host-degree-cut rp cp pp = area-cut (λ t. file-question t rp cp pp) degree-length (λ t. WrittenOver (DegreeAnswered (file-model t) (listed-powers (decode t .n) rp cp pp)) degree-bytes)
 
   -- ---- the reports
 

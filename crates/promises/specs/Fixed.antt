@@ -1,4 +1,4 @@
--- Two answers that agree in all that the promises fix: in everything but the two results that document 01 leaves open. Definitions only.
+-- Two answers that agree in all that the promises fix: in everything but the results that the documents leave open. Definitions only.
 use mathlib.Core.Path.{_≡_}
 use Rattle.columns.specs.ColumnSets.{whole}
 use Rattle.layered.specs.declared.Answer.{Answer}
@@ -6,6 +6,7 @@ use Rattle.mixed.specs.declared.MixedAnswer.{MixedAnswer}
 use Rattle.reason.specs.declared.Reason.{Reason}
 use Rattle.acceptance.specs.declared.Acceptance.{Acceptance}
 use Rattle.blocks.specs.declared.Blocks.{Blocks}
+use Rattle.degree.specs.declared.Degree.{Degree}
 
 -- layered answers; open is which side and row a placed column takes
 pub record SameAnswer (r s : Answer) : Type 0 where
@@ -51,6 +52,11 @@ pub record SameBlocks (r s : Blocks) : Type 0 where
   pub same-refusal : r .refusal ≡ s .refusal
   pub same-count : r .count ≡ s .count
   pub same-numbers : r .numbers ≡ s .numbers
+
+-- answers about the degree; open is which assignment that reaches it is shown
+pub record SameDegree (r s : Degree) : Type 0 where
+  pub same-refusal : r .refusal ≡ s .refusal
+  pub same-degree : r .degree ≡ s .degree
 
 -- two results show two answers that agree so
 pub record TwoShown {A : Type 0} (Same : A → A → Type 0) (Shows Also : A → Type 0) : Type 0 where

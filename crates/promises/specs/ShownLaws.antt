@@ -32,6 +32,9 @@ use Rattle.mixed.specs.MixedAnswers.{MixedAnswered}
 use Rattle.mixed.specs.declared.MixedAnswer.{MixedAnswer}
 use Rattle.reason.specs.Answers.{ReasonAnswered}
 use Rattle.reason.specs.declared.Reason.{Reason}
+use Rattle.degrees.specs.Degrees.{Powers}
+use Rattle.degree.specs.Answers.{assignment, DegreeAnswered}
+use Rattle.degree.specs.declared.Degree.{Degree}
 
 below-own-power : (w : ℕ) → w < 2 ^ w
 below-own-power zero = lit< tt
@@ -80,3 +83,6 @@ mixed-shown-whole X r l h = (
 
 pub reason-shown-whole : (p n a b : ℕ) (cs ws : List ℕ) (x : ℕ) (r : Reason) → n ≤ most-columns → ReasonAnswered p n a b cs ws x r → ShownWhole (whole (r .set))
 reason-shown-whole p n a b cs ws x r l h = shown-whole (whole (r .set)) n l (λ y e. reason-iff (listed-model p n a b cs ws) x y .0 (sym (h .set-is y) ∙ e) .0)
+
+pub degree-shown-whole : (M : Model) (W : Powers) (r : Degree) → M .n ≤ most-columns → DegreeAnswered M W r → ShownWhole (whole (r .constants))
+degree-shown-whole M W r l h = shown-whole (whole (r .constants)) (M .n) l (λ x e. h .is-legal .offered x (constant-placed (assignment M r x) (sym (h .side-shown x) ∙ e)) .0)

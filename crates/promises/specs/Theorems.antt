@@ -3,7 +3,7 @@ use Prim.Native.Nat.{ℕ, suc, _+_, _-_, _*_, _%_, _^_, _≤_, _<_}
 use mathlib.Core.Path.{_≡_, refl, sym, _∙_, subst}
 use mathlib.Core.Bool.{Bool, true, false}
 use mathlib.Core.Option.{Option, none, some}
-use mathlib.Core.Logic.{_≢_, _↔_, _⊎_}
+use mathlib.Core.Logic.{_≢_, _↔_, _⊎_, inl, inr}
 use mathlib.Core.List.{List, [], _∷_, flatten}
 use native.Mathlib.Omega.{arith}
 use lib.ListN.{length, getD, take, drop}
@@ -16,8 +16,8 @@ use Rattle.columns.specs.ColumnSets.{whole, Fits, row-numbers}
 use Rattle.columns.specs.declared.ColumnSet.{ColumnSet}
 use Rattle.columns.specs.Words.Rows.{rows-below}
 use Rattle.columns.specs.Words.Bytes.{AreBytes}
-use Rattle.rank.specs.Layered.Model.{Model, Assignment, Legal, size}
-use Rattle.rank.specs.Layered.Rank.{constant-rank, sum, rank, short}
+use Rattle.rank.specs.Layered.Model.{Model, row, Assignment, constants, Legal, size}
+use Rattle.rank.specs.Layered.Rank.{constant-rank, sum, rank, short, verdict}
 use Rattle.rank.specs.ListedModel.{listed-model}
 use Rattle.rank.specs.ListedModelLaws.{OnlyZero}
 use Rattle.dependence.specs.PlainNumbers.{SumsTo}
@@ -25,6 +25,8 @@ use Rattle.blocking.specs.Reason.{Blocking, BlockedWith}
 use Rattle.blocking.specs.Theorems.{short-is-all-reasons}
 use Rattle.claims.specs.Claim.{Shows}
 use Rattle.listings.specs.Blocks.{Listing}
+use Rattle.degrees.specs.Degrees.{Powers, AllPlaced, listed-powers, weight}
+use Rattle.degrees.specs.Theorems.{none-exceeds-the-degree, degree-without-powers}
 use Rattle.mixed_models.specs.Mixed.{Mixed, mixed}
 use Rattle.mixed_models.specs.MixedRowUse.{UsesEveryRow, LeavesRow}
 use Rattle.mixed_models.specs.MixedVerdicts.{mixed-determined-uses-every-row, mixed-surplus-leaves-a-row}
@@ -35,7 +37,7 @@ use Rattle.determinants.specs.Theorems.{rank-is-largest-order, mixed-rank-is-la
 use Rattle.format.specs.Lists.{over}
 use Rattle.limits.specs.Limits.{most-columns, most-rows, set-bytes, longest-file, no-column}
 use Rattle.format.specs.Numbers.{lent, numbers-of, is-numbered}
-use Rattle.format.specs.Refusals.{refusal, mixed-refusal}
+use Rattle.format.specs.Refusals.{first-refusal, area-tests, refusal, mixed-refusal}
 use Rattle.format.specs.TestLaws.{model-accepted, accepted-model, unnumbered-accepted}
 use Rattle.format.specs.File.Format.{judge, decode, encode, number-room, RowsCall, ReadCall, handed-over, WriteCall}
 use Rattle.loader.specs.FileRead.{FileRead}
@@ -47,7 +49,7 @@ use Rattle.layered.specs.declared.Answer.{Answer}
 use Rattle.layered.specs.FileModel.{file-model}
 use Rattle.mixed.specs.MixedAnswers.{MixedAnswered, MixedCall, file-mixed}
 use Rattle.mixed.specs.declared.MixedAnswer.{MixedAnswer}
-use Rattle.promises.specs.Fixed.{SameAnswer, SameMixed, SameReason, SameAcceptance, SameBlocks}
+use Rattle.promises.specs.Fixed.{SameAnswer, SameMixed, SameReason, SameAcceptance, SameBlocks, SameDegree}
 use Rattle.multipliers.specs.Answers.{MultipliersCall, MultipliersFileCall}
 use Rattle.multipliers.specs.Bytes.{multipliers-bytes}
 use Rattle.multipliers.specs.declared.Multipliers.{Multipliers}
@@ -61,7 +63,10 @@ use Rattle.acceptance.specs.declared.Acceptance.{Acceptance}
 use Rattle.blocks.specs.Answers.{BlocksAnswered, BlocksCall, BlocksFileCall}
 use Rattle.blocks.specs.Bytes.{blocks-bytes}
 use Rattle.blocks.specs.declared.Blocks.{Blocks}
-use Rattle.solvability.specs.Host.{HostAnswer, HostMixedAnswer, set-shown, HostMultipliers, HostReason, HostAccepts, HostBlocks}
+use Rattle.degree.specs.Answers.{assignment, DegreeRefused, DegreeAnswered, DegreeCall, DegreeFileCall}
+use Rattle.degree.specs.Bytes.{degree-length, degree-bytes}
+use Rattle.degree.specs.declared.Degree.{Degree}
+use Rattle.solvability.specs.Host.{HostAnswer, HostMixedAnswer, set-shown, HostMultipliers, HostReason, HostAccepts, HostBlocks, HostDegree}
 use Rattle.text.specs.declared.Printed.{Printed}
 use Rattle.report.specs.FileReport.{FileReport}
 use Rattle.mixed_report.specs.MixedReport.{MixedFileReport}
@@ -69,11 +74,11 @@ use Rattle.reason_report.specs.ReasonReport.{ReasonFileReport}
 use Rattle.blocks_report.specs.BlocksReport.{BlocksFileReport}
 use Rattle.promises.specs.TripLaws.{read-then-written, written-then-read}
 use Rattle.promises.specs.CutLaws.{judge-cut}
-use Rattle.promises.specs.CutCallLaws.{reading-cut, rows-reading-cut, host-cut, host-mixed-cut, host-multipliers-cut, host-reason-cut, host-accepts-cut, host-blocks-cut, report-cut, mixed-report-cut, reason-report-cut, blocks-report-cut}
+use Rattle.promises.specs.CutCallLaws.{reading-cut, rows-reading-cut, host-cut, host-mixed-cut, host-multipliers-cut, host-reason-cut, host-accepts-cut, host-blocks-cut, host-degree-cut, report-cut, mixed-report-cut, reason-report-cut, blocks-report-cut}
 use Rattle.promises.specs.AnswerLaws.{refusal-same, mixed-refusal-same, write-same, layered-same, mixed-same}
 use Rattle.promises.specs.NumberingLaws.{numbers-front, front-same, named, mixed-unnumbered, picked-same, without-numbers, file-unnumbered}
 use Rattle.promises.specs.RowLaws.{determined-rows, surplus-rows}
-use Rattle.promises.specs.ShownLaws.{ShownWhole, answer-shown-whole, mixed-shown-whole, reason-shown-whole}
+use Rattle.promises.specs.ShownLaws.{ShownWhole, answer-shown-whole, mixed-shown-whole, reason-shown-whole, degree-shown-whole}
 use Rattle.promises.specs.DependenceLaws.{says-dependent, says-depends, says-independent, none-given-otherwise, numbers-sum, numbers-only, number-below-p, number-not-held, held-itself, zero-by-nothing}
 use Rattle.promises.specs.MultiplierLaws.{says, constants-decide}
 use Rattle.promises.specs.MultiplierCallLaws.{file-call, host-call, held-surplus}
@@ -86,6 +91,9 @@ use Rattle.promises.specs.AcceptanceCallLaws.{acceptance-file-call, acce
 use Rattle.promises.specs.BlocksLaws.{shown-block, InNoSet, past-columns, number-below, count-most, shown-listing, any-listing, number-occurs, same-number, order-shown, PermittedAfter, smallest-next, last-is-short, first-are-in-no-set}
 use Rattle.promises.specs.BlocksSameLaws.{blocks-calls-same}
 use Rattle.promises.specs.BlocksCallLaws.{blocks-file-call, blocks-host-call, blocks-bytes-read, host-blocks-refused-alike}
+use Rattle.promises.specs.DegreeLaws.{PowersLow, PowerAbove, PowersLent, due-accepted, due-0-iff, due-16-iff, due-refused, due-cases, due-short, degree-most, every-row-shown, accepted-as-claim, determined-sizes}
+use Rattle.promises.specs.DegreeSameLaws.{SamePowers, degree-calls-same, degree-front-same, degree-lent-same, front-powers}
+use Rattle.promises.specs.DegreeCallLaws.{degree-file-call, degree-file-refused, degree-file-16, degree-host-16, degree-host-call, degree-bytes-read, host-degree-refused-alike, powers-surplus}
 use Rattle.promises.specs.FileLaws.{file-accepted}
 use Rattle.promises.specs.DocumentFile.{document-file, document-accepted, document-model}
 
@@ -161,6 +169,10 @@ pub cut-input-host-blocks : (k : ℕ) (s : List ℕ) → AreBytes s → longest-
     → (area : List ℕ) (number : ℕ) (area′ : List ℕ) → HostBlocks (take k s) area number area′ → HostBlocks s area number area′
 cut-input-host-blocks = host-blocks-cut
 
+pub cut-input-host-degree : (k : ℕ) (s : List ℕ) → AreBytes s → longest-file < k
+    → (rp cp pp area : List ℕ) (number : ℕ) (area′ : List ℕ) → HostDegree (take k s) rp cp pp area number area′ → HostDegree s rp cp pp area number area′
+cut-input-host-degree = host-degree-cut
+
 -- and of the reports that the programs write.
 pub cut-input-report : (k : ℕ) (s : List ℕ) → AreBytes s → longest-file < k
     → (area : List ℕ) (r : Printed) (area′ : List ℕ) → FileReport (take k s) area r area′ → FileReport s area r area′
@@ -219,6 +231,11 @@ module _ (p n a b : ℕ) (cs ws : List ℕ) (ns : Option (List ℕ)) where
   pub surplus-not-read-blocks : (r s : Blocks) → BlocksCall p n a b cs ws ns r → BlocksCall p n a b (take (a * n) cs) (take b ws) front-numbers s → SameBlocks r s
   surplus-not-read-blocks = blocks-calls-same p n a b cs (take (a * n) cs) ws (take b ws) cut-cs cut-ws ns front-numbers surplus-not-tested
 
+  -- nor the degree, whatever stands behind the powers too,
+  pub surplus-not-read-degree : (rp cp pp : List ℕ) (r s : Degree) → DegreeCall p n a b cs ws ns rp cp pp r → DegreeCall p n a b (take (a * n) cs) (take b ws) front-numbers (take a rp) (take n cp) (take (b * n) pp) s → SameDegree r s
+  surplus-not-read-degree rp cp pp = degree-front-same p n a b cs (take (a * n) cs) ws (take b ws) cut-cs cut-ws ns front-numbers (front-same n b ws ns) rp cp pp (take a rp) (take n cp) (take (b * n) pp)
+      (sym (take-take a a rp (omega arith))) (sym (take-take n n cp (omega arith))) (sym (take-take (b * n) (b * n) pp (omega arith)))
+
   -- nor the mixed answer.
   pub surplus-not-read-mixed : {r s : MixedAnswer} → MixedCall p n a b cs ws ns r → MixedCall p n a b (take (a * n) cs) (take b ws) front-numbers s → SameMixed r s
   surplus-not-read-mixed = mixed-same p n a b cs (take (a * n) cs) ws (take b ws) cut-cs cut-ws ns front-numbers surplus-not-tested-mixed
@@ -260,6 +277,11 @@ module _ (p n a b : ℕ) (cs ws ks : List ℕ) where
   -- The blocks are the same.
   pub numbers-change-no-blocks : refusal p n a b cs ws (some ks) ≡ 0 → (r s : Blocks) → BlocksCall p n a b cs ws (some ks) r → BlocksCall p n a b cs ws none s → SameBlocks r s
   numbers-change-no-blocks e = blocks-calls-same p n a b cs cs ws ws refl refl (some ks) none (e ∙ sym (numbers-only-refuse e))
+
+  -- The degree is the same.
+  pub numbers-change-no-degree : refusal p n a b cs ws (some ks) ≡ 0 → (rp cp pp : List ℕ) (r s : Degree) → DegreeCall p n a b cs ws (some ks) rp cp pp r → DegreeCall p n a b cs ws none rp cp pp s → SameDegree r s
+  numbers-change-no-degree e rp cp pp = degree-calls-same p n a b cs cs ws ws refl refl rp cp pp rp cp pp (front-powers p n a b cs ws rp cp pp rp cp pp refl refl refl) (some ks) none
+      (due-accepted p n a b cs ws (some ks) rp cp pp e ∙ sym (due-accepted p n a b cs ws none rp cp pp (numbers-only-refuse e)))
 
   -- An entry without a parameter is not read: another area with the same numbers at the parameters is refused alike,
   module _ (js : List ℕ) (rows : b ≤ length ws) (room : b * n ≤ length ks) (room′ : b * n ≤ length js)
@@ -574,6 +596,125 @@ blocks-from-C-are-the-numbers = blocks-bytes-read
 pub host-blocks-refused-like-a-rank-call : (s area area′ out out′ : List ℕ) (k j : ℕ) → HostAnswer s area k area′ → HostBlocks s out j out′ → judge s ≢ 0 → (k ≡ judge s) × (j ≡ judge s)
 host-blocks-refused-like-a-rank-call = host-blocks-refused-alike
 
+-- ---- the degree of the determinant in s
+
+-- A call about the degree, with powers of constant rows, columns and parameters
+module _ (p n a b : ℕ) (cs ws : List ℕ) (ns : Option (List ℕ)) (rp cp pp : List ℕ) (r : Degree) (call : DegreeCall p n a b cs ws ns rp cp pp r) where
+  abbrev X : Model
+  X = listed-model p n a b cs ws
+
+  abbrev W : Powers
+  W = listed-powers n rp cp pp
+
+  -- that is accepted
+  module _ (ok : r .refusal ≡ 0) where
+    taken : (refusal p n a b cs ws ns ≡ 0) × PowersLent n a b rp cp pp × (verdict X ≡ 1) × PowersLow X W
+    taken = due-0-iff p n a b cs ws ns rp cp pp .0 (sym (call .is-refusal) ∙ ok)
+
+    degree-answered : DegreeAnswered X W r
+    degree-answered = call .if-accepted (sym (call .is-refusal) ∙ ok)
+
+    -- The verdict of the model is 1, so its rank is n and it has n rows, and no power that is read is above 15.
+    pub accepted-is-determined : (verdict X ≡ 1) × (rank X ≡ n) × (a + b ≡ n) × PowersLow X W
+    accepted-is-determined = let d = determined-sizes X (λ x. refl) (taken .2) in (taken .2, d .0, d .1, taken .3)
+
+    -- No legal assignment that places all n columns exceeds the degree,
+    pub none-exceeds-the-shown-degree : (A : Assignment) → Legal X A → AllPlaced X A → weight X W A ≤ r .degree
+    none-exceeds-the-shown-degree A l f = omega (arith, degree-answered .is-degree, none-exceeds-the-degree X W A l f)
+
+    -- and the one shown reaches it: it is legal, places all n columns, and its total is the degree.
+    pub shown-assignment-reaches-the-degree : Legal X (assignment X r) × AllPlaced X (assignment X r) × (weight X W (assignment X r) ≡ r .degree)
+    shown-assignment-reaches-the-degree = let h = degree-answered in (h .is-legal, h .places-all, h .reaches ∙ sym (h .is-degree))
+
+    -- It shows a columns on the constant side, and a column for each parameter row;
+    pub shown-assignment-uses-every-row : (# n (members (whole (r .constants))) ≡ a) × ((i : ℕ) → i < b → (getD (r .rows) i 0 < n) × (assignment X r (getD (r .rows) i 0) ≡ row i))
+    shown-assignment-uses-every-row = every-row-shown X W r degree-answered (taken .2)
+
+    -- the side has no other column, and no other row has one.
+    pub shown-assignment-and-nothing-else : ((x : ℕ) → members (whole (r .constants)) x ≡ constants (assignment X r) x) × ((i : ℕ) → b ≤ i → i < most-rows → getD (r .rows) i 0 ≡ no-column)
+    shown-assignment-and-nothing-else = (degree-answered .side-shown, degree-answered .past-rows)
+
+    -- With every power 0 the degree is 0.
+    pub degree-without-powers-is-0 : ((h : ℕ) → h < a → getD rp h 0 ≡ 0) → ((x : ℕ) → x < n → getD cp x 0 ≡ 0) → ((i x : ℕ) → i < b → x < n → x ∈ members (getD ws i 0) → getD pp (i * n + x) 0 ≡ 0)
+        → r .degree ≡ 0
+    degree-without-powers-is-0 no-rows no-columns no-parameters = degree-answered .is-degree ∙ degree-without-powers X W no-rows no-columns no-parameters
+
+    -- It is never above 15 for each constant row and each column.
+    pub degree-at-most : r .degree ≤ 15 * a + 15 * n
+    degree-at-most = degree-most X W r degree-answered (taken .3)
+
+    -- The assignment shown, with the rank n and the empty set, is accepted as a claim.
+    pub shown-assignment-accepted-as-a-claim : (c : Claim) → c .rank ≡ n → c .constants ≡ r .constants → c .rows ≡ r .rows → whole (c .set) ≡ 0
+        → (t : Acceptance) → AcceptanceCall p n a b cs ws ns c t → (t .refusal ≡ 0) × (t .accepted ≡ true)
+    shown-assignment-accepted-as-a-claim c er ec ew es t claim =
+        let h = model-accepted p n a b cs ws ns (taken .0) in
+        (claim .is-refusal ∙ taken .0, claim .if-accepted (taken .0) .1 (rw (er, ec, ew, es) (accepted-as-claim X W r degree-answered (λ x. refl) (h .n-most) (h .b-most))))
+
+  -- The model is refused as the layered call refuses it, with the same number, where the areas of powers hold theirs;
+  pub degree-refused-like-a-rank-call : PowersLent n a b rp cp pp → (s : Answer) → LayeredCall p n a b cs ws ns s → s .refusal ≢ 0 → r .refusal ≡ s .refusal
+  degree-refused-like-a-rank-call lent s answer nz = call .is-refusal ∙ due-refused p n a b cs ws ns rp cp pp lent (λ z. nz (answer .is-refusal ∙ z)) ∙ sym (answer .is-refusal)
+
+  -- one that the layered call accepts gets 0 or 16.
+  pub accepted-by-a-rank-call-gets-0-or-16 : PowersLent n a b rp cp pp → (s : Answer) → LayeredCall p n a b cs ws ns s → s .refusal ≡ 0 → (r .refusal ≡ 0) ⊎ (r .refusal ≡ 16)
+  accepted-by-a-rank-call-gets-0-or-16 lent s answer ok = elim (due-cases p n a b cs ws ns rp cp pp lent (sym (answer .is-refusal) ∙ ok)) [ inl e ↦ inl (call .is-refusal ∙ e) | inr e ↦ inr (call .is-refusal ∙ e) ]
+
+  -- It is accepted where all earlier tests pass, the verdict is 1 and no power that is read is above 15;
+  pub determined-is-accepted : refusal p n a b cs ws ns ≡ 0 → PowersLent n a b rp cp pp → verdict X ≡ 1 → PowersLow X W → r .refusal ≡ 0
+  determined-is-accepted z lent v low = call .is-refusal ∙ due-0-iff p n a b cs ws ns rp cp pp .1 (z, lent, v, low)
+
+  -- 16 is given exactly where they pass, and the verdict is not 1 or a power that is read is above 15.
+  pub refused-16-reads : (r .refusal ≡ 16) ↔ ((refusal p n a b cs ws ns ≡ 0) × PowersLent n a b rp cp pp × ((verdict X ≢ 1) ⊎ PowerAbove X W))
+  refused-16-reads = let w = due-16-iff p n a b cs ws ns rp cp pp in ((λ e. w .0 (sym (call .is-refusal) ∙ e)), λ k. call .is-refusal ∙ w .1 k)
+
+  -- The areas of powers are judged with the model's own: where these hold and one of those does not, 8 is given, whatever stands in them.
+  pub short-powers-refused-as-8 : first-refusal (area-tests p n a b cs ws ns) ≡ 0 → (PowersLent n a b rp cp pp → ⊥) → r .refusal ≡ 8
+  short-powers-refused-as-8 z short = call .is-refusal ∙ due-short p n a b cs ws ns rp cp pp z short
+
+  -- A refusal has degree 0 and shows no column on the side or on a row.
+  pub refused-shows-no-degree : r .refusal ≢ 0 → DegreeRefused r
+  refused-shows-no-degree nz = call .if-refused (λ z. nz (call .is-refusal ∙ z))
+
+  -- A power that is not read changes nothing: of an entry without a parameter, or behind those of the model.
+  pub surplus-powers-not-read : (rq cq pq : List ℕ) → PowersLent n a b rp cp pp → PowersLent n a b rq cq pq → SamePowers X W (listed-powers n rq cq pq) → (s : Degree) → DegreeCall p n a b cs ws ns rq cq pq s → SameDegree r s
+  surplus-powers-not-read rq cq pq lent held same s other = degree-lent-same p n a b cs ws rp cp pp rq cq pq lent held same ns r s call other
+
+-- All this holds of files and from C too. A call on a file that is accepted is the call on the file's model, handed over;
+pub degree-file-call-is-of-its-model : (s rp cp pp : List ℕ) → AreBytes s → (r : Degree) → DegreeFileCall s rp cp pp r → r .refusal ≡ 0
+    → DegreeCall (decode s .p) (decode s .n) (decode s .a) (decode s .b) (flatten (decode s .constants)) (decode s .parameters) none rp cp pp r
+degree-file-call-is-of-its-model = degree-file-call
+
+pub degree-file-refused-like-a-rank-call : (s rp cp pp : List ℕ) (r : Degree) → DegreeFileCall s rp cp pp r → (t : Answer) → LayeredFileCall s t → t .refusal ≢ 0 → r .refusal ≡ t .refusal
+degree-file-refused-like-a-rank-call = degree-file-refused
+
+pub file-refused-16-reads : (s rp cp pp : List ℕ) → judge s ≡ 0 → (r : Degree) → DegreeFileCall s rp cp pp r
+    → (r .refusal ≡ 16) ↔ (PowersLent (decode s .n) (decode s .a) (decode s .b) rp cp pp × ((verdict (file-model s) ≢ 1) ⊎ PowerAbove (file-model s) (listed-powers (decode s .n) rp cp pp)))
+file-refused-16-reads = degree-file-16
+
+-- a host's call that is accepted writes the bytes of an answer of the call on its file;
+pub degree-host-call-is-of-its-file : (s rp cp pp area area′ : List ℕ) → HostDegree s rp cp pp area 0 area′
+    → AnswerShown (λ r. (r .refusal ≡ 0) × DegreeFileCall s rp cp pp r) (λ r. area′ ≡ over (degree-bytes r) area)
+degree-host-call-is-of-its-file = degree-host-call
+
+-- so the first two bytes, the low one first, are the degree;
+pub degree-from-C-is-the-degree : (s rp cp pp area area′ : List ℕ) → HostDegree s rp cp pp area 0 area′ → AreBytes s → (r : Degree) → DegreeFileCall s rp cp pp r → r .refusal ≡ 0
+    → getD area′ 0 0 + 256 * getD area′ 1 0 ≡ r .degree
+degree-from-C-is-the-degree = degree-bytes-read
+
+-- 16 is given as of the call on the file, where the area is long enough;
+pub host-refused-16-reads : (s rp cp pp : List ℕ) → judge s ≡ 0 → (area : List ℕ) → degree-length ≤ length area → (k : ℕ) (area′ : List ℕ) → HostDegree s rp cp pp area k area′
+    → (k ≡ 16) ↔ (PowersLent (decode s .n) (decode s .a) (decode s .b) rp cp pp × ((verdict (file-model s) ≢ 1) ⊎ PowerAbove (file-model s) (listed-powers (decode s .n) rp cp pp)))
+host-refused-16-reads = degree-host-16
+
+-- and a file that the layered call refuses is refused with the same number.
+pub host-degree-refused-like-a-rank-call : (s rp cp pp area area′ out out′ : List ℕ) (k j : ℕ) → HostAnswer s area k area′ → HostDegree s rp cp pp out j out′ → judge s ≢ 0 → (k ≡ judge s) × (j ≡ judge s)
+host-degree-refused-like-a-rank-call = host-degree-refused-alike
+
+-- What stands in the areas of powers where none is read changes nothing.
+pub powers-not-read-from-C : (s rp cp pp rq cq pq : List ℕ) → PowersLent (decode s .n) (decode s .a) (decode s .b) rp cp pp → PowersLent (decode s .n) (decode s .a) (decode s .b) rq cq pq
+    → SamePowers (file-model s) (listed-powers (decode s .n) rp cp pp) (listed-powers (decode s .n) rq cq pq)
+    → (area : List ℕ) (number : ℕ) (area′ : List ℕ) → HostDegree s rp cp pp area number area′ → HostDegree s rq cq pq area number area′
+powers-not-read-from-C = powers-surplus
+
 -- ---- rows used and left over
 
 -- A layered answer that says "determined" shows as many columns on the constant side as there are constant rows, and a column for every parameter row;
@@ -603,6 +744,10 @@ answer-sets-are-shown-whole = answer-shown-whole
 -- of a mixed one,
 pub mixed-sets-are-shown-whole : (X : Mixed) (r : MixedAnswer) → X .m + X .n ≤ most-columns → MixedAnswered X r → ShownWhole (whole (r .rows)) × ShownWhole (whole (r .columns)) × ShownWhole (whole (r .short))
 mixed-sets-are-shown-whole = mixed-shown-whole
+
+-- of the constant side of an answer about the degree,
+pub degree-side-is-shown-whole : (M : Model) (W : Powers) (r : Degree) → M .n ≤ most-columns → DegreeAnswered M W r → ShownWhole (whole (r .constants))
+degree-side-is-shown-whole = degree-shown-whole
 
 -- and of the reason for a column.
 pub reason-set-is-shown-whole : (p n a b : ℕ) (cs ws : List ℕ) (x : ℕ) (r : Reason) → n ≤ most-columns → ReasonAnswered p n a b cs ws x r → ShownWhole (whole (r .set))

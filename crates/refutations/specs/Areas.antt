@@ -11,10 +11,10 @@ use lib.ListN.{length, drop}
 use lib.Dec.{leb}
 use borrow.Author.Tests.{lt-leb}
 use Rattle.limits.specs.Limits.{most-columns, set-bytes}
-use Rattle.format.specs.Lists.{over}
+use Rattle.format.specs.Lists.{all-pass, over}
 use Rattle.format.specs.Numbers.{number-entries, is-numbered}
 use Rattle.format.specs.Refusals.{Tests, unless, _then_, first-refusal, where-accepted, area-short, area-test}
-use Rattle.format.specs.RefusalLaws.{then-passed, zero-then, zero-unless}
+use Rattle.format.specs.RefusalLaws.{then-passed, then-refused, then-zero, zero-then, zero-unless}
 use Rattle.format.specs.TestLaws.{area-reads}
 use Rattle.format.specs.File.Piece.{closed}
 use Rattle.format.specs.File.Format.{FileModel, fields, judge, decode, no-model, read-model, model-read, read-refusal, ReadCall, write-refusal, bytes-written, WriteCall, lookup-refusal, lookup-length, lookup-start}
@@ -25,7 +25,10 @@ use Rattle.multipliers.specs.Bytes.{multipliers-length}
 use Rattle.reason.specs.Bytes.{reason-length}
 use Rattle.acceptance.specs.Bytes.{claim-length, acceptance-length}
 use Rattle.blocks.specs.Bytes.{blocks-length}
-use Rattle.solvability.specs.Host.{HostAnswer, HostMixedAnswer, HostMultipliers, HostReason, HostAccepts, HostBlocks}
+use Rattle.degree.specs.Answers.{power-areas}
+use Rattle.degree.specs.Bytes.{degree-length}
+use Rattle.solvability.specs.Host.{HostAnswer, HostMixedAnswer, HostMultipliers, HostReason, HostAccepts, HostBlocks, HostDegree}
+use Rattle.promises.specs.DegreeLaws.{PowersLent, given-alike, lent-iff}
 
 where-refused : {A : Type 0} (k : ℕ) (x o : A) → k ≢ 0 → where-accepted k x o ≡ o
 where-refused zero x o h = absurd (h refl)
@@ -203,6 +206,31 @@ pub blocks-never-refused : (file area : List ℕ) (k : ℕ) (area′ : List ℕ)
 unfolding area-refusal judge first-refusal
 blocks-never-refused file area k area′ h ok l =
     h .is-number ∙ zero-then (closed fields file) _ ok (zero-then (unless (area-test blocks-length (length area)) area-short) [] (zero-unless _ area-short (area-reads _ _ .1 l)) refl)
+
+-- and the one about the degree,
+pub host-degree-number : (file rp cp pp area : List ℕ) (k k′ : ℕ) (area′ area″ : List ℕ) → HostDegree file rp cp pp area k area′ → HostDegree file rp cp pp area k′ area″ → k ≡ k′
+host-degree-number file rp cp pp area = area-number _ _ _ _ area
+
+pub host-degree-refused : (file rp cp pp area : List ℕ) (k : ℕ) (area′ : List ℕ) → HostDegree file rp cp pp area k area′ → k ≢ 0 → area′ ≡ area
+host-degree-refused file rp cp pp area = area-refused _ _ _ _ area
+
+-- which refuses too short an area, behind the file's own numbers and before it looks at the verdict and the powers, so one of 109 bytes
+pub degree-area-refused : (file rp cp pp area : List ℕ) (k : ℕ) (area′ : List ℕ) → HostDegree file rp cp pp area k area′ → judge file ≡ 0 → length area < degree-length → k ≡ 8
+unfolding area-refusal area-test judge first-refusal
+degree-area-refused file rp cp pp area k area′ h ok short = h .is-number ∙ sym (then-passed (closed fields file) _ 8 ok (rw (lt-leb degree-length (length area) short) refl))
+
+pub degree-area-of-109 : (file rp cp pp area : List ℕ) (k : ℕ) (area′ : List ℕ) → HostDegree file rp cp pp area k area′ → judge file ≡ 0 → length area ≡ 109 → k ≡ 8
+degree-area-of-109 file rp cp pp area k area′ h ok e = degree-area-refused file rp cp pp area k area′ h ok (omega (arith, e))
+
+-- and too short an area of powers alike
+pub power-areas-refused : (file rp cp pp area : List ℕ) (k : ℕ) (area′ : List ℕ) → HostDegree file rp cp pp area k area′ → judge file ≡ 0
+    → (PowersLent (decode file .n) (decode file .a) (decode file .b) rp cp pp → ⊥) → k ≡ 8
+unfolding area-refusal judge all-pass
+power-areas-refused file rp cp pp area k area′ h ok short =
+    let own = unless (area-test degree-length (length area)) area-short in
+    let of-powers = power-areas (decode file .n) (decode file .a) (decode file .b) rp cp pp in
+    let ne : first-refusal (own then of-powers) ≢ 0 = λ e. short (lent-iff (decode file .n) (decode file .a) (decode file .b) rp cp pp .0 (then-zero own of-powers e .1)) in
+    h .is-number ∙ sym (then-passed (closed fields file) _ 8 ok (then-refused (own then of-powers) _ 8 (sym (given-alike 8 (own then of-powers) refl ne)) (λ e. omega (arith, e))))
 
 -- the bytes behind an answer are as they were
 pub written-surplus : {A : Type 0} (Holds : A → Type 0) (bytes : A → List ℕ) (area area′ : List ℕ) (w : WrittenOver Holds bytes area area′)

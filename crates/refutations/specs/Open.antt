@@ -1,25 +1,33 @@
--- How little the promises leave open: two results of one call agree but in the two results that document 01 leaves open, and what holds of those.
+-- How little the promises leave open: two results of one call agree but in the results that the documents leave open, and what holds of those.
 -- Assumes nothing.
-use Prim.Native.Nat.{ℕ, _<_}
-use mathlib.Core.Path.{_≡_, refl, sym, ap, ap₂, _∙_}
+use Prim.Native.Nat.{ℕ, zero, suc, _-_, _/_, _%_, _≤_, _<_}
+use mathlib.Core.Path.{_≡_, refl, sym, ap, ap₂, _∙_, subst, fun-ext}
 use mathlib.Core.Logic.{_≢_, inl, inr}
-use mathlib.Core.Bool.{Bool, true, false, false≢true}
+use mathlib.Core.Bool.{Bool, true, false, false≢true, true≢false, cond}
 use mathlib.Core.List.{List, _∷_, _++_, []}
-use mathlib.Core.Option.{Option}
-use native.Mathlib.Decide.{ℕ-discrete}
-use lib.ListN.{length, getD}
-use Rattle.counting.specs.Bools.{iff-eq}
-use Rattle.counting.specs.Sets.{Set, _∈_, indicator}
+use mathlib.Core.Option.{Option, none}
+use native.Mathlib.Omega.{arith}
+use native.Mathlib.Decide.{ℕ-discrete, decLt}
+use lib.Dec.{eqb, lit<, ltb}
+use lib.ListN.{length, getD, replicate, length-replicate, getD-replicate}
+use borrow.Author.Tests.{eq-eqb, ne-eqb, lt-ltb, le-ltb}
+use Rattle.counting.specs.Bools.{iff-eq, not-true}
+use Rattle.counting.specs.Sets.{Set, Some, _∈_, indicator}
 use Rattle.columns.specs.Bytes.{bytes-of}
 use Rattle.columns.specs.Columns.{members}
-use Rattle.columns.specs.ColumnSets.{whole}
+use Rattle.columns.specs.ColumnSets.{whole, set-of}
 use Rattle.columns.specs.declared.ColumnSet.{ColumnSet}
-use Rattle.rank.specs.Layered.Model.{Model, Seat, out, constant, row, is-placed, is-constant, constants}
-use Rattle.exchange.specs.Solution.{shown, Solved}
-use Rattle.limits.specs.Limits.{set-bytes, no-column}
+use Rattle.rank.specs.Layered.Model.{Model, Seat, out, constant, row, Assignment, is-placed, is-constant, constants, Legal, legal}
+use Rattle.rank.specs.Layered.Meaning.{true-legal}
+use Rattle.rank.specs.ListedModel.{listed-model}
+use Rattle.degrees.specs.Degrees.{Powers, AllPlaced, degree, listed-powers, weight}
+use Rattle.degrees.specs.Theorems.{none-exceeds-the-degree}
+use Rattle.exchange.specs.Solution.{shown-row, shown, ShowsRow, Solved}
+use Rattle.limits.specs.Limits.{most-rows, set-bytes, no-column}
 use Rattle.layered.specs.Answers.{Answered, AnswerShown, LayeredCall}
 use Rattle.layered.specs.FileModel.{file-model}
 use Rattle.layered.specs.declared.Answer.{Answer}
+use Rattle.layered.proofs.FileLaws.{call-answered}
 use Rattle.format.specs.Refusals.{_then_, first-refusal, refusal, mixed-refusal, Tests}
 use Rattle.mixed_models.specs.Mixed.{Mixed}
 use Rattle.mixed.specs.MixedAnswers.{MixedAnswered, MixedCall, file-mixed}
@@ -37,10 +45,13 @@ use Rattle.acceptance.specs.Answers.{AcceptanceCall}
 use Rattle.acceptance.specs.Bytes.{claim-question, acceptance-bytes}
 use Rattle.acceptance.specs.declared.Claim.{Claim}
 use Rattle.acceptance.specs.declared.Acceptance.{Acceptance}
+use Rattle.acceptance.proofs.SumLaws.{set-below}
 use Rattle.blocks.specs.Answers.{BlocksCall}
 use Rattle.blocks.specs.Bytes.{blocks-bytes}
 use Rattle.blocks.specs.declared.Blocks.{Blocks}
-use Rattle.solvability.specs.Host.{HostAnswer, HostMixedAnswer, multipliers-question, HostMultipliers, HostReason, HostAccepts, HostBlocks}
+use Rattle.degree.specs.Answers.{DegreeAnswered, DegreeCall}
+use Rattle.degree.specs.declared.Degree.{Degree}
+use Rattle.solvability.specs.Host.{HostAnswer, HostMixedAnswer, multipliers-question, HostMultipliers, HostReason, HostAccepts, HostBlocks, HostDegree}
 use Rattle.text.specs.Text.{ascii, line, item, column-items, verdict-line, print-refusal, printed, Prints}
 use Rattle.rank.specs.Layered.Rank.{rank, verdict}
 use Rattle.text.specs.declared.Printed.{Printed}
@@ -50,11 +61,13 @@ use Rattle.format.specs.Lists.{over}
 use Rattle.format.specs.File.Piece.{closed}
 use Rattle.format.specs.File.Format.{fields, entry-bytes, judge}
 use Rattle.mixed.specs.declared.MixedAnswer.{MixedAnswer}
-use Rattle.promises.specs.Fixed.{SameAnswer, SameShown, SameMixed, SameMixedShown, SameReason, SameAcceptance, SameBlocks, TwoShown}
+use Rattle.promises.specs.Fixed.{SameAnswer, SameShown, SameMixed, SameMixedShown, SameReason, SameAcceptance, SameBlocks, SameDegree, TwoShown}
 use Rattle.promises.specs.AnswerLaws.{layered-same, mixed-same}
 use Rattle.promises.specs.ReasonSameLaws.{reason-calls-same}
 use Rattle.promises.specs.AcceptanceSameLaws.{acceptance-calls-same}
 use Rattle.promises.specs.BlocksSameLaws.{blocks-calls-same}
+use Rattle.promises.specs.DegreeSameLaws.{degree-calls-same, front-powers}
+use Rattle.refutations.specs.Dynamic.{run}
 
 -- ---- two results of one call
 
@@ -104,6 +117,18 @@ acceptance-fixed p n a b cs ws ns c = acceptance-calls-same p n a b cs cs ws ws 
 
 pub blocks-fixed : (p n a b : ℕ) (cs ws : List ℕ) (ns : Option (List ℕ)) (r s : Blocks) → BlocksCall p n a b cs ws ns r → BlocksCall p n a b cs ws ns s → SameBlocks r s
 blocks-fixed p n a b cs ws ns = blocks-calls-same p n a b cs cs ws ws refl refl ns ns refl
+
+-- of the call about the degree agree in the refusal and in the degree,
+pub degree-fixed : (p n a b : ℕ) (cs ws : List ℕ) (ns : Option (List ℕ)) (rp cp pp : List ℕ) (r s : Degree) → DegreeCall p n a b cs ws ns rp cp pp r → DegreeCall p n a b cs ws ns rp cp pp s → SameDegree r s
+degree-fixed p n a b cs ws ns rp cp pp = degree-calls-same p n a b cs cs ws ws refl refl rp cp pp rp cp pp (front-powers p n a b cs ws rp cp pp rp cp pp refl refl refl) ns ns refl
+
+-- where it refuses, in the side and the rows too
+pub degree-refused-fixed : (p n a b : ℕ) (cs ws : List ℕ) (ns : Option (List ℕ)) (rp cp pp : List ℕ) (r s : Degree) → DegreeCall p n a b cs ws ns rp cp pp r → DegreeCall p n a b cs ws ns rp cp pp s → r .refusal ≢ 0
+    → (r .constants ≡ s .constants) × (r .rows ≡ s .rows)
+degree-refused-fixed p n a b cs ws ns rp cp pp r s f g ne =
+    let u = f .if-refused (λ z. ne (f .is-refusal ∙ z)) in
+    let v = g .if-refused (λ z. ne (f .is-refusal ∙ z)) in
+    (u .none-on-the-side ∙ sym (v .none-on-the-side), u .no-columns ∙ sym (v .no-columns))
 
 -- ---- two results of one call on a file
 
@@ -175,6 +200,27 @@ module _ (file area : List ℕ) where
   pub host-blocks-fixed : (k j : ℕ) (area′ area″ : List ℕ) → HostBlocks file area k area′ → HostBlocks file area j area″ → area′ ≡ area″
   host-blocks-fixed = bytes-fixed blocks-bytes (closed fields file) []
       (λ r s u v. ap₂ (λ (c : ℕ) (ns : List ℕ). c ∷ ns) (u .count-is ∙ sym (v .count-is)) (u .numbers-are ∙ sym (v .numbers-are)))
+
+  -- of the call about the degree the numbers and the first two bytes are the same,
+  pub host-degree-fixed : (rp cp pp : List ℕ) (k j : ℕ) (area′ area″ : List ℕ) → HostDegree file rp cp pp area k area′ → HostDegree file rp cp pp area j area″
+      → (k ≡ j) × (getD area′ 0 0 ≡ getD area″ 0 0) × (getD area′ 1 0 ≡ getD area″ 1 0)
+  unfolding over
+  host-degree-fixed rp cp pp k j area′ area″ f g = elim (ℕ-discrete k 0) [
+    | no nk ↦
+        let e : area′ ≡ area″ = f .if-refused (λ z. nk (f .is-number ∙ z)) ∙ sym (g .if-refused (λ z. nk (f .is-number ∙ z))) in
+        (same, ap (λ (bs : List ℕ). getD bs 0 0) e, ap (λ (bs : List ℕ). getD bs 1 0) e)
+    | yes z ↦
+        let u = f .if-accepted (sym (f .is-number) ∙ z) in
+        let v = g .if-accepted (sym (f .is-number) ∙ z) in
+        let e : u .answer .degree ≡ v .answer .degree = u .is-answer .is-degree ∙ sym (v .is-answer .is-degree) in (
+          same,
+          ap (λ (bs : List ℕ). getD bs 0 0) (u .is-shown) ∙ ap (λ (d : ℕ). d % 256) e ∙ sym (ap (λ (bs : List ℕ). getD bs 0 0) (v .is-shown)),
+          ap (λ (bs : List ℕ). getD bs 1 0) (u .is-shown) ∙ ap (λ (d : ℕ). d / 256 % 256) e ∙ sym (ap (λ (bs : List ℕ). getD bs 1 0) (v .is-shown)),
+        )
+  ]
+    where
+      same : k ≡ j
+      same = f .is-number ∙ sym (g .is-number)
 
   -- and the text of a report is that of two answers that agree,
   pub report-fixed : (r s : Printed) (area′ area″ : List ℕ) → FileReport file area r area′ → FileReport file area s area″ → judge file ≡ 0
@@ -250,3 +296,112 @@ module _ (M : Model) (the-rank : ℕ) (pl sd sh : Set) (rows : List ℕ) (s : So
   pub row-placed : (q : ℕ) → q < M .b → getD rows q 0 ≢ no-column → (getD rows q 0 ∈ pl) × (M .T q (getD rows q 0) ≡ true)
   row-placed q l h =
       (s .is-placed (getD rows q 0) ∙ sym (s .places-it (getD rows q 0)) ∙ ap is-placed (sits q l h .1), s .is-legal .parameter (getD rows q 0) q (sits q l h .1) .1)
+
+-- ---- which assignment that reaches the degree is shown
+
+-- two columns, a constant row 1 1 and a parameter row with parameters at both, without powers: either column may be on the row
+abbrev either : Model
+either = listed-model 2 2 1 1 (1 ∷ 1 ∷ []) (3 ∷ [])
+
+abbrev no-powers : Powers
+no-powers = listed-powers 2 (0 ∷ []) (0 ∷ 0 ∷ []) (0 ∷ 0 ∷ [])
+
+either-degree : degree either no-powers ≡ 0
+unfolding run
+either-degree = refl
+
+-- the answer with the columns with a number on the constant side and column c on the row
+abbrev pub either-answer : (side c : ℕ) → Degree
+either-answer side c = record { refusal = 0; degree = 0; constants = set-of side; rows = c ∷ replicate (most-rows - 1) no-column }
+
+-- the one row shows a column or it does not
+by-row : (rows : List ℕ) (x : ℕ) (q : Dec (Some 1 (λ r. getD rows r 0 ≡ x))) → shown-row 1 rows x q ≡ cond (eqb (getD rows 0 0) x) (row 0) out
+unfolding shown-row
+by-row rows x (yes w) =
+    let z : w .0 ≡ 0 = omega (arith, w .1) in
+    let e : getD rows 0 0 ≡ x = subst (λ (i : ℕ). getD rows i 0 ≡ x) z (w .2) in
+    ap row z ∙ sym (ap (λ (t : Bool). cond t (row 0) out) (eq-eqb (getD rows 0 0) x e))
+by-row rows x (no nw) = sym (ap (λ (t : Bool). cond t (row 0) out) (ne-eqb (getD rows 0 0) x (λ e. nw (0, lit< tt, e))))
+
+-- a seat by three tests
+abbrev tested : (below on-the-side on-the-row : Bool) → Seat
+tested below on-the-side on-the-row = cond below (cond on-the-side constant (cond on-the-row (row 0) out)) out
+
+tested-row : (s t u : Bool) (r : ℕ) → tested s t u ≡ row r → r < 1
+tested-row true true u r e = absurd (true≢false (ap is-constant e))
+tested-row true false true r e = omega (arith, ap row-number e)
+tested-row true false false r e = absurd (false≢true (ap is-placed e))
+tested-row false t u r e = absurd (false≢true (ap is-placed e))
+
+tested-side : (t u : Bool) → t ≡ is-constant (tested true t u)
+tested-side true u = refl
+tested-side false true = refl
+tested-side false false = refl
+
+module _ (side c : ℕ) (inside : (x : ℕ) → x ∈ members (whole (set-of side)) → x < 2) (column : c < 2) where
+  abbrev on-side : Set
+  on-side = members (whole (set-of side))
+
+  abbrev rows : List ℕ
+  rows = c ∷ replicate (most-rows - 1) no-column
+
+  seats : Assignment
+  seats x = tested (ltb x 2) (on-side x) (eqb c x)
+
+  shown-is : shown 2 1 on-side rows ≡ seats
+  unfolding shown seats
+  shown-is = fun-ext (λ x. ap (λ (s : Seat). cond (ltb x 2) (cond (on-side x) constant s) out) (by-row rows x _))
+
+  seats-past : (x : ℕ) → 2 ≤ x → seats x ≡ out
+  unfolding seats
+  seats-past x l = ap (λ (t : Bool). tested t (on-side x) (eqb c x)) (le-ltb x 2 l)
+
+  module _ (test : legal either seats ≡ true) (first : is-placed (seats 0) ≡ true) (second : is-placed (seats 1) ≡ true) (sits : seats c ≡ row 0) where
+    seats-legal : Legal either seats
+    unfolding seats
+    seats-legal = true-legal either seats (record {
+      offered = λ x e. elim (decLt x 2) [ yes l ↦ (l, refl) | no nl ↦ absurd (true≢false (sym e ∙ ap is-placed (seats-past x (omega arith)))) ];
+      below = λ x r e. tested-row (ltb x 2) (on-side x) (eqb c x) r e;
+    }) test
+
+    seats-all : AllPlaced either seats
+    seats-all x l = elim (ℕ-discrete x 0) [ yes z ↦ subst (λ (y : ℕ). is-placed (seats y) ≡ true) (sym z) first | no nz ↦ subst (λ (y : ℕ). is-placed (seats y) ≡ true) (sym (one nz)) second ]
+      where
+        one : (x ≡ 0 → ⊥) → x ≡ 1
+        one h = omega arith
+
+    side-is : (x : ℕ) → on-side x ≡ is-constant (seats x)
+    unfolding seats
+    side-is x = elim (decLt x 2) [
+      | yes l ↦ tested-side (on-side x) (eqb c x) ∙ sym (ap (λ (t : Bool). is-constant (tested t (on-side x) (eqb c x))) (lt-ltb x 2 l))
+      | no nl ↦ not-true (on-side x) (λ e. nl (inside x e)) ∙ sym (ap is-constant (seats-past x (omega arith)))
+    ]
+
+    past : (i : ℕ) → 1 ≤ i → i < most-rows → getD rows i 0 ≡ no-column
+    past zero l m = absurd (omega arith)
+    past (suc i) l m = getD-replicate (most-rows - 1) i no-column 0 (omega arith)
+
+    either-answers : DegreeAnswered either no-powers (either-answer side c)
+    either-answers = record {
+      is-degree = sym either-degree;
+      is-legal = subst (Legal either) (sym shown-is) seats-legal;
+      places-all = subst (AllPlaced either) (sym shown-is) seats-all;
+      reaches = ap (weight either no-powers) shown-is ∙ omega (arith, either-degree, none-exceeds-the-degree either no-powers seats seats-legal seats-all);
+      side-shown = λ x. side-is x ∙ sym (ap (λ (A : Assignment). is-constant (A x)) shown-is);
+      rows-shown = λ i l. subst (ShowsRow 2 1 on-side rows) (zero-is i l) (inl (column, ap (λ (A : Assignment). A c) shown-is ∙ sits));
+      past-rows = past;
+      row-count = ap suc (length-replicate (most-rows - 1) no-column);
+    }
+      where
+        zero-is : (i : ℕ) → i < 1 → 0 ≡ i
+        zero-is i l = omega arith
+
+-- column 0 on the constant side and column 1 on the row, or column 1 there and column 0 here: both answers keep the promise, and they differ
+pub degree-assignment-open : let Call = DegreeCall 2 2 1 1 (1 ∷ 1 ∷ []) (3 ∷ []) none (0 ∷ []) (0 ∷ 0 ∷ []) (0 ∷ 0 ∷ []) in
+    Call (either-answer 1 1) × Call (either-answer 2 0) × (either-answer 1 1 .rows ≢ either-answer 2 0 .rows)
+unfolding run whole set-of seats
+degree-assignment-open = (
+  call-answered refl refl (either-answers 1 1 (set-below 2 1 (lit< tt) refl) (lit< tt) refl refl refl refl),
+  call-answered refl refl (either-answers 2 0 (set-below 2 2 (lit< tt) refl) (lit< tt) refl refl refl refl),
+  λ e. omega (arith, ap (λ (rs : List ℕ). getD rs 0 0) e),
+)

@@ -4,7 +4,7 @@ ghost use mathlib.Core.Bool.{false};
 ghost use Rattle.format.specs.Refusals.{unless, _then_, first-refusal, area-short};
 ghost use Rattle.format.specs.File.Piece.{closed};
 ghost use Rattle.format.specs.File.Format.{fields};
-ghost use Rattle.solvability.specs.Host.{HostAnswer, HostMixedAnswer, HostMultipliers, HostReason, HostAccepts, HostBlocks};
+ghost use Rattle.solvability.specs.Host.{HostAnswer, HostMixedAnswer, HostMultipliers, HostReason, HostAccepts, HostBlocks, HostDegree};
 use acceptance::ACCEPTANCE_LENGTH;
 use acceptance::CLAIM_LENGTH;
 use acceptance::file_acceptance;
@@ -12,6 +12,9 @@ use acceptance::put_acceptance;
 use acceptance::read_claim;
 use blocks::file_blocks;
 use blocks::put_blocks;
+use degree::DEGREE_LENGTH;
+use degree::file_degree;
+use degree::put_degree;
 use format::judge_file;
 use format::refusals;
 use host::MIXED_LENGTH;
@@ -136,4 +139,26 @@ pub extern "C" fn wundreska_blocks(file: &[u8], answer: &mut [u8]) -> u32
         return r.refusal;
     }
     put_blocks(answer, r)
+}
+
+// Judges the file, then all areas, then the verdict and the powers; where all are accepted, writes the degree and an assignment that
+// reaches it over the front of the answer's area. Of the areas of powers the powers alone are read.
+#[no_mangle]
+pub extern "C" fn wundreska_degree(
+    file: &[u8],
+    rowpowers: &[u8],
+    columnpowers: &[u8],
+    parameterpowers: &[u8],
+    answer: &mut [u8],
+) -> u32
+    ensures { λ r. ⌜ HostDegree (now (file .entry)) (now (rowpowers .entry)) (now (columnpowers .entry)) (now (parameterpowers .entry)) (now (answer .entry)) r (now (answer .exit)) ⌝ }
+{
+    if answer.len() < DEGREE_LENGTH {
+        return refuse_area(file);
+    }
+    let r = file_degree(file, rowpowers, columnpowers, parameterpowers);
+    if r.refusal != 0 {
+        return r.refusal;
+    }
+    put_degree(answer, r)
 }

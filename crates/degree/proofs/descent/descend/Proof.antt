@@ -1,8 +1,7 @@
 -- `degree::descent::descend` meets its contract. The invariant: the arrays hold a state of the descent, with the solver's answer to its tight part. The
 -- measure is what the rounds may yet raise. Assumes nothing.
-use Prim.Native.Nat.{ℕ, _+_, _-_, _≤_, _<_}
-use mathlib.Core.Path.{_≡_, refl, sym, _∙_}
-use mathlib.Core.Logic.{_≢_}
+use Prim.Native.Nat.{ℕ, _+_, _-_, _<_}
+use mathlib.Core.Path.{_≡_, refl}
 use mathlib.Core.List.{List}
 use native.Mathlib.Omega.{arith}
 use lib.ListN.{length, getD}
@@ -119,9 +118,12 @@ solve-tight-requires c κs =
 
 loop-holds : tie.Need-loop-holds Inv-loop μ-loop
 loop-holds c =
-    let t = c .before .before .before .before in
-    (refl, search (needs, raised t .first-heights .ok), search (needs, t .tops .ok),
-    λ Q shown full. let d = first-state t Q shown full in (d, c .solve-tight .ensures Q _ 0 d))
+    let t = c .before .before .before .before in (
+      refl,
+      search (needs, raised t .first-heights .ok),
+      search (needs, t .tops .ok),
+      λ Q shown full. let d = first-state t Q shown full in (d, c .solve-tight .ensures Q _ 0 d),
+    )
 
 slice-aggregate-turn : tie.Need-slice-aggregate-turn Inv-loop μ-loop
 slice-aggregate-turn c = search needs
@@ -198,12 +200,15 @@ loop-again c =
     let m = entered (t .before) in
     let k = start m in
     let w = now-state m in
-    let next = t .turn .ensures (k .pre .1 .0) (k .args .rowpowers .now) (m .loop .risen) (w .0) (turn-small (t .before) (k .pre .1 .0) (w .0) (w .1)) .1 in
-    (long (c .before .before .before .before .before .before .before), next .height-count, next .level-count,
-    λ Q shown full.
-    let v = m .loop .inv .3 Q shown full in
-    let d = t .turn .ensures Q (k .args .rowpowers .now) (m .loop .risen) (v .0) (turn-small (t .before) Q (v .0) (v .1)) .1 in
-    (d, c .solve-tight2 .ensures Q _ _ d))
+    let next = t .turn .ensures (k .pre .1 .0) (k .args .rowpowers .now) (m .loop .risen) (w .0) (turn-small (t .before) (k .pre .1 .0) (w .0) (w .1)) .1 in (
+      long (c .before .before .before .before .before .before .before),
+      next .height-count,
+      next .level-count,
+      λ Q shown full.
+          let v = m .loop .inv .3 Q shown full in
+          let d = t .turn .ensures Q (k .args .rowpowers .now) (m .loop .risen) (v .0) (turn-small (t .before) Q (v .0) (v .1)) .1 in
+          (d, c .solve-tight2 .ensures Q _ _ d),
+    )
 
 slice-aggregate-found : tie.Need-slice-aggregate-found Inv-loop μ-loop
 slice-aggregate-found c = search needs
@@ -220,8 +225,7 @@ found-requires c κs =
     let e = c .before .before in
     let m = ended e in
     let w = now-state m in
-    let d = w .0 in
-    (
+    let d = w .0 in (
       record {
         columns = d .ready .columns;
         rows = omega (arith, d .ready .square, d .ready .columns);
@@ -248,9 +252,11 @@ returns c =
     let m = ended e in
     let r = c .found .ensures in
     λ Q shown full.
-    let w = m .loop .inv .3 Q shown full in
-    (r .0, answer-found _ _ _ _ Q _ _ _ _ _ _ _ _ (w .0) (m .loop .s) (w .1) (e .if1 .left) (c .found .result) (rows-long c)
-    (r .3 _ (degree-by-levels _ _ _ _ Q _ _ _ _ _ _ _ _ (w .0) (m .loop .s) (w .1) (e .if1 .left))) (r .1) (r .2))
+    let w = m .loop .inv .3 Q shown full in (
+      r .0,
+      answer-found _ _ _ _ Q _ _ _ _ _ _ _ _ (w .0) (m .loop .s) (w .1) (e .if1 .left) (c .found .result) (rows-long c)
+          (r .3 _ (degree-by-levels _ _ _ _ Q _ _ _ _ _ _ _ _ (w .0) (m .loop .s) (w .1) (e .if1 .left))) (r .1) (r .2),
+    )
 
 pub descend-spec : {M : Type 1} → statement M
 descend-spec =

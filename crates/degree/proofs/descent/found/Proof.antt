@@ -1,11 +1,10 @@
 -- `degree::descent::found` meets its contract, by what the sums ensure. Assumes nothing.
-use Prim.Native.Nat.{ℕ, _+_, _<_, _≤_}
-use mathlib.Core.Path.{_≡_, refl, sym, _∙_}
+use Prim.Native.Nat.{_+_, _≤_}
+use mathlib.Core.Path.{_≡_, refl}
 use native.Mathlib.Omega.{arith}
 use lib.ListN.{getD}
-use Rattle.degrees.specs.Degrees.{total}
+use Rattle.rank.specs.ListedModelLaws.{total}
 use Rattle.degrees.specs.Totals.{total-below}
-use borrow.Author.Needs.{needs}
 use Rattle.degree.proofs.descent.found.Statement.{statement}
 use Rattle.degree.proofs.descent.found.Tie as tie
 

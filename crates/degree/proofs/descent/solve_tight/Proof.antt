@@ -3,7 +3,7 @@ use Prim.Native.Nat.{ℕ, _≤_, _<_}
 use mathlib.Core.Path.{_≡_}
 use native.Mathlib.Omega.{arith}
 use lib.ListN.{length, getD}
-use Rattle.limits.specs.Limits.{most-columns, most-constants, most-rows}
+use Rattle.limits.specs.Limits.{most-constants, most-rows}
 use Rattle.columns.specs.ColumnSets.{row-numbers}
 use Rattle.columns.specs.Words.Rows.{most-words-rows}
 use Rattle.degree.proofs.TightLaws.{tight-shown, tight-taken}
@@ -36,9 +36,15 @@ tight-constants-requires c κs =
 
 tight-parameters-requires : tie.Need-tight-parameters-requires
 tight-parameters-requires c κs =
-    let d = begun (c .before .before .before) .pre .3 in
-    (d .ready .columns, omega (arith, d .ready .square, d .ready .columns), omega (arith, d .level-count, d .ready .square, d .ready .columns), d .ready .rows-within, d .ready .powers-lent,
-    omega (arith, d .height-count, d .ready .columns), low (begun (c .before .before .before)))
+    let d = begun (c .before .before .before) .pre .3 in (
+      d .ready .columns,
+      omega (arith, d .ready .square, d .ready .columns),
+      omega (arith, d .level-count, d .ready .square, d .ready .columns),
+      d .ready .rows-within,
+      d .ready .powers-lent,
+      omega (arith, d .height-count, d .ready .columns),
+      low (begun (c .before .before .before)),
+    )
 
 slice-aggregate-solve : tie.Need-slice-aggregate-solve
 slice-aggregate-solve c = search needs

@@ -1,16 +1,12 @@
 -- `degree::descent::turn` meets its contract, by what its callees ensure. Assumes nothing.
-use Prim.Native.Nat.{ℕ, _+_, _≤_, _<_}
-use mathlib.Core.Path.{_≡_, sym, _∙_}
-use mathlib.Core.Bool.{true}
+use Prim.Native.Nat.{ℕ, _≤_, _<_}
+use mathlib.Core.Path.{_≡_}
 use native.Mathlib.Omega.{arith}
 use lib.ListN.{length, getD}
 use Rattle.limits.specs.Limits.{most-columns}
-use Rattle.columns.specs.Columns.{members}
-use Rattle.columns.specs.ColumnSets.{whole, row-numbers}
 use Rattle.rank.specs.Modulus.{field-of}
-use Rattle.rank.specs.Layered.Rank.{sum}
-use Rattle.exchange.specs.Reduction.{RowsShown, reduced, reducible}
-use Rattle.degree.specs.Code.{Descending, Lines, tight-part, tableau-of}
+use Rattle.exchange.specs.Reduction.{RowsShown, reduced}
+use Rattle.degree.specs.Code.{tableau-of}
 use Rattle.degree.proofs.RoundLaws.{heights-small, reduction-taken, rise-fits, round-done}
 use borrow.Author.Needs.{needs}
 use Rattle.degree.proofs.descent.turn.Statement.{statement}
@@ -94,18 +90,21 @@ raise-levels-requires c κs =
     let r = c .before .before in
     let t = topped r in
     let k = start t in
-    let d = k .pre .3 in
-    (omega (arith, d .level-count, d .ready .columns), omega (arith, many-tops t, d .ready .columns),
-    rise-fits _ _ _ _ _ _ _ _ _ _ _ _ _ d _ _ (weighed (reduction t) .weights .ensures) (k .pre .4) _ _ (rows-shown (reduction t)) (t .tops .ensures) _ (r .rise .ensures) .0)
+    let d = k .pre .3 in (
+      omega (arith, d .level-count, d .ready .columns),
+      omega (arith, many-tops t, d .ready .columns),
+      rise-fits _ _ _ _ _ _ _ _ _ _ _ _ _ d _ _ (weighed (reduction t) .weights .ensures) (k .pre .4) _ _ (rows-shown (reduction t)) (t .tops .ensures) _ (r .rise .ensures) .0,
+    )
 
 raise-heights-requires : tie.Need-raise-heights-requires
 raise-heights-requires c κs =
     let r = c .before .before .before .before .before .before in
     let t = topped r in
     let k = start t in
-    let d = k .pre .3 in
-    (omega (arith, d .height-count, d .ready .columns),
-    rise-fits _ _ _ _ _ _ _ _ _ _ _ _ _ d _ _ (weighed (reduction t) .weights .ensures) (k .pre .4) _ _ (rows-shown (reduction t)) (t .tops .ensures) _ (r .rise .ensures) .1)
+    let d = k .pre .3 in (
+      omega (arith, d .height-count, d .ready .columns),
+      rise-fits _ _ _ _ _ _ _ _ _ _ _ _ _ d _ _ (weighed (reduction t) .weights .ensures) (k .pre .4) _ _ (rows-shown (reduction t)) (t .tops .ensures) _ (r .rise .ensures) .1,
+    )
 
 -- where the rise is known, seen from the end
 abbrev risen : tie.After-slice-known6 → tie.After-rise

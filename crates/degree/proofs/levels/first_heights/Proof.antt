@@ -78,7 +78,7 @@ lower-row-requires-2 c κs =
     let s = begun k in
     let n = s .args .n in
     let inside : (x : ℕ) → x ∈ members (whole (c .below .result)) → x < n =
-        λ x e. upto-iff n x (omega (arith, s .pre .0)) .0 (sym (ap (λ (S : Set). S x) (c .below .ensures)) ∙ e) in (
+    λ x e. upto-iff n x (omega (arith, s .pre .0)) .0 (sym (ap (λ (S : Set). S x) (c .below .ensures)) ∙ e) in (
       s .pre .0,
       within-iff n (whole (c .below .result)) .1 (λ x l e. inside x e),
       omega (arith, s .pre .1),

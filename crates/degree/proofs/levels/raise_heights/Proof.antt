@@ -57,7 +57,7 @@ loop-again c =
     let l = k .loop in
     let a = begun k .args in
     let now : c .raised-height .result ≡ raised (members (whole (a .set)) (l .x)) (a .rise) (getD (a .heights .now) (l .x) 0) =
-        rw (l .inv .1 .left (l .x) (omega arith)) at (c .raised-height .ensures) in
+    rw (l .inv .1 .left (l .x) (omega arith)) at (c .raised-height .ensures) in
     (search needs, written-more (l .x) _ (a .heights .now) (l .heights) _ (omega (arith, l .inv .1 .same-length)) now (l .inv .1))
 
 same-length : tie.Need-same-length Inv-loop μ-loop

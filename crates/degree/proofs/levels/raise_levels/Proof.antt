@@ -62,7 +62,7 @@ loop-again c =
     let l = k .loop in
     let a = begun k .args in
     let now : c .raised-level .result ≡ raised (getD (a .tops .now) (l .q) 0) (a .rise) (getD (a .levels .now) (l .q) 0) =
-        rw (l .inv .1 .left (l .q) (omega arith)) at (c .raised-level .ensures) in
+    rw (l .inv .1 .left (l .q) (omega arith)) at (c .raised-level .ensures) in
     (search needs, written-more (l .q) _ (a .levels .now) (l .levels) _ (omega (arith, l .inv .1 .same-length)) now (l .inv .1))
 
 same-length : tie.Need-same-length Inv-loop μ-loop

@@ -2,7 +2,7 @@
 use Prim.Native.Nat.{_-_, _≤_}
 use mathlib.Core.Path.{_≡_, refl}
 use lib.ListN.{getD}
-use Rattle.degrees.specs.Degrees.{total}
+use Rattle.rank.specs.ListedModelLaws.{total}
 use Rattle.degrees.specs.Totals.{total-below}
 use Rattle.degree.proofs.LevelLaws.{total-next}
 use borrow.Author.Needs.{needs}

@@ -58,10 +58,10 @@ loop-again c =
     let w = getD (a .weights .now) (l .x) 0 in
     let v = getD (a .constants .now) (a .from + l .x) 0 in
     let kept : c .if1 .out ≡ cond (eqb w (a .level)) v 0 =
-        ⊎-elim
-        (λ z. z .1 ∙ sym (ap (λ (b : Bool). cond b v 0) (eq-eqb w (a .level) (z .0 .taken))))
-        (λ z. z .1 ∙ sym (ap (λ (b : Bool). cond b v 0) (ne-eqb w (a .level) (z .0 .left))))
-        (c .if1 .came) in
+    ⊎-elim
+    (λ z. z .1 ∙ sym (ap (λ (b : Bool). cond b v 0) (eq-eqb w (a .level) (z .0 .taken))))
+    (λ z. z .1 ∙ sym (ap (λ (b : Bool). cond b v 0) (ne-eqb w (a .level) (z .0 .left))))
+    (c .if1 .came) in
     let room : a .from + l .x < length (l .out) = omega (arith, l .inv .1 .same-length) in
     (search needs, tight-row-more (l .x) (a .from) (a .level) (a .constants .now) (a .weights .now) (a .out .now) (l .out) _ room kept (l .inv .1))
 
