@@ -1,5 +1,6 @@
 // Whether a claim about a model is accepted, of a model handed over or in a file: a rank, an assignment and a column set that somebody
 // else found. And the bytes of a claim and of the answer.
+#![tactic(auto)]
 ghost use Rattle.std.specs.Prelude.{◌≡◌, ◌≤◌, true, [], ◌↔◌, length, take};
 ghost use Rattle.std.proofs.Math.Option.{none};
 ghost use Rattle.limits.specs.Limits.{most_columns, most_rows};
@@ -33,7 +34,7 @@ pub struct Claim {
 }
 
 // The refusal or 0; and whether the claim is accepted.
-#[derive(Drop)]
+#[derive(Clone, Copy)]
 pub struct Acceptance {
     pub refusal: u32,
     pub accepted: bool,
@@ -78,7 +79,7 @@ fn can_serve(parameters: &[u64], n: usize, b: usize, seated: ColumnSet, r: usize
 }
 
 // Whether rows of a claim can serve the columns that they name, and all columns that then have a seat.
-#[derive(Drop)]
+#[derive(Clone, Copy)]
 struct Seats {
     fit: bool,
     columns: ColumnSet,

@@ -1,6 +1,7 @@
 // The program behind `./check --blocks`: the file of a model on standard input, the report of its blocks on standard output. It only
 // reads, calls and writes. One byte more than the longest file has is enough to refuse whatever follows a file's end. Where a read
 // fails, what was read before it is the input.
+#![tactic(auto)]
 use blocks_report::LONGEST_BLOCKS_REPORT;
 use limits::LONGEST_FILE;
 

@@ -1,6 +1,7 @@
 // The program `check`: the file of a model on standard input, the report of its layered rank on standard output. It only reads, calls and
 // writes. One byte more than the longest file has is enough to refuse whatever follows a file's end. Where a read fails, what was
 // read before it is the input.
+#![tactic(auto)]
 use limits::LONGEST_FILE;
 use report::LONGEST_REPORT;
 

@@ -2,6 +2,7 @@
 // output the report of why the column is not placed. It only reads, calls and writes. One byte more than the longest file has is enough
 // to refuse whatever follows a file's end. Where a read fails, what was read before it is the input. An argument that is missing, no
 // number or too long names the first column that no model has.
+#![tactic(auto)]
 use limits::{LONGEST_FILE, MOST_COLUMNS};
 use reason_report::LONGEST_REASON_REPORT;
 

@@ -1,1 +1,2 @@
 // When an answer that somebody else sends is accepted: definitions and theorems alone, in specs/.
+#![tactic(auto)]

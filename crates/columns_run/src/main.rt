@@ -1,5 +1,6 @@
 // Runs the operations on column sets over a handful of sets, the empty and the full one, sets of one word and of both among them, and
 // columns on both sides of a word's and of a set's last.
+#![tactic(auto)]
 use columns::{ColumnSet, ROW_WORDS};
 
 // Two words a set, the low one first.

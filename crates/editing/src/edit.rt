@@ -9,7 +9,7 @@ use columns::ColumnSet;
 use format::refusals;
 
 // A column is taken off or put back; a place, by its row and its column, is set or cleared.
-#[derive(Drop)]
+#[derive(Clone, Copy)]
 pub enum Edit {
     TakeOff(usize),
     PutBack(usize),
@@ -18,7 +18,7 @@ pub enum Edit {
 }
 
 // The refusal or 0, and an edit.
-#[derive(Drop)]
+#[derive(Clone, Copy)]
 pub struct NamedEdit {
     pub refusal: u32,
     pub edit: Edit,

@@ -1,5 +1,6 @@
 // A model held open: opened, edited and answered. Of a model handed over the constants are lent, the parameter rows lent and changed in
 // place, and the columns present are a set by value; of one in an area all of it lies in the area's bytes.
+#![tactic(auto)]
 ghost use Rattle.columns.specs.ColumnSets.{row_numbers};
 ghost use Rattle.format.specs.Numbers.{lent};
 ghost use Rattle.editing.specs.Calls.{OpenCall, EditCall, AnswerCall};
@@ -15,7 +16,7 @@ pub use area::{answer_area, edit_area, judge_area, open_area};
 pub use edit::{Edit, NamedEdit, name_edit};
 
 // The refusal or 0, and the columns present.
-#[derive(Drop)]
+#[derive(Clone, Copy)]
 pub struct Held {
     pub refusal: u32,
     pub present: ColumnSet,

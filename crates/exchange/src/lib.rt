@@ -2,6 +2,7 @@
 // Over the column sets of `columns`: the tableau, the search of the exchange graph, seats, and the offering of columns; how a
 // column depends on others, read off the tableau; what reaches each column in the final state; and rows of constants reduced, each at
 // an entry that stands at its level. Code outside sees four calls.
+#![tactic(auto)]
 ghost use Rattle.std.specs.Prelude.{◌≡◌, ◌↔◌, true, false, ℕ, ◌<◌, ◌≤◌, replicate};
 ghost use Rattle.limits.specs.Limits.{most_columns, most_rows};
 ghost use Rattle.residue.specs.Arithmetic.{is_prime, InverseTable};

@@ -20,7 +20,7 @@ pub fn widened(x: u8) -> usize
 }
 
 // A free row, with a column of the set that it touches; or, with `rows` for the row, the owners of all rows that touch the set.
-#[derive(Drop)]
+#[derive(Clone, Copy)]
 struct Met {
     pub column: usize,
     pub row: usize,
@@ -129,7 +129,7 @@ fn scan(
 }
 
 // The first layer of the search from start that has a column with a free row; or, with `rows` for the row, all that is reached.
-#[derive(Drop)]
+#[derive(Clone, Copy)]
 pub struct Found {
     pub column: usize,
     pub row: usize,

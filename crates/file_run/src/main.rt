@@ -1,5 +1,6 @@
 // Runs the calls on files and models at the edges that documents 01 and 02 (E4) name and prints what they give. The stored output
 // is computed apart from this program.
+#![tactic(auto)]
 mod areas;
 mod longest;
 mod models;

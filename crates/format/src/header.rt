@@ -10,7 +10,7 @@ use crate::judge::{judge_head, judge_row_fields, judge_unnumbered_rows};
 use crate::refusals;
 
 // p, and n, a, b; all are 0 but the refusal where the file is refused.
-#[derive(Drop)]
+#[derive(Clone, Copy)]
 pub struct Header {
     pub refusal: u32,
     pub p: u32,

@@ -17,7 +17,7 @@ use crate::numbers::{TABLE_WORDS, meet_entries};
 use crate::refusals;
 
 // The refusal of a piece, or 0, and how many bytes follow the piece; none where it is refused.
-#[derive(Drop)]
+#[derive(Clone, Copy)]
 pub struct Judged {
     pub refusal: u32,
     pub left: usize,

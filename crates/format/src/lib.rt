@@ -1,4 +1,5 @@
 // Models in files and handed over, judged; a file read field by field. Every public function is total, and refuses by a number.
+#![tactic(auto)]
 mod content;
 pub mod fields;
 mod handed_over;

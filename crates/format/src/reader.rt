@@ -8,7 +8,7 @@ ghost use Rattle.format.specs.File.Steps.{next_said};
 use crate::fields::said_rest;
 use crate::header::{Header, next_fields, nothing_said};
 
-#[derive(Drop)]
+#[derive(Clone, Copy)]
 pub struct Reader<'a> {
     pub rest: &'a [u8],
 }

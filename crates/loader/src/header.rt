@@ -8,7 +8,7 @@ use format::{Header, is_numbered, read_header};
 
 // What a file says before its rows, and whether its parameters are numbered; where the reading is refused, all are 0 but the refusal,
 // and nothing is numbered.
-#[derive(Drop)]
+#[derive(Clone, Copy)]
 pub struct Sizes {
     pub refusal: u32,
     pub p: u32,

@@ -1,4 +1,5 @@
 // The mixed rank call: row i is the sum of constant row i and parameter row i. It is answered through the layered form.
+#![tactic(auto)]
 ghost use Rattle.std.specs.Prelude.{◌≡◌, ◌↔◌, true, false, ℕ, ◌+◌, ◌*◌, ◌<◌, ◌≤◌, length, get_or};
 ghost use Rattle.std.proofs.Math.Option.{none};
 ghost use Rattle.limits.specs.Limits.{most_columns, most_rows, most_constants};
@@ -19,7 +20,7 @@ use loader::read_rows;
 
 // The refusal or 0; the verdict, 0 "open", 1 "determined" or 2 "surplus"; the rank; rows I and columns J that reach it; and the short
 // set of the layered form.
-#[derive(Drop)]
+#[derive(Clone, Copy)]
 pub struct MixedAnswer {
     pub refusal: u32,
     pub verdict: u8,

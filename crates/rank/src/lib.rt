@@ -1,1 +1,2 @@
 // The theory of the layered rank: definitions and theorems alone, in specs/.
+#![tactic(auto)]

@@ -1,6 +1,7 @@
 // Prints S2's report, S9's mixed one, that of the reason for S3's column 1, and that of S4's blocks, into an area a byte longer than the
 // text, one as long and one a byte shorter; then the reports of two models with surplus equations. A report is which number and which length the call gives, and
 // then the whole area, which held full stops before.
+#![tactic(auto)]
 use text::Printed;
 
 const FULL_STOP: u8 = 46;

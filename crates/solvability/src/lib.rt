@@ -1,4 +1,5 @@
 // The archive: the calls for a host in C.
+#![tactic(auto)]
 mod calls;
 
 pub use calls::{

@@ -1,6 +1,7 @@
 // Writers of text: bytes, decimals, items and lines put into an area from a place on. Each gives the place behind what it put. A byte
 // that has no room is left out, so that every function is total; `print` is for a whole text, and refuses where it has no room. And a
 // reader of numbers.
+#![tactic(auto)]
 ghost use Rattle.std.specs.Prelude.{◌≡◌, [], ◌∷◌, ◌+◌, ◌-◌, ◌*◌, ◌≤◌, ◌<◌};
 ghost use Rattle.columns.specs.Columns.{members};
 ghost use Rattle.columns.specs.ColumnSets.{whole};
@@ -20,7 +21,7 @@ const NINE: u8 = 57;
 const COLON: u8 = 58;
 
 // How many bytes were printed; 0 where the printing is refused.
-#[derive(Drop)]
+#[derive(Clone, Copy)]
 pub struct Printed {
     pub refusal: u32,
     pub length: usize,

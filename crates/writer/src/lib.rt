@@ -1,5 +1,6 @@
 // A model handed over, written as a file: each field into what is left of the lent area. Each function gives back how many bytes it put
 // there, and the next field goes behind them. And numbers, put into an area of their own.
+#![tactic(auto)]
 ghost use Rattle.std.specs.Prelude.{◌≡◌, true, cond, ◌+◌, ◌*◌, ◌/◌, ◌%◌, ◌≤◌, ◌<◌, length, take};
 ghost use mathlib.Core.List.{[], ◌∷◌, flat_map};
 ghost use Rattle.columns.specs.Columns.{members, within};
@@ -24,7 +25,7 @@ use format::fields::{
 use format::{judge_model, put_set_front, refusals};
 
 // How many bytes were written; 0 where the writing is refused.
-#[derive(Drop)]
+#[derive(Clone, Copy)]
 pub struct Written {
     pub refusal: u32,
     pub length: usize,
