@@ -7,10 +7,7 @@ use borrow.Author.Rules.{rules}
 use Rattle.acceptance.proofs.constant_rank.Statement.{statement}
 use Rattle.acceptance.proofs.constant_rank.Tie as tie
 
-slice_aggregate_solve : tie.Need-slice-aggregate-solve
-slice_aggregate_solve c = search rules
-
-solve_requires : tie.Need-solve-requires
+solve_requires : tie.Need-solve-s-requires
 solve_requires c κs = search rules
 
 returns : tie.Need-returns
@@ -21,8 +18,8 @@ returns c =
     let fits : Fits a.set = search rules in
     let small = whole_below a.set fits in
     let inside = k.requires.1 in
-    let s = c.solve.ensures.if_valid (accepted_admissible k.requires.0 (whole a.set) inside) _ _ _ (constants_shown a.n (whole a.set) small inside a.p a.a a.constants.now) in
-    rank_shown a.n (whole a.set) small inside a.p a.a a.constants.now c.solve.result s
+    let s = c.solve-s.ensures.if_valid (accepted_admissible k.requires.0 (whole a.set) inside) _ _ _ (constants_shown a.n (whole a.set) small inside a.p a.a a.constants.now) in
+    rank_shown a.n (whole a.set) small inside a.p a.a a.constants.now c.solve-s.result s
 
 pub constant_rank_spec : {M : Type 1} → statement M
-constant_rank_spec = tie.close (tie.spec slice_aggregate_solve solve_requires returns)
+constant_rank_spec = tie.close (tie.spec solve_requires returns)

@@ -10,23 +10,23 @@ use Rattle.acceptance.specs.Bytes.{acceptance_length, acceptance_bytes}
 use Rattle.acceptance.proofs.put_acceptance.Statement.{statement}
 use Rattle.acceptance.proofs.put_acceptance.Tie as tie
 
-returns : tie.Need-returns
-returns c = put_refused acceptance_length _ _ (omega (arith, c.if1.true))
+returns : tie.Need-returns-then-out-lt-ACCEPTANCE_LENGTH
+returns c = put_refused acceptance_length _ _ (omega (arith, c.if-out-lt-ACCEPTANCE_LENGTH.true))
 
 flag_requires : tie.Need-flag-requires
 flag_requires c κs = search rules
 
-slice_write_out : tie.Need-slice-write-out
+slice_write_out : tie.Need-bounds-out-0
 slice_write_out c = search rules
 
-same_length : tie.Need-same-length
+same_length : tie.Need-shape_of-out
 same_length c = search rules
 
-returns_2 : tie.Need-returns-2
+returns_2 : tie.Need-returns
 returns_2 c =
     let k = c.before.before.before in
-    put_done acceptance_length _ _ (omega (arith, c.before.if1.false))
-    (wrote_all (wrote_set c.flag.result [] (wrote_none (acceptance_bytes k.args.answer) k.args.out.now (omega (arith, c.before.if1.false))) (ap (λ (v : ℕ). v ∷ []) (sym c.flag.ensures))) refl)
+    put_done acceptance_length _ _ (omega (arith, c.before.if-out-lt-ACCEPTANCE_LENGTH.false))
+    (wrote_all (wrote_set c.flag.result [] (wrote_none (acceptance_bytes k.args.answer) k.args.out.now (omega (arith, c.before.if-out-lt-ACCEPTANCE_LENGTH.false))) (ap (λ (v : ℕ). v ∷ []) (sym c.flag.ensures))) refl)
 
 pub put_acceptance_spec : {M : Type 1} → statement M
 put_acceptance_spec =

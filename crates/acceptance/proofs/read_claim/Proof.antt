@@ -20,66 +20,66 @@ set_cut bs = ap number (take_all room_bytes (take set_bytes bs) (omega (arith, l
 empty_requires : tie.Need-empty-requires
 empty_requires c κs = search rules
 
-empty_requires_2 : tie.Need-empty-requires-2
+empty_requires_2 : tie.Need-empty-requires-then-bytes-lt-CLAIM_LENGTH
 empty_requires_2 c κs = search rules
 
-returns : tie.Need-returns
+returns : tie.Need-returns-then-bytes-lt-CLAIM_LENGTH
 unfolding no_claim
 returns c = record {
-  if_short = λ l. rw (c.before.empty.ensures, c.empty2.ensures) refl;
-  if_long = λ l. absurd (omega (arith, l, c.before.before.if1.true));
+  if_short = λ l. rw (c.before.empty.ensures, c.empty-then-bytes-lt-CLAIM_LENGTH.ensures) refl;
+  if_long = λ l. absurd (omega (arith, l, c.before.before.if-bytes-lt-CLAIM_LENGTH.true));
 }
 
-sub_of_bytes : tie.Need-overflow-sub-of-bytes
+sub_of_bytes : tie.Need-slice_bounds-of_bytes-count
 sub_of_bytes c = search rules
 
-part_of_bytes_start : tie.Need-slice-bounds-of-bytes-start
+part_of_bytes_start : tie.Need-slice_bounds-of_bytes-start
 part_of_bytes_start c = search rules
 
-part_of_bytes_end : tie.Need-slice-bounds-of-bytes-end
+part_of_bytes_end : tie.Need-slice_bounds-of_bytes-end
 part_of_bytes_end c = search rules
 
-of_bytes_requires : tie.Need-of-bytes-requires
+of_bytes_requires : tie.Need-of_bytes-constants-requires
 of_bytes_requires c κs = search rules
 
-sub_claimed_rows : tie.Need-overflow-sub-claimed-rows
+sub_claimed_rows : tie.Need-slice_bounds-claimed_rows-count
 sub_claimed_rows c = search rules
 
-part_claimed_rows_start : tie.Need-slice-bounds-claimed-rows-start
+part_claimed_rows_start : tie.Need-slice_bounds-claimed_rows-start
 part_claimed_rows_start c = search rules
 
-part_claimed_rows_end : tie.Need-slice-bounds-claimed-rows-end
+part_claimed_rows_end : tie.Need-slice_bounds-claimed_rows-end
 part_claimed_rows_end c = search rules
 
-claimed_rows_requires : tie.Need-claimed-rows-requires
+claimed_rows_requires : tie.Need-claimed_rows-rows-requires
 claimed_rows_requires c κs = search rules
 
-sub_of_bytes_2 : tie.Need-overflow-sub-of-bytes-2
+sub_of_bytes_2 : tie.Need-slice_bounds-of_bytes-count-2
 sub_of_bytes_2 c = search rules
 
-part_of_bytes_start_2 : tie.Need-slice-bounds-of-bytes-start-2
+part_of_bytes_start_2 : tie.Need-slice_bounds-of_bytes-start-2
 part_of_bytes_start_2 c = search rules
 
-part_of_bytes_end_2 : tie.Need-slice-bounds-of-bytes-end-2
+part_of_bytes_end_2 : tie.Need-slice_bounds-of_bytes-end-2
 part_of_bytes_end_2 c = search rules
 
-of_bytes_requires_2 : tie.Need-of-bytes-requires-2
+of_bytes_requires_2 : tie.Need-of_bytes-set-requires
 of_bytes_requires_2 c κs = search rules
 
-shared_slice_read_t20 : tie.Need-shared-slice-read-t20
+shared_slice_read_t20 : tie.Need-bounds-bytes-0
 shared_slice_read_t20 c = search rules
 
-returns_2 : tie.Need-returns-2
+returns_2 : tie.Need-returns
 returns_2 c =
     let k = c.before.before.before.before.before.before.before.before.before in
     let bytes = k.args.bytes.now in
     record {
-      if_short = λ l. absurd (omega (arith, l, c.before.before.before.before.before.before.before.if1.false));
+      if_short = λ l. absurd (omega (arith, l, c.before.before.before.before.before.before.before.if-bytes-lt-CLAIM_LENGTH.false));
       if_long = λ l. record {
         rank_is = refl;
-        side_is = c.before.before.before.before.before.of-bytes.ensures.is_number ∙ set_cut (drop 1 bytes);
-        rows_are = c.before.before.before.claimed-rows.ensures ∙ take-take most_rows most_rows (drop (1 + set_bytes) bytes) (omega arith);
-        set_is = c.before.of-bytes2.ensures.is_number ∙ set_cut (drop (1 + set_bytes + most_rows) bytes);
+        side_is = c.before.before.before.before.before.of_bytes-constants.ensures.is_number ∙ set_cut (drop 1 bytes);
+        rows_are = c.before.before.before.claimed_rows-rows.ensures ∙ take-take most_rows most_rows (drop (1 + set_bytes) bytes) (omega arith);
+        set_is = c.before.of_bytes-set.ensures.is_number ∙ set_cut (drop (1 + set_bytes + most_rows) bytes);
       };
     }
 

@@ -14,45 +14,45 @@ use Rattle.acceptance.proofs.set_sum.Statement.{statement}
 use Rattle.acceptance.proofs.set_sum.Tie as tie
 
 -- where the call begins, seen from behind the count of rows, and what that has of its set
-abbrev begun : tie.After-touching-rows → tie.Start
+abbrev begun : tie.After-touching_rows-touched → tie.Start
 begun c = c.before.before.before.before
 
 small : (k : tie.Start) → whole k.args.set < 2 ^ width
 small k = let fits : Fits k.args.set = search rules in whole_below k.args.set fits
 
-two_terms : (c : tie.After-touching-rows) → (c.before.constant-rank.result ≤ (begun c).args.n) × (c.touching-rows.result ≤ (begun c).args.b)
+two_terms : (c : tie.After-touching_rows-touched) → (c.before.constant_rank-rank.result ≤ (begun c).args.n) × (c.touching_rows-touched.result ≤ (begun c).args.b)
 two_terms c =
     let k = begun c in
     let a = k.args in (
-      omega (arith, c.before.constant-rank.ensures, rank_most a.n (whole a.set) (small k) k.pre.1 a.p a.a a.constants.now),
-      omega (arith, c.touching-rows.ensures, #-le a.b (touching a.n (parameter_at (row_numbers a.parameters.now)) (members (whole a.set)))),
+      omega (arith, c.before.constant_rank-rank.ensures, rank_most a.n (whole a.set) (small k) k.requires.1 a.p a.a a.constants.now),
+      omega (arith, c.touching_rows-touched.ensures, #-le a.b (touching a.n (parameter_at (row_numbers a.parameters.now)) (members (whole a.set)))),
     )
 
-constant_rank_requires : tie.Need-constant-rank-requires
+constant_rank_requires : tie.Need-constant_rank-rank-requires
 constant_rank_requires c κs = (constants_accepted c.before.before.requires.0, c.before.before.requires.1)
 
-touching_rows_requires : tie.Need-touching-rows-requires
+touching_rows_requires : tie.Need-touching_rows-touched-requires
 touching_rows_requires c κs = search rules
 
-add_result : tie.Need-overflow-add-result
+add_result : tie.Need-overflow_add-result
 add_result c = let t = two_terms c in let h = (begun c).requires.0 in omega (arith, t, h.n_most, h.b_most)
 
 size_requires : tie.Need-size-requires
 size_requires c κs = search rules
 
-sub_result : tie.Need-overflow-sub-result
+sub_result : tie.Need-overflow_sub-result
 sub_result c =
     let k = begun c.before in
-    omega (arith, c.size.ensures, size_most k.args.n (whole k.args.set) (small k) k.pre.1)
+    omega (arith, c.size.ensures, size_most k.args.n (whole k.args.set) (small k) k.requires.1)
 
-add_result_2 : tie.Need-overflow-add-result-2
+add_result_2 : tie.Need-overflow_add-result-2
 add_result_2 c = let t = two_terms c.before in let h = (begun c.before).requires.0 in omega (arith, t, h.n_most, h.b_most)
 
 returns : tie.Need-returns
 returns c =
     let k = begun c.before in
     let a = k.args in
-    let w = sum_added a.n (whole a.set) (small k) k.pre.1 a.p a.a a.constants.now a.b (row_numbers a.parameters.now) c.before.before.constant-rank.ensures c.before.touching-rows.ensures in
+    let w = sum_added a.n (whole a.set) (small k) k.requires.1 a.p a.a a.constants.now a.b (row_numbers a.parameters.now) c.before.before.constant_rank-rank.ensures c.before.touching_rows-touched.ensures in
     omega (arith, c.size.ensures, w)
 
 pub set_sum_spec : {M : Type 1} → statement M

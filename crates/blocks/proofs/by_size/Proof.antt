@@ -16,98 +16,98 @@ use borrow.Author.Rules.{rules}
 use Rattle.blocks.proofs.by_size.Statement.{statement}
 use Rattle.blocks.proofs.by_size.Tie as tie
 
-abbrev invariant-loop : tie.invariant-loop
+abbrev invariant-loop : tie.invariant-loop-rest
 invariant-loop rows table₀ rest₀ table rest = Sizing (members (whole rest₀)) (members (whole rest)) rows table
 
-abbrev decreases-loop : tie.decreases-loop
+abbrev decreases-loop : tie.decreases-loop-rest
 decreases-loop rows table₀ rest₀ table rest = # width (members (whole rest))
 
 -- where the row of a turn is written, made and found, where its column is chosen, where it begins; and where the call did
-abbrev written : tie.After-without invariant-loop decreases-loop → tie.After-put-row invariant-loop decreases-loop
+abbrev written : tie.After-without-rest invariant-loop decreases-loop → tie.After-put_row invariant-loop decreases-loop
 written c = c.before.before
 
-abbrev made : tie.After-without invariant-loop decreases-loop → tie.After-with invariant-loop decreases-loop
+abbrev made : tie.After-without-rest invariant-loop decreases-loop → tie.After-with-more invariant-loop decreases-loop
 made c = (written c).before.before
 
-abbrev counted : tie.After-with invariant-loop decreases-loop → tie.After-size invariant-loop decreases-loop
+abbrev counted : tie.After-with-more invariant-loop decreases-loop → tie.After-size-k invariant-loop decreases-loop
 counted c = c.before.before.before
 
-abbrev chosen : tie.After-size invariant-loop decreases-loop → tie.After-first invariant-loop decreases-loop
+abbrev chosen : tie.After-size-k invariant-loop decreases-loop → tie.After-first-x invariant-loop decreases-loop
 chosen c = c.before.before
 
-abbrev turn : tie.After-first invariant-loop decreases-loop → tie.At-loop invariant-loop decreases-loop
+abbrev turn : tie.After-first-x invariant-loop decreases-loop → tie.At-loop-rest invariant-loop decreases-loop
 turn f = f.before.before.before
 
-abbrev begun : tie.At-loop invariant-loop decreases-loop → tie.Start invariant-loop decreases-loop
+abbrev begun : tie.At-loop-rest invariant-loop decreases-loop → tie.Start invariant-loop decreases-loop
 begun k = k.before.before
 
 -- the column of a turn is one of those that are left
-there : (f : tie.After-first invariant-loop decreases-loop) → (f.first.result < width) × (f.first.result ∈ members (whole (turn f).loop.rest))
+there : (f : tie.After-first-x invariant-loop decreases-loop) → (f.first-x.result < width) × (f.first-x.result ∈ members (whole (turn f).loop-rest.rest))
 there f =
-    let some : # width (members (whole (turn f).loop.rest)) ≢ 0 = eqb-false _ 0 (sym f.before.before.is-empty.ensures ∙ not_in _ f.before.if1.true) in
+    let some : # width (members (whole (turn f).loop-rest.rest)) ≢ 0 = eqb-false _ 0 (sym f.before.before.is_empty.ensures ∙ not_in _ f.before.loop-rest-test.true-raw) in
     let t = least_there width _ some in
-    ((rw (sym f.first.ensures) at t).0, (rw (sym f.first.ensures) at t).1)
+    ((rw (sym f.first-x.ensures) at t).0, (rw (sym f.first-x.ensures) at t).1)
 
 -- the size of its row
-size_is : (c : tie.After-size invariant-loop decreases-loop) → c.size.result ≡ # width (row_of (begun (turn (chosen c))).args.rows.now (chosen c).first.result)
-size_is c = c.size.ensures ∙ ap (λ (w : ℕ). # width (members w)) c.before.row.ensures
+size_is : (c : tie.After-size-k invariant-loop decreases-loop) → c.size-k.result ≡ # width (row_of (begun (turn (chosen c))).args.rows.now (chosen c).first-x.result)
+size_is c = c.size-k.ensures ∙ ap (λ (w : ℕ). # width (members w)) c.before.row.ensures
 
-loop_holds : tie.Need-loop-init invariant-loop decreases-loop
+loop_holds : tie.Need-loop-rest-init invariant-loop decreases-loop
 loop_holds c = sizing_start (members (whole c.before.args.all)) c.before.args.rows.now
 
-is_empty_requires : tie.Need-is-empty-requires invariant-loop decreases-loop
+is_empty_requires : tie.Need-is_empty-requires invariant-loop decreases-loop
 is_empty_requires c κs = search rules
 
-first_requires : tie.Need-first-requires invariant-loop decreases-loop
+first_requires : tie.Need-first-x-requires invariant-loop decreases-loop
 first_requires c κs = search rules
 
 row_requires : tie.Need-row-requires invariant-loop decreases-loop
 row_requires c κs = search rules
 
-size_requires : tie.Need-size-requires invariant-loop decreases-loop
+size_requires : tie.Need-size-k-requires invariant-loop decreases-loop
 size_requires c κs = search rules
 
-slice_aggregate_row : tie.Need-slice-aggregate-row invariant-loop decreases-loop
-slice_aggregate_row c = search (rules, (turn (chosen c.before)).loop.inv.long)
+slice_aggregate_row : tie.Need-slice_bounds-row-end invariant-loop decreases-loop
+slice_aggregate_row c = search (rules, (turn (chosen c.before)).loop-rest.invariant.long)
 
-row_requires_2 : tie.Need-row-requires-2 invariant-loop decreases-loop
+row_requires_2 : tie.Need-row-requires-in-loop-rest invariant-loop decreases-loop
 row_requires_2 c κs = search rules
 
-with_requires : tie.Need-with-requires invariant-loop decreases-loop
+with_requires : tie.Need-with-more-requires invariant-loop decreases-loop
 with_requires c κs = search rules
 
-slice_aggregate_put_row : tie.Need-slice-aggregate-put-row invariant-loop decreases-loop
-slice_aggregate_put_row c = search (rules, (turn (chosen (counted c.before))).loop.inv.long)
+slice_aggregate_put_row : tie.Need-slice_bounds-put_row-end invariant-loop decreases-loop
+slice_aggregate_put_row c = search (rules, (turn (chosen (counted c.before))).loop-rest.invariant.long)
 
-put_row_requires : tie.Need-put-row-requires invariant-loop decreases-loop
+put_row_requires : tie.Need-put_row-requires invariant-loop decreases-loop
 put_row_requires c κs = search rules
 
-without_requires : tie.Need-without-requires invariant-loop decreases-loop
+without_requires : tie.Need-without-rest-requires invariant-loop decreases-loop
 without_requires c κs = search rules
 
-loop_less : tie.Need-loop-smaller invariant-loop decreases-loop
-loop_less c = let w = there (chosen (counted (made c))) in rw c.without.ensures (removed_less width _ _ w.0 w.1)
+loop_less : tie.Need-loop-rest-smaller invariant-loop decreases-loop
+loop_less c = let w = there (chosen (counted (made c))) in rw c.without-rest.ensures (removed_less width _ _ w.0 w.1)
 
-loop_again : tie.Need-loop-preserved invariant-loop decreases-loop
+loop_again : tie.Need-loop-rest-preserved invariant-loop decreases-loop
 loop_again c =
     let m = made c in
     let z = counted m in
     let f = chosen z in
-    let l = (turn f).loop in
+    let l = (turn f).loop-rest in
     let a = (begun (turn f)).args in
-    let x = f.first.result in
+    let x = f.first-x.result in
     let t = there f in
-    rw (c.without.ensures, (written c).put-row.ensures)
-    (sizing_turn (members (whole a.all)) (members (whole l.rest)) a.rows.now l.table x (whole m.with.result) z.size.result t.0 t.1 l.inv (size_is z)
-    (m.with.ensures ∙ ap (λ (w : ℕ). inserted (members w) x) m.before.row2.ensures))
+    rw (c.without-rest.ensures, (written c).put_row.ensures)
+    (sizing_turn (members (whole a.all)) (members (whole l.rest)) a.rows.now l.table-1 x (whole m.with-more.result) z.size-k.result t.0 t.1 l.inv (size_is z)
+    (m.with-more.ensures ∙ ap (λ (w : ℕ). inserted (members w) x) m.before.row-in-loop-rest.ensures))
 
 returns : tie.Need-returns invariant-loop decreases-loop
 returns c =
     let k = c.before.before in
-    let l = k.loop in
+    let l = k.loop-rest in
     let a = (begun k).args in
-    let gone : # width (members (whole l.rest)) ≡ 0 = eqb-true _ 0 (sym c.before.is-empty.ensures ∙ not-false _ c.if1.false) in
-    sizing_done (members (whole a.all)) (members (whole l.rest)) a.rows.now l.table l.invariant
+    let gone : # width (members (whole l.rest)) ≡ 0 = eqb-true _ 0 (sym c.before.is_empty.ensures ∙ not-false _ c.loop-rest-test.false-raw) in
+    sizing_done (members (whole a.all)) (members (whole l.rest)) a.rows.now l.table-1 l.invariant
     (λ x e. nothing_in width (members (whole l.rest)) gone x (columns_below a.all x (search rules) (l.invariant.inside x e)) e)
 
 pub by_size_spec : {M : Type 1} → statement M

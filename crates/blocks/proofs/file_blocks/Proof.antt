@@ -11,52 +11,52 @@ use Rattle.blocks.proofs.file_blocks.Statement.{statement}
 use Rattle.blocks.proofs.file_blocks.Tie as tie
 
 -- where the file is lent, seen from behind its reading; and where it is read, seen from the test of the refusal
-abbrev lent : tie.After-read-rows → tie.After-shared-slice-known
+abbrev lent : tie.After-read_rows-sizes → tie.After-shared_slice_known-1
 lent c = c.before.before.before
 
-abbrev read : tie.After-struct-known → tie.After-read-rows
+abbrev read : tie.After-struct_known-1 → tie.After-read_rows-sizes
 read c = c.before.before.before
 
-file_bytes : (c : tie.After-read-rows) → AreBytes (lent c).before.args.file.now
-file_bytes c i = search (rules, (lent c).shared-slice-known.given i)
+file_bytes : (c : tie.After-read_rows-sizes) → AreBytes (lent c).before.args.file.now
+file_bytes c i = search (rules, (lent c).shared_slice_known-1.given i)
 
-slice_aggregate_read_rows : tie.Need-slice-aggregate-read-rows
+slice_aggregate_read_rows : tie.Need-slice_bounds-read_rows-end
 slice_aggregate_read_rows c = search rules
 
-slice_aggregate_read_rows_2 : tie.Need-slice-aggregate-read-rows-2
+slice_aggregate_read_rows_2 : tie.Need-slice_bounds-read_rows-end-2
 slice_aggregate_read_rows_2 c = search rules
 
-read_rows_requires : tie.Need-read-rows-requires
+read_rows_requires : tie.Need-read_rows-sizes-requires
 read_rows_requires c κs = search rules
 
 refuse_requires : tie.Need-refuse-requires
 refuse_requires c κs = search rules
 
-returns : tie.Need-returns
+returns : tie.Need-returns-then-sizes-ne0
 returns c =
     let at_read = read c.before.before in
     let e = c.refuse.ensures.0 in
-    let nonzero : c.refuse.result.refusal ≢ 0 = λ z. c.before.if1.true (sym e ∙ z) in
-    call_refused (e ∙ own_refusal (file_bytes at_read) at_read.read-rows.ensures) nonzero c.refuse.ensures.1
+    let nonzero : c.refuse.result.refusal ≢ 0 = λ z. c.before.if-sizes-ne0.true (sym e ∙ z) in
+    call_refused (e ∙ own_refusal (file_bytes at_read) at_read.read_rows-sizes.ensures) nonzero c.refuse.ensures.1
 
-slice_aggregate_ask : tie.Need-slice-aggregate-ask
+slice_aggregate_ask : tie.Need-slice_bounds-ask-end
 slice_aggregate_ask c = search rules
 
-slice_aggregate_ask_2 : tie.Need-slice-aggregate-ask-2
+slice_aggregate_ask_2 : tie.Need-slice_bounds-ask-end-2
 slice_aggregate_ask_2 c = search rules
 
 ask_requires : tie.Need-ask-requires
 ask_requires c κs =
     let at_read = read c.before.before.before in
-    model_accepted _ _ _ _ _ _ _ (own_accepted (file_bytes at_read) at_read.read-rows.ensures c.before.before.if1.false)
+    model_accepted _ _ _ _ _ _ _ (own_accepted (file_bytes at_read) at_read.read_rows-sizes.ensures c.before.before.if-sizes-ne0.false)
 
-returns_2 : tie.Need-returns-2
+returns_2 : tie.Need-returns
 returns_2 c =
     let accepted = c.before.before.before in
     let at_read = read accepted.before in
     let bytes = file_bytes at_read in
-    let call = at_read.read-rows.ensures in
-    let ok = accepted.if1.false in
+    let call = at_read.read_rows-sizes.ensures in
+    let ok = accepted.if-sizes-ne0.false in
     call_answered (judged bytes call ok) c.ask.ensures.no_refusal
     (subst (λ (M : Model). BlocksAnswered M c.ask.result) (own_model bytes call ok) c.ask.ensures.answer)
 

@@ -16,60 +16,60 @@ use native.Mathlib.Omega.{arith}
 use Rattle.blocks.proofs.number_block.Statement.{statement}
 use Rattle.blocks.proofs.number_block.Tie as tie
 
-abbrev invariant-loop : tie.invariant-loop
+abbrev invariant-loop : tie.invariant-loop-rest
 invariant-loop numbers₀ k rest₀ numbers rest = Numbering (members (whole rest₀)) (members (whole rest)) k numbers₀ numbers
 
-abbrev decreases-loop : tie.decreases-loop
+abbrev decreases-loop : tie.decreases-loop-rest
 decreases-loop numbers₀ k rest₀ numbers rest = # width (members (whole rest))
 
 -- where a turn begins, seen from where its column is chosen; and where the call did
-abbrev turn : tie.After-first invariant-loop decreases-loop → tie.At-loop invariant-loop decreases-loop
+abbrev turn : tie.After-first-x invariant-loop decreases-loop → tie.At-loop-rest invariant-loop decreases-loop
 turn f = f.before.before.before
 
-abbrev begun : tie.At-loop invariant-loop decreases-loop → tie.Start invariant-loop decreases-loop
+abbrev begun : tie.At-loop-rest invariant-loop decreases-loop → tie.Start invariant-loop decreases-loop
 begun k = k.before.before
 
 -- the column of a turn is one of those that are left
-there : (f : tie.After-first invariant-loop decreases-loop) → (f.first.result < width) × (f.first.result ∈ members (whole (turn f).loop.rest))
+there : (f : tie.After-first-x invariant-loop decreases-loop) → (f.first-x.result < width) × (f.first-x.result ∈ members (whole (turn f).loop-rest.rest))
 there f =
-    let some : # width (members (whole (turn f).loop.rest)) ≢ 0 = eqb-false _ 0 (sym f.before.before.is-empty.ensures ∙ not_in _ f.before.if1.true) in
+    let some : # width (members (whole (turn f).loop-rest.rest)) ≢ 0 = eqb-false _ 0 (sym f.before.before.is_empty.ensures ∙ not_in _ f.before.loop-rest-test.true-raw) in
     let t = least_there width _ some in
-    ((rw (sym f.first.ensures) at t).0, (rw (sym f.first.ensures) at t).1)
+    ((rw (sym f.first-x.ensures) at t).0, (rw (sym f.first-x.ensures) at t).1)
 
-loop_holds : tie.Need-loop-init invariant-loop decreases-loop
+loop_holds : tie.Need-loop-rest-init invariant-loop decreases-loop
 loop_holds c = numbering_start _ _ _
 
-is_empty_requires : tie.Need-is-empty-requires invariant-loop decreases-loop
+is_empty_requires : tie.Need-is_empty-requires invariant-loop decreases-loop
 is_empty_requires c κs = search rules
 
-first_requires : tie.Need-first-requires invariant-loop decreases-loop
+first_requires : tie.Need-first-x-requires invariant-loop decreases-loop
 first_requires c κs = search rules
 
-slice_write_numbers : tie.Need-slice-write-numbers invariant-loop decreases-loop
-slice_write_numbers c = let l = (turn c).loop in omega (arith, l.inv.same_length, (begun (turn c)).pre c.first.result (l.inv.inside c.first.result (there c).1))
+slice_write_numbers : tie.Need-bounds-numbers-x invariant-loop decreases-loop
+slice_write_numbers c = let l = (turn c).loop-rest in omega (arith, l.inv.same_length, (begun (turn c)).requires c.first-x.result (l.inv.inside c.first-x.result (there c).1))
 
-without_requires : tie.Need-without-requires invariant-loop decreases-loop
+without_requires : tie.Need-without-rest-requires invariant-loop decreases-loop
 without_requires c κs = search rules
 
-loop_less : tie.Need-loop-smaller invariant-loop decreases-loop
-loop_less c = let w = there c.before in rw c.without.ensures (removed_less width _ _ w.0 w.1)
+loop_less : tie.Need-loop-rest-smaller invariant-loop decreases-loop
+loop_less c = let w = there c.before in rw c.without-rest.ensures (removed_less width _ _ w.0 w.1)
 
-loop_again : tie.Need-loop-preserved invariant-loop decreases-loop
+loop_again : tie.Need-loop-rest-preserved invariant-loop decreases-loop
 loop_again c =
     let f = c.before in
-    let l = (turn f).loop in
+    let l = (turn f).loop-rest in
     let a = (begun (turn f)).args in
-    rw c.without.ensures (numbering_more (members (whole a.block)) (members (whole l.rest)) a.k a.numbers.now l.numbers f.first.result (there f).1 l.inv)
+    rw c.without-rest.ensures (numbering_more (members (whole a.block)) (members (whole l.rest)) a.k a.numbers.now l.numbers f.first-x.result (there f).1 l.inv)
 
-same_length : tie.Need-same-length invariant-loop decreases-loop
-same_length c = c.before.before.loop.invariant.same_length
+same_length : tie.Need-shape_of-numbers invariant-loop decreases-loop
+same_length c = c.before.before.loop-rest.invariant.same_length
 
 returns : tie.Need-returns invariant-loop decreases-loop
 returns c =
-    let l = c.before.before.loop in
+    let l = c.before.before.loop-rest in
     let a = (begun c.before.before).args in
     let rest = members (whole l.rest) in
-    let gone : # width rest ≡ 0 = eqb-true _ 0 (sym c.before.is-empty.ensures ∙ not-false _ c.if1.false) in
+    let gone : # width rest ≡ 0 = eqb-true _ 0 (sym c.before.is_empty.ensures ∙ not-false _ c.loop-rest-test.false-raw) in
     numbering_done (members (whole a.block)) rest a.k a.numbers.now l.numbers l.invariant
     (λ x e. nothing_in width rest gone x (columns_below a.block x (search rules) (l.invariant.inside x e)) e)
 

@@ -11,13 +11,13 @@ use Rattle.blocks.proofs.wait.Tie as tie
 row_requires : tie.Need-row-requires
 row_requires c κs = search rules
 
-with_requires : tie.Need-with-requires
+with_requires : tie.Need-with-more-requires
 with_requires c κs = search rules
 
-put_row_requires : tie.Need-put-row-requires
+put_row_requires : tie.Need-put_row-requires
 put_row_requires c κs = search rules
 
-same_length : tie.Need-same-length
+same_length : tie.Need-shape_of-waiting
 same_length c = search rules
 
 returns : tie.Need-returns
@@ -25,7 +25,7 @@ returns c =
     let p = c.before.before in
     let w = p.before.before in
     let a = w.before.before.before.before.args in
-    rw p.put-row.ensures (waits_put a.waiting.now a.y a.x (whole w.with.result) (w.with.ensures ∙ ap (λ (v : ℕ). inserted (members v) a.x) w.before.row.ensures))
+    rw p.put_row.ensures (waits_put a.waiting-1.now a.y a.x (whole w.with-more.result) (w.with-more.ensures ∙ ap (λ (v : ℕ). inserted (members v) a.x) w.before.row.ensures))
 
 pub wait_spec : {M : Type 1} → statement M
 wait_spec = tie.close (tie.spec row_requires with_requires put_row_requires same_length returns)

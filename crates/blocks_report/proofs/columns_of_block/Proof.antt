@@ -14,49 +14,49 @@ use native.Mathlib.Omega.{arith}
 use Rattle.blocks_report.proofs.columns_of_block.Statement.{statement}
 use Rattle.blocks_report.proofs.columns_of_block.Tie as tie
 
-abbrev invariant-loop : tie.invariant-loop
+abbrev invariant-loop : tie.invariant-loop-x
 invariant-loop k numbers set₀ x₀ set x = (x ≤ most_columns) × (length numbers ≡ most_columns) × (members (whole set) ≡ gathered numbers k x)
 
-abbrev decreases-loop : tie.decreases-loop
+abbrev decreases-loop : tie.decreases-loop-x
 decreases-loop k numbers set₀ x₀ set x = most_columns - x
 
 -- where a turn begins
-abbrev turn : tie.Joined1 invariant-loop decreases-loop → tie.At-loop invariant-loop decreases-loop
+abbrev turn : tie.Joined-numbers-x invariant-loop decreases-loop → tie.At-loop-x invariant-loop decreases-loop
 turn c = c.before.before
 
-empty_requires : tie.Need-empty-requires invariant-loop decreases-loop
+empty_requires : tie.Need-empty-set-requires invariant-loop decreases-loop
 empty_requires c κs = search rules
 
-loop_holds : tie.Need-loop-init invariant-loop decreases-loop
-loop_holds c = (omega arith, search rules, empty_none c.empty.ensures ∙ sym (gathered_none _ _))
+loop_holds : tie.Need-loop-x-init invariant-loop decreases-loop
+loop_holds c = (omega arith, search rules, empty_none c.empty-set.ensures ∙ sym (gathered_none _ _))
 
-array_read_if1 : tie.Need-array-read-if1 invariant-loop decreases-loop
+array_read_if1 : tie.Need-bounds-numbers-x invariant-loop decreases-loop
 array_read_if1 c = search rules
 
-with_requires : tie.Need-with-requires invariant-loop decreases-loop
+with_requires : tie.Need-with-set-requires invariant-loop decreases-loop
 with_requires c κs = search rules
 
-add_x : tie.Need-overflow-add-x invariant-loop decreases-loop
+add_x : tie.Need-overflow_step-x invariant-loop decreases-loop
 add_x c = search rules
 
-loop_less : tie.Need-loop-smaller invariant-loop decreases-loop
+loop_less : tie.Need-loop-x-smaller invariant-loop decreases-loop
 loop_less c = search rules
 
-loop_again : tie.Need-loop-preserved invariant-loop decreases-loop
+loop_again : tie.Need-loop-x-preserved invariant-loop decreases-loop
 loop_again c =
-    let l = (turn c).loop in
+    let l = (turn c).loop-x in
     let a = (turn c).before.before.args in (
       search rules,
       l.inv.1,
       ⊎_elim
           (λ w. rw (w.2, w.1.ensures, l.inv.2) (gathered_with a.t1 a.k l.x (omega arith) w.0.taken))
           (λ w. rw (w.1, l.inv.2) (gathered_without a.t1 a.k l.x w.0.left))
-          c.if1.branch,
+          c.if-numbers-x.branch,
     )
 
 returns : tie.Need-returns invariant-loop decreases-loop
 returns c =
-    let l = c.before.loop in
+    let l = c.before.loop-x in
     let a = c.before.before.before.args in
     let done : l.x ≡ length a.t1 = omega arith in
     l.invariant.2 ∙ ap (gathered a.t1 a.k) done ∙ gathered_all a.t1 a.k

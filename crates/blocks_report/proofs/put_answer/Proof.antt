@@ -7,28 +7,25 @@ use Rattle.blocks_report.proofs.put_answer.Statement.{statement}
 use Rattle.blocks_report.proofs.put_answer.Tie as tie
 
 -- where each line is put, from the last back to the first, seen from where the area has come back
-abbrev rank_put : tie.After-slice-known4 → tie.After-put-number-line
+abbrev rank_put : tie.After-slice_known-4-1 → tie.After-put_number_line
 rank_put c = c.before.before
 
-abbrev verdict_put : tie.After-slice-known3 → tie.After-put-verdict-line
+abbrev verdict_put : tie.After-slice_known-3-1 → tie.After-put_verdict_line-after_verdict
 verdict_put c = c.before.before
 
-abbrev blocks_put : tie.After-slice-known2 → tie.After-put-block-lines
+abbrev blocks_put : tie.After-slice_known-2-1 → tie.After-put_block_lines-after_blocks
 blocks_put c = c.before.before
 
-put_block_lines_requires : tie.Need-put-block-lines-requires
+put_block_lines_requires : tie.Need-put_block_lines-after_blocks-requires
 put_block_lines_requires c κs = search rules
 
-put_verdict_line_requires : tie.Need-put-verdict-line-requires
+put_verdict_line_requires : tie.Need-put_verdict_line-after_verdict-requires
 put_verdict_line_requires c κs = search rules
 
-slice_aggregate_put_number_line : tie.Need-slice-aggregate-put-number-line
-slice_aggregate_put_number_line c = search rules
-
-put_number_line_requires : tie.Need-put-number-line-requires
+put_number_line_requires : tie.Need-put_number_line-requires
 put_number_line_requires c κs = search rules
 
-same_length : tie.Need-same-length
+same_length : tie.Need-shape_of-out
 same_length c = search rules
 
 returns : tie.Need-returns
@@ -37,7 +34,7 @@ returns c =
     let rank = rank_put c in
     let verdict = verdict_put rank.before.before.before in
     let blocks = blocks_put verdict.before.before in
-    puts_then blocks.put-block-lines.ensures (puts_then verdict.put-verdict-line.ensures rank.put-number-line.ensures)
+    puts_then blocks.put_block_lines-after_blocks.ensures (puts_then verdict.put_verdict_line-after_verdict.ensures rank.put_number_line.ensures)
 
 pub put_answer_spec : {M : Type 1} → statement M
 put_answer_spec =
@@ -45,7 +42,6 @@ put_answer_spec =
     (tie.spec
     put_block_lines_requires
     put_verdict_line_requires
-    slice_aggregate_put_number_line
     put_number_line_requires
     same_length
     returns)

@@ -31,37 +31,37 @@ model_shown file b t e h = by_cases (ℕ_discrete b.refusal 0)
     (λ nz. report_refused _ _ nz ∙ sym (report_refused _ _ nz))
 
 -- where the report is put on the page, seen from where the page is lent to be printed
-abbrev page_put : tie.After-page3 → tie.After-put-report
+abbrev page_put : tie.After-page-3-1 → tie.After-put_report-length
 page_put c = c.before.before
 
 -- the report of the two answers has room on the page
-room : (c : tie.After-layered-file) → let b = c.before.file-blocks.result in let t = c.layered-file.result in length (report_text b.refusal (blocks_text t.verdict t.rank b)) ≤ longest_blocks_report
+room : (c : tie.After-layered_file-answer) → let b = c.before.file_blocks-blocks.result in let t = c.layered_file-answer.result in length (report_text b.refusal (blocks_text t.verdict t.rank b)) ≤ longest_blocks_report
 room c = report_length _ _ _ (omega arith) (omega arith) (blocks_text_length _ _ _ (omega arith) (omega arith))
 
-file_blocks_requires : tie.Need-file-blocks-requires
+file_blocks_requires : tie.Need-file_blocks-blocks-requires
 file_blocks_requires c κs = search rules
 
-layered_file_requires : tie.Need-layered-file-requires
+layered_file_requires : tie.Need-layered_file-answer-requires
 layered_file_requires c κs = search rules
 
-slice_aggregate_put_report : tie.Need-slice-aggregate-put-report
+slice_aggregate_put_report : tie.Need-slice_bounds-put_report-end
 slice_aggregate_put_report c = search rules
 
-put_report_requires : tie.Need-put-report-requires
+put_report_requires : tie.Need-put_report-length-requires
 put_report_requires c κs = search rules
 
-array_share_prefix_page : tie.Need-array-share-prefix-page
-array_share_prefix_page c = let put = c.before in omega (arith, room put.before.before, puts_place put.put-report.ensures (room put.before.before))
+array_share_prefix_page : tie.Need-slice_bounds-page-end
+array_share_prefix_page c = let put = c.before in omega (arith, room put.before.before, puts_place put.put_report-length.ensures (room put.before.before))
 
-slice_aggregate_print : tie.Need-slice-aggregate-print
+slice_aggregate_print : tie.Need-slice_bounds-print-end
 slice_aggregate_print c =
     let put = page_put c in
-    puts_place put.put-report.ensures (room put.before.before) ∙ ap length (sym (puts_page put.put-report.ensures (room put.before.before)))
+    puts_place put.put_report-length.ensures (room put.before.before) ∙ ap length (sym (puts_page put.put_report-length.ensures (room put.before.before)))
 
 print_requires : tie.Need-print-requires
 print_requires c κs = search rules
 
-same_length : tie.Need-same-length
+same_length : tie.Need-shape_of-out
 same_length c = search rules
 
 returns : tie.Need-returns
@@ -69,9 +69,9 @@ returns c =
     let printed = c.before.before in
     let put = page_put printed.before.before in
     let ranked = put.before.before in
-    let blocks = ranked.before.file-blocks in
-    let shown = prints_as (puts_page put.put-report.ensures (room ranked)) printed.print.ensures in
-    call_reported _ _ blocks.ensures (prints_as (model_shown _ blocks.result _ blocks.ensures.is_refusal ranked.layered-file.ensures) shown)
+    let blocks = ranked.before.file_blocks-blocks in
+    let shown = prints_as (puts_page put.put_report-length.ensures (room ranked)) printed.print.ensures in
+    call_reported _ _ blocks.ensures (prints_as (model_shown _ blocks.result _ blocks.ensures.is_refusal ranked.layered_file-answer.ensures) shown)
 
 pub report_blocks_file_spec : {M : Type 1} → statement M
 report_blocks_file_spec =

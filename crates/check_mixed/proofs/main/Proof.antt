@@ -6,33 +6,33 @@ use borrow.Author.Rules.{rules}
 use Rattle.check_mixed.proofs.main.Statement.{statement}
 use Rattle.check_mixed.proofs.main.Tie as tie
 
-slice_aggregate_read_full : tie.Need-slice-aggregate-read-full
+slice_aggregate_read_full : tie.Need-slice_bounds-read_full-end
 slice_aggregate_read_full c = search rules
 
-read_full_requires : tie.Need-read-full-requires
+read_full_requires : tie.Need-read_full-length-requires
 read_full_requires c κs = search rules
 
-array_share_prefix_input : tie.Need-array-share-prefix-input
+array_share_prefix_input : tie.Need-slice_bounds-input-end
 array_share_prefix_input c = search rules
 
-slice_aggregate_report_mixed_file : tie.Need-slice-aggregate-report-mixed-file
+slice_aggregate_report_mixed_file : tie.Need-slice_bounds-report_mixed_file-end
 slice_aggregate_report_mixed_file c = search rules
 
-slice_aggregate_report_mixed_file_2 : tie.Need-slice-aggregate-report-mixed-file-2
+slice_aggregate_report_mixed_file_2 : tie.Need-slice_bounds-report_mixed_file-end-2
 slice_aggregate_report_mixed_file_2 c = search rules
 
-report_mixed_file_requires : tie.Need-report-mixed-file-requires
+report_mixed_file_requires : tie.Need-report_mixed_file-printed-requires
 report_mixed_file_requires c κs = search rules
 
-array_share_prefix_text : tie.Need-array-share-prefix-text
-array_share_prefix_text c = search (rules, reports_within c.before.report-mixed-file.ensures)
+array_share_prefix_text : tie.Need-slice_bounds-text-end
+array_share_prefix_text c = search (rules, reports_within c.before.report_mixed_file-printed.ensures)
 
-slice_aggregate_write_all : tie.Need-slice-aggregate-write-all
+slice_aggregate_write_all : tie.Need-slice_bounds-write_all-end
 slice_aggregate_write_all c =
-    let r = c.before.before.report-mixed-file in
+    let r = c.before.before.report_mixed_file-printed in
     search (rules, sym (length-take-le r.result.length r.new.1.0 (reports_within r.ensures)))
 
-write_all_requires : tie.Need-write-all-requires
+write_all_requires : tie.Need-write_all-requires
 write_all_requires c κs = search rules
 
 returns : tie.Need-returns

@@ -6,51 +6,51 @@ use borrow.Author.Rules.{rules}
 use Rattle.check_reason.proofs.main.Statement.{statement}
 use Rattle.check_reason.proofs.main.Tie as tie
 
-slice_aggregate_read_full : tie.Need-slice-aggregate-read-full
+slice_aggregate_read_full : tie.Need-slice_bounds-read_full-end
 slice_aggregate_read_full c = search rules
 
-read_full_requires : tie.Need-read-full-requires
+read_full_requires : tie.Need-read_full-length-requires
 read_full_requires c κs = search rules
 
-slice_aggregate_arg : tie.Need-slice-aggregate-arg
+slice_aggregate_arg : tie.Need-slice_bounds-arg-end
 slice_aggregate_arg c = search rules
 
-arg_requires : tie.Need-arg-requires
+arg_requires : tie.Need-arg-digits-requires
 arg_requires c κs = search rules
 
-array_share_prefix_argument : tie.Need-array-share-prefix-argument
+array_share_prefix_argument : tie.Need-slice_bounds-argument-end
 array_share_prefix_argument c = search rules
 
-slice_aggregate_read_number : tie.Need-slice-aggregate-read-number
+slice_aggregate_read_number : tie.Need-slice_bounds-read_number-end
 slice_aggregate_read_number c = search rules
 
-cast_read_number : tie.Need-overflow-cast-read-number
+cast_read_number : tie.Need-overflow_cast-read_number
 cast_read_number c = search rules
 
-read_number_requires : tie.Need-read-number-requires
+read_number_requires : tie.Need-read_number-column-requires
 read_number_requires c κs = search rules
 
-array_share_prefix_input : tie.Need-array-share-prefix-input
+array_share_prefix_input : tie.Need-slice_bounds-input-end
 array_share_prefix_input c = search rules
 
-slice_aggregate_report_reason_file : tie.Need-slice-aggregate-report-reason-file
+slice_aggregate_report_reason_file : tie.Need-slice_bounds-report_reason_file-end
 slice_aggregate_report_reason_file c = search rules
 
-slice_aggregate_report_reason_file_2 : tie.Need-slice-aggregate-report-reason-file-2
+slice_aggregate_report_reason_file_2 : tie.Need-slice_bounds-report_reason_file-end-2
 slice_aggregate_report_reason_file_2 c = search rules
 
-report_reason_file_requires : tie.Need-report-reason-file-requires
+report_reason_file_requires : tie.Need-report_reason_file-printed-requires
 report_reason_file_requires c κs = search rules
 
-array_share_prefix_report : tie.Need-array-share-prefix-report
-array_share_prefix_report c = search (rules, reports_within c.before.report-reason-file.ensures)
+array_share_prefix_report : tie.Need-slice_bounds-report-end
+array_share_prefix_report c = search (rules, reports_within c.before.report_reason_file-printed.ensures)
 
-slice_aggregate_write_all : tie.Need-slice-aggregate-write-all
+slice_aggregate_write_all : tie.Need-slice_bounds-write_all-end
 slice_aggregate_write_all c =
-    let r = c.before.before.report-reason-file in
+    let r = c.before.before.report_reason_file-printed in
     search (rules, sym (length-take-le r.result.length r.new.1.1.0 (reports_within r.ensures)))
 
-write_all_requires : tie.Need-write-all-requires
+write_all_requires : tie.Need-write_all-requires
 write_all_requires c κs = search rules
 
 returns : tie.Need-returns

@@ -16,13 +16,13 @@ use Rattle.columns.proofs.low_touches.Tie as tie
 both : (c : tie.Start) → row_words * c.args.r + 1 < length c.args.words.now
 both c = row_there c.args.words.now c.args.r c.requires
 
-mul_result : tie.Need-overflow-mul-result
+mul_result : tie.Need-overflow_mul-result
 mul_result c = search (rules, both c)
 
-mul_result_2 : tie.Need-overflow-mul-result-2
+mul_result_2 : tie.Need-offset_bounds-words-r
 mul_result_2 c = search (rules, both c)
 
-shared_slice_read_result : tie.Need-shared-slice-read-result
+shared_slice_read_result : tie.Need-bounds-words-r
 shared_slice_read_result c = search (rules, both c.before)
 
 returns : tie.Need-returns
@@ -30,7 +30,7 @@ unfolding touching
 returns c =
     let a = c.before.args in
     let at = row_words * a.r in
-    common_low (get_or a.words.now at 0) (get_or a.words.now (at + 1) 0) a.low (search (rules, c.shared-slice-known.given at)) (search rules)
+    common_low (get_or a.words.now at 0) (get_or a.words.now (at + 1) 0) a.low (search (rules, c.shared_slice_known-1.given at)) (search rules)
     ∙ ap (λ (w : ℕ). any width (members a.low ∩ members w)) (row_words_joined a.words.now a.r c.before.requires)
 
 pub low_touches_spec : {M : Type 1} → statement M

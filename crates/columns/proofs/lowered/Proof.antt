@@ -13,33 +13,33 @@ use Rattle.columns.proofs.lowered.Tie as tie
 lowered_requires : tie.Need-lowered-requires
 lowered_requires c κs = search rules
 
-sub_raised : tie.Need-overflow-sub-raised
+sub_raised : tie.Need-overflow_sub-m
 sub_raised c = search rules
 
 raised_requires : tie.Need-raised-requires
 raised_requires c κs = search rules
 
-lowered_requires_2 : tie.Need-lowered-requires-2
+lowered_requires_2 : tie.Need-lowered-requires-then-m-lt-WIDTH
 lowered_requires_2 c κs = search rules
 
-returns : tie.Need-returns
+returns : tie.Need-returns-then-m-lt-WIDTH
 unfolding whole
 returns c =
     let a = c.before.before.before.before.args in
     let down = c.before.before.lowered in
     let up = c.before.raised in
-    lowered_low a.set.low a.set.high _ c.lowered2.result a.m (search rules) (or_lt word_width down.result up.result (search rules) (search rules)) c.before.before.before.if1.true
+    lowered_low a.set.low a.set.high _ c.lowered-then-m-lt-WIDTH.result a.m (search rules) (or_lt word_width down.result up.result (search rules) (search rules)) c.before.before.before.if-m-lt-WIDTH.true
     (members_or down.result up.result ∙ ap₂ (λ (S T : Set). S ∪ T) down.ensures up.ensures)
-    c.lowered2.ensures
+    c.lowered-then-m-lt-WIDTH.ensures
 
-lowered_requires_3 : tie.Need-lowered-requires-3
+lowered_requires_3 : tie.Need-lowered-requires-2
 lowered_requires_3 c κs = search rules
 
-returns_2 : tie.Need-returns-2
+returns_2 : tie.Need-returns
 unfolding whole
 returns_2 c =
     let a = c.before.before.args in
-    lowered_high a.set.low a.set.high c.lowered3.result 0 a.m (search rules) (search rules) (search rules) c.before.if1.false c.lowered3.ensures members_zero
+    lowered_high a.set.low a.set.high c.lowered-2.result 0 a.m (search rules) (search rules) (search rules) c.before.if-m-lt-WIDTH.false c.lowered-2.ensures members_zero
 
 pub lowered_spec : {M : Type 1} → statement M
 lowered_spec =

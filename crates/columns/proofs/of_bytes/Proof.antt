@@ -16,38 +16,38 @@ use Rattle.columns.proofs.of_bytes.Tie as tie
 read_from : (bs : List ℕ) (s : ColumnSet) → AreBytes bs → whole s ≡ number (take room_bytes bs) → ReadFrom bs s
 read_from bs s b e = record { is_number = e; bits = λ c l. ap (λ (w : ℕ). bit w c) e ∙ bits_shown room_bytes bs c b (omega arith) }
 
-of_bytes_requires : tie.Need-of-bytes-requires
+of_bytes_requires : tie.Need-of_bytes-requires
 of_bytes_requires c κs = search rules
 
-returns : tie.Need-returns
+returns : tie.Need-returns-then-bytes-lt-BYTES
 unfolding whole
 returns c =
     let known = c.before.before in
-    read_from _ _ (λ i. search (rules, known.shared-slice-known.given i))
-    (bytes_short known.before.args.bytes.now c.of-bytes.result c.before.if1.true c.of-bytes.ensures)
+    read_from _ _ (λ i. search (rules, known.shared_slice_known-1.given i))
+    (bytes_short known.before.args.bytes.now c.of_bytes.result c.before.if-bytes-lt-BYTES.true c.of_bytes.ensures)
 
-of_bytes_requires_2 : tie.Need-of-bytes-requires-2
+of_bytes_requires_2 : tie.Need-of_bytes-requires-2
 of_bytes_requires_2 c κs = search rules
 
-sub_of_bytes : tie.Need-overflow-sub-of-bytes
+sub_of_bytes : tie.Need-slice_bounds-of_bytes-count
 sub_of_bytes c = search rules
 
-part_of_bytes_start : tie.Need-slice-bounds-of-bytes-start
+part_of_bytes_start : tie.Need-slice_bounds-of_bytes-start
 part_of_bytes_start c = search rules
 
-part_of_bytes_end : tie.Need-slice-bounds-of-bytes-end
+part_of_bytes_end : tie.Need-slice_bounds-of_bytes-end
 part_of_bytes_end c = search rules
 
-of_bytes_requires_3 : tie.Need-of-bytes-requires-3
+of_bytes_requires_3 : tie.Need-of_bytes-requires-3
 of_bytes_requires_3 c κs = search rules
 
-returns_2 : tie.Need-returns-2
+returns_2 : tie.Need-returns
 unfolding whole
 returns_2 c =
-    let low = c.before.before.of-bytes2 in
+    let low = c.before.before.of_bytes-2 in
     let known = c.before.before.before.before in
-    read_from _ _ (λ i. search (rules, known.shared-slice-known.given i))
-    (bytes_long known.before.args.bytes.now low.result c.of-bytes3.result c.before.before.before.if1.false low.ensures c.of-bytes3.ensures)
+    read_from _ _ (λ i. search (rules, known.shared_slice_known-1.given i))
+    (bytes_long known.before.args.bytes.now low.result c.of_bytes-3.result c.before.before.before.if-bytes-lt-BYTES.false low.ensures c.of_bytes-3.ensures)
 
 pub of_bytes_spec : {M : Type 1} → statement M
 of_bytes_spec =

@@ -11,47 +11,47 @@ use Rattle.columns.proofs.row.Statement.{statement}
 use Rattle.columns.proofs.row.Tie as tie
 
 -- where the row is there, and where the call begins
-abbrev begun : tie.Then1 → tie.Start
+abbrev begun : tie.Then-r-rows → tie.Start
 begun c = c.before.before.before
 
-inside : (c : tie.Then1) → (begun c).args.r < length (row_numbers (begun c).args.words.now)
-inside c = omega (arith, c.if1.true, c.before.rows.ensures)
+inside : (c : tie.Then-r-rows) → (begun c).args.r < length (row_numbers (begun c).args.words.now)
+inside c = omega (arith, c.if-r-rows.true, c.before.rows.ensures)
 
-both : (c : tie.Then1) → row_words * (begun c).args.r + 1 < length (begun c).args.words.now
+both : (c : tie.Then-r-rows) → row_words * (begun c).args.r + 1 < length (begun c).args.words.now
 both c = row_there (begun c).args.words.now (begun c).args.r (inside c)
 
 rows_requires : tie.Need-rows-requires
 rows_requires c κs = search rules
 
-mul_at : tie.Need-overflow-mul-at
+mul_at : tie.Need-overflow_mul-at
 mul_at c = search (rules, both c)
 
-mul_t6 : tie.Need-overflow-mul-t6
+mul_t6 : tie.Need-offset_bounds-words-at
 mul_t6 c = search (rules, both c)
 
-shared_slice_read_t8 : tie.Need-shared-slice-read-t8
+shared_slice_read_t8 : tie.Need-bounds-words-at
 shared_slice_read_t8 c = search (rules, both c.before)
 
-add_t9 : tie.Need-overflow-add-t9
+add_t9 : tie.Need-overflow_add-result
 add_t9 c = search (rules, both c.before)
 
-mul_t10 : tie.Need-overflow-mul-t10
+mul_t10 : tie.Need-offset_bounds-words-at-then-r-rows
 mul_t10 c = search (rules, both c.before)
 
-shared_slice_read_t12 : tie.Need-shared-slice-read-t12
+shared_slice_read_t12 : tie.Need-bounds-words-at-then-r-rows
 shared_slice_read_t12 c = search (rules, both c.before.before)
 
-returns : tie.Need-returns
+returns : tie.Need-returns-then-r-rows
 unfolding whole
 returns c = let a = (begun c.before.before).args in row_words_joined a.words.now a.r (inside c.before.before)
 
 empty_requires : tie.Need-empty-requires
 empty_requires c κs = search rules
 
-returns_2 : tie.Need-returns-2
+returns_2 : tie.Need-returns
 returns_2 c =
     let a = c.before.before.before.before.args in
-    empty_zero c.empty.ensures ∙ sym (get_or-eq_default (row_numbers a.words.now) 0 (omega (arith, c.before.if1.false, c.before.before.rows.ensures)))
+    empty_zero c.empty.ensures ∙ sym (get_or-eq_default (row_numbers a.words.now) 0 (omega (arith, c.before.if-r-rows.false, c.before.before.rows.ensures)))
 
 pub row_spec : {M : Type 1} → statement M
 row_spec =

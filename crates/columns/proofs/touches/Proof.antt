@@ -13,13 +13,13 @@ use Rattle.columns.proofs.touches.Tie as tie
 intersection_requires : tie.Need-intersection-requires
 intersection_requires c κs = search rules
 
-is_empty_requires : tie.Need-is-empty-requires
+is_empty_requires : tie.Need-is_empty-requires
 is_empty_requires c κs = search rules
 
 returns : tie.Need-returns
 returns c =
     let a = c.before.before.args in
-    ap not (c.is-empty.ensures ∙ ap (λ (S : Set). eqb (# width S) 0) c.before.intersection.ensures)
+    ap not (c.is_empty.ensures ∙ ap (λ (S : Set). eqb (# width S) 0) c.before.intersection.ensures)
     ∙ size_any width (members (whole a.set) ∩ members (whole a.row))
 
 pub touches_spec : {M : Type 1} → statement M

@@ -4,40 +4,40 @@ use borrow.Author.Rules.{rules}
 use Rattle.columns_run.proofs.main.Statement.{statement}
 use Rattle.columns_run.proofs.main.Tie as tie
 
-abbrev invariant-loop : tie.invariant-loop
+abbrev invariant-loop : tie.invariant-loop-i
 invariant-loop i₀ i = Unit {0}
 
-abbrev decreases-loop : tie.decreases-loop
+abbrev decreases-loop : tie.decreases-loop-i
 decreases-loop i₀ i = 8 - i
 
 read_requires : tie.Need-read-requires invariant-loop decreases-loop
 read_requires c κs = search rules
 
-loop_holds : tie.Need-loop-init invariant-loop decreases-loop
+loop_holds : tie.Need-loop-i-init invariant-loop decreases-loop
 loop_holds c = search rules
 
-nth_requires : tie.Need-nth-requires invariant-loop decreases-loop
+nth_requires : tie.Need-nth-set-requires invariant-loop decreases-loop
 nth_requires c κs = search rules
 
 describe_requires : tie.Need-describe-requires invariant-loop decreases-loop
 describe_requires c κs = search rules
 
-over_places_requires : tie.Need-over-places-requires invariant-loop decreases-loop
+over_places_requires : tie.Need-over_places-requires invariant-loop decreases-loop
 over_places_requires c κs = search rules
 
-over_sets_requires : tie.Need-over-sets-requires invariant-loop decreases-loop
+over_sets_requires : tie.Need-over_sets-requires invariant-loop decreases-loop
 over_sets_requires c κs = search rules
 
-over_rows_requires : tie.Need-over-rows-requires invariant-loop decreases-loop
+over_rows_requires : tie.Need-over_rows-requires invariant-loop decreases-loop
 over_rows_requires c κs = search rules
 
-add_i : tie.Need-overflow-add-i invariant-loop decreases-loop
+add_i : tie.Need-overflow_step-i invariant-loop decreases-loop
 add_i c = search rules
 
-loop_less : tie.Need-loop-smaller invariant-loop decreases-loop
+loop_less : tie.Need-loop-i-smaller invariant-loop decreases-loop
 loop_less c = search rules
 
-loop_again : tie.Need-loop-preserved invariant-loop decreases-loop
+loop_again : tie.Need-loop-i-preserved invariant-loop decreases-loop
 loop_again c = search rules
 
 returns : tie.Need-returns invariant-loop decreases-loop

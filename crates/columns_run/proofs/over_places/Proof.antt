@@ -4,31 +4,28 @@ use borrow.Author.Rules.{rules}
 use Rattle.columns_run.proofs.over_places.Statement.{statement}
 use Rattle.columns_run.proofs.over_places.Tie as tie
 
-abbrev invariant-loop : tie.invariant-loop
+abbrev invariant-loop : tie.invariant-loop-i
 invariant-loop set i₀ i = Unit {0}
 
-abbrev decreases-loop : tie.decreases-loop
+abbrev decreases-loop : tie.decreases-loop-i
 decreases-loop set i₀ i = 14 - i
 
-loop_holds : tie.Need-loop-init invariant-loop decreases-loop
+loop_holds : tie.Need-loop-i-init invariant-loop decreases-loop
 loop_holds c = search rules
 
-mul_at : tie.Need-overflow-mul-at invariant-loop decreases-loop
+mul_at : tie.Need-offset_bounds-i invariant-loop decreases-loop
 mul_at c = search rules
-
-array_read_at : tie.Need-array-read-at invariant-loop decreases-loop
-array_read_at c = search rules
 
 at_requires : tie.Need-at-requires invariant-loop decreases-loop
 at_requires c κs = search rules
 
-add_i : tie.Need-overflow-add-i invariant-loop decreases-loop
+add_i : tie.Need-overflow_step-i invariant-loop decreases-loop
 add_i c = search rules
 
-loop_less : tie.Need-loop-smaller invariant-loop decreases-loop
+loop_less : tie.Need-loop-i-smaller invariant-loop decreases-loop
 loop_less c = search rules
 
-loop_again : tie.Need-loop-preserved invariant-loop decreases-loop
+loop_again : tie.Need-loop-i-preserved invariant-loop decreases-loop
 loop_again c = search rules
 
 returns : tie.Need-returns invariant-loop decreases-loop
@@ -42,7 +39,6 @@ over_places_spec =
     decreases-loop
     loop_holds
     mul_at
-    array_read_at
     at_requires
     add_i
     loop_less

@@ -9,42 +9,42 @@ use native.Mathlib.Omega.{arith}
 use Rattle.degree.proofs.copied.Statement.{statement}
 use Rattle.degree.proofs.copied.Tie as tie
 
-abbrev invariant-loop : tie.invariant-loop
+abbrev invariant-loop : tie.invariant-loop-i
 invariant-loop constants k copy₀ i₀ copy i = (i ≤ k) × (length copy ≡ most_constants) × ((j : ℕ) → j < i → get_or copy j 0 ≡ get_or constants j 0)
 
-abbrev decreases-loop : tie.decreases-loop
+abbrev decreases-loop : tie.decreases-loop-i
 decreases-loop constants k copy₀ i₀ copy i = k - i
 
-loop_holds : tie.Need-loop-init invariant-loop decreases-loop
+loop_holds : tie.Need-loop-i-init invariant-loop decreases-loop
 loop_holds c = (omega arith, search rules, λ j l. absurd (omega arith))
 
-mul_copy : tie.Need-overflow-mul-copy invariant-loop decreases-loop
+mul_copy : tie.Need-offset_bounds-constants-i invariant-loop decreases-loop
 mul_copy c = search rules
 
-shared_slice_read_copy : tie.Need-shared-slice-read-copy invariant-loop decreases-loop
+shared_slice_read_copy : tie.Need-bounds-constants-i invariant-loop decreases-loop
 shared_slice_read_copy c = search rules
 
-mul_copy_2 : tie.Need-overflow-mul-copy-2 invariant-loop decreases-loop
+mul_copy_2 : tie.Need-offset_bounds-copy-i invariant-loop decreases-loop
 mul_copy_2 c = search rules
 
-array_write_copy : tie.Need-array-write-copy invariant-loop decreases-loop
+array_write_copy : tie.Need-bounds-copy-i invariant-loop decreases-loop
 array_write_copy c = search rules
 
-add_i : tie.Need-overflow-add-i invariant-loop decreases-loop
+add_i : tie.Need-overflow_step-i invariant-loop decreases-loop
 add_i c = search rules
 
-loop_less : tie.Need-loop-smaller invariant-loop decreases-loop
+loop_less : tie.Need-loop-i-smaller invariant-loop decreases-loop
 loop_less c = search rules
 
-loop_again : tie.Need-loop-preserved invariant-loop decreases-loop
+loop_again : tie.Need-loop-i-preserved invariant-loop decreases-loop
 loop_again c =
     let k = c.before.before in
     let cs = k.before.args.constants.now in
-    (omega arith, search rules, filled_more (λ j v. v ≡ get_or cs j 0) k.loop.copy k.loop.i _ (omega (arith, k.loop.invariant.1)) k.loop.invariant.2 refl)
+    (omega arith, search rules, filled_more (λ j v. v ≡ get_or cs j 0) k.loop-i.copy k.loop-i.i _ (omega (arith, k.loop-i.invariant.1)) k.loop-i.invariant.2 refl)
 
 returns : tie.Need-returns invariant-loop decreases-loop
 returns c =
-    let l = c.before.loop in
+    let l = c.before.loop-i in
     let done : l.i ≡ c.before.before.args.k = omega arith in
     rw done at l.invariant.2
 

@@ -21,96 +21,96 @@ use Rattle.degree.proofs.model_degree.Statement.{statement}
 use Rattle.degree.proofs.model_degree.Tie as tie
 
 -- where the call begins, seen from behind the judgement
-abbrev begun : tie.After-judge-model → tie.Start
+abbrev begun : tie.After-judge_model-number → tie.Start
 begun c = c.before.before.before.before.before.before.before
 
 -- the judgement, seen from where the areas are judged, and what is known of the sizes there
-abbrev judged : tie.Else2 → tie.After-judge-model
+abbrev judged : tie.Else-number-eq-SIZES_BEYOND → tie.After-judge_model-number
 judged c = c.before.before
 
-sizes : (c : tie.Else2) → ((begun (judged c)).args.n ≤ most_columns) × ((begun (judged c)).args.b ≤ most_rows)
+sizes : (c : tie.Else-number-eq-SIZES_BEYOND) → ((begun (judged c)).args.n ≤ most_columns) × ((begun (judged c)).args.b ≤ most_rows)
 sizes c =
     let j = judged c in
     let a = (begun j).args in
     let z = (size_reads a.n a.a a.b).0 (sizes_pass _ _ _ _ a.constants.now (row_numbers a.parameters.now) (lent a.numbered a.numbers.now) a.rowpowers.now a.columnpowers.now a.parameterpowers.now
-    j.judge-model.result j.judge-model.ensures c.before.if1.false c.if2.false).1 in
+    j.judge_model-number.result j.judge_model-number.ensures c.before.if-number-eq-NOT_PRIME.false c.if-number-eq-SIZES_BEYOND.false).1 in
     (z.1, z.3)
 
 -- the model is accepted
-accepted : (c : tie.Else4) → let a = (begun (judged c.before.before.before)).args in
+accepted : (c : tie.Else-number-ne0) → let a = (begun (judged c.before.before.before)).args in
     Accepted a.p a.n a.a a.b a.constants.now (row_numbers a.parameters.now) (lent a.numbered a.numbers.now)
-accepted c = let j = judged c.before.before.before in model_accepted _ _ _ _ _ _ _ (sym j.judge-model.ensures ∙ c.if4.false)
+accepted c = let j = judged c.before.before.before in model_accepted _ _ _ _ _ _ _ (sym j.judge_model-number.ensures ∙ c.if-number-ne0.false)
 
-judge_model_requires : tie.Need-judge-model-requires
+judge_model_requires : tie.Need-judge_model-number-requires
 judge_model_requires c κs = search rules
 
 refuse_requires : tie.Need-refuse-requires
 refuse_requires c κs = search rules
 
-returns : tie.Need-returns
+returns : tie.Need-returns-then-number-eq-NOT_PRIME
 returns c =
     let j = c.before.before in
     let a = (begun j).args in
     let e = c.refuse.ensures.0 in
     call_refused (e ∙ sizes_refused a.p a.n a.a a.b a.constants.now (row_numbers a.parameters.now) (lent a.numbered a.numbers.now) a.rowpowers.now a.columnpowers.now a.parameterpowers.now
-    j.judge-model.result j.judge-model.ensures (inl c.before.if1.true)) (λ z. omega (arith, e, c.before.if1.true)) c.refuse.ensures.1
+    j.judge_model-number.result j.judge_model-number.ensures (inl c.before.if-number-eq-NOT_PRIME.true)) (λ z. omega (arith, e, c.before.if-number-eq-NOT_PRIME.true)) c.refuse.ensures.1
 
-refuse_requires_2 : tie.Need-refuse-requires-2
+refuse_requires_2 : tie.Need-refuse-requires-then-number-eq-SIZES_BEYOND
 refuse_requires_2 c κs = search rules
 
-returns_2 : tie.Need-returns-2
+returns_2 : tie.Need-returns-then-number-eq-SIZES_BEYOND
 returns_2 c =
     let j = c.before.before.before in
     let a = (begun j).args in
-    let e = c.refuse2.ensures.0 in
+    let e = c.refuse-then-number-eq-SIZES_BEYOND.ensures.0 in
     call_refused (e ∙ sizes_refused a.p a.n a.a a.b a.constants.now (row_numbers a.parameters.now) (lent a.numbered a.numbers.now) a.rowpowers.now a.columnpowers.now a.parameterpowers.now
-    j.judge-model.result j.judge-model.ensures (inr c.before.if2.true)) (λ z. omega (arith, e, c.before.if2.true)) c.refuse2.ensures.1
+    j.judge_model-number.result j.judge_model-number.ensures (inr c.before.if-number-eq-SIZES_BEYOND.true)) (λ z. omega (arith, e, c.before.if-number-eq-SIZES_BEYOND.true)) c.refuse-then-number-eq-SIZES_BEYOND.ensures.1
 
-areas_hold_requires : tie.Need-areas-hold-requires
+areas_hold_requires : tie.Need-areas_hold-requires
 areas_hold_requires c κs = sizes c
 
-refuse_requires_3 : tie.Need-refuse-requires-3
+refuse_requires_3 : tie.Need-refuse-requires-then-not-areas_hold
 refuse_requires_3 c κs = search rules
 
-returns_3 : tie.Need-returns-3
+returns_3 : tie.Need-returns-then-not-areas_hold
 returns_3 c =
     let h = c.before.before in
     let s = h.before in
     let j = judged s in
     let a = (begun j).args in
-    let e = c.refuse3.ensures.0 in
+    let e = c.refuse-then-not-areas_hold.ensures.0 in
     call_refused (e ∙ areas_refused a.p a.n a.a a.b a.constants.now (row_numbers a.parameters.now) (lent a.numbered a.numbers.now) a.rowpowers.now a.columnpowers.now a.parameterpowers.now
-    j.judge-model.result j.judge-model.ensures s.before.if1.false s.if2.false (sym h.areas-hold.ensures ∙ not-true _ c.before.if3.true)) (λ z. omega (arith, e)) c.refuse3.ensures.1
+    j.judge_model-number.result j.judge_model-number.ensures s.before.if-number-eq-NOT_PRIME.false s.if-number-eq-SIZES_BEYOND.false (sym h.areas_hold.ensures ∙ not-true _ c.before.if-not-areas_hold.true-raw)) (λ z. omega (arith, e)) c.refuse-then-not-areas_hold.ensures.1
 
-refuse_requires_4 : tie.Need-refuse-requires-4
+refuse_requires_4 : tie.Need-refuse-requires-then-number-ne0
 refuse_requires_4 c κs = search rules
 
-returns_4 : tie.Need-returns-4
+returns_4 : tie.Need-returns-then-number-ne0
 returns_4 c =
     let f = c.before.before in
     let h = f.before in
     let j = judged h.before in
     let a = (begun j).args in
-    let e = c.refuse4.ensures.0 in
+    let e = c.refuse-then-number-ne0.ensures.0 in
     call_refused (e ∙ model_refused a.p a.n a.a a.b a.constants.now (row_numbers a.parameters.now) (lent a.numbered a.numbers.now) a.rowpowers.now a.columnpowers.now a.parameterpowers.now
-    j.judge-model.result j.judge-model.ensures (sym h.areas-hold.ensures ∙ not-false _ f.if3.false) c.before.if4.true) (λ z. c.before.if4.true (sym e ∙ z)) c.refuse4.ensures.1
+    j.judge_model-number.result j.judge_model-number.ensures (sym h.areas_hold.ensures ∙ not-false _ f.if-not-areas_hold.false-raw) c.before.if-number-ne0.true) (λ z. c.before.if-number-ne0.true (sym e ∙ z)) c.refuse-then-number-ne0.ensures.1
 
 -- there are few constants
-few : (c : tie.Else4) → let a = (begun (judged c.before.before.before)).args in a.a * a.n ≤ most_rows * most_columns
+few : (c : tie.Else-number-ne0) → let a = (begun (judged c.before.before.before)).args in a.a * a.n ≤ most_rows * most_columns
 few c = let h = accepted c in mul-le-mul {n₂ = most_rows} {m₂ = most_columns} h.a_most h.n_most
 
-mul_copied : tie.Need-overflow-mul-copied
+mul_copied : tie.Need-overflow_mul-a
 mul_copied c = omega (arith, few c)
 
-copied_requires : tie.Need-copied-requires
+copied_requires : tie.Need-copied-rows-requires
 copied_requires c κs = ((accepted c).constants_lent, few c)
 
-slice_aggregate_ask : tie.Need-slice-aggregate-ask
+slice_aggregate_ask : tie.Need-slice_bounds-ask-end
 slice_aggregate_ask c = search rules
 
 -- how many there are in the copy
-long : (c : tie.After-copied) → length c.copied.result ≡ most_constants
-long c = search (rules, c.copied.type-inv)
+long : (c : tie.After-copied-rows) → length c.copied-rows.result ≡ most_constants
+long c = search (rules, c.copied-rows.type-inv)
 
 ask_requires : tie.Need-ask-requires
 ask_requires c κs =
@@ -118,10 +118,10 @@ ask_requires c κs =
     let e = p.before in
     let h = e.before.before in
     let a = (begun (judged h.before)).args in
-    let w = hold_reads a.n a.a a.b a.rowpowers.now a.columnpowers.now a.parameterpowers.now (sym h.areas-hold.ensures ∙ not-false _ e.before.if3.false) in
-    (accepted_copy (accepted e) (omega (arith, long p, few e)) p.copied.ensures, w.0, w.1, w.2)
+    let w = hold_reads a.n a.a a.b a.rowpowers.now a.columnpowers.now a.parameterpowers.now (sym h.areas_hold.ensures ∙ not-false _ e.before.if-not-areas_hold.false-raw) in
+    (accepted_copy (accepted e) (omega (arith, long p, few e)) p.copied-rows.ensures, w.0, w.1, w.2)
 
-returns_5 : tie.Need-returns-5
+returns_5 : tie.Need-returns
 returns_5 c =
     let k = c.before in
     let p = k.before.before in
@@ -130,9 +130,9 @@ returns_5 c =
     let j = judged h.before in
     let a = (begun j).args in
     let Q = tableau_of a.p a.n a.constants.now in
-    let shown : ConstantsShown a.p a.n a.a Q p.copied.result = λ i x li lx. ap (residue_of a.p) (sym (p.copied.ensures (i * a.n + x) (place_below a.n a.a i x li lx))) in
+    let shown : ConstantsShown a.p a.n a.a Q p.copied-rows.result = λ i x li lx. ap (residue_of a.p) (sym (p.copied-rows.ensures (i * a.n + x) (place_below a.n a.a i x li lx))) in
     call_as (question_left a.p a.n a.a a.b a.constants.now (row_numbers a.parameters.now) (lent a.numbered a.numbers.now) a.rowpowers.now a.columnpowers.now a.parameterpowers.now
-    j.judge-model.result j.judge-model.ensures (sym h.areas-hold.ensures ∙ not-false _ e.before.if3.false) e.if4.false) (λ x. x) (k.ask.ensures Q shown)
+    j.judge_model-number.result j.judge_model-number.ensures (sym h.areas_hold.ensures ∙ not-false _ e.before.if-not-areas_hold.false-raw) e.if-number-ne0.false) (λ x. x) (k.ask.ensures Q shown)
 
 pub model_degree_spec : {M : Type 1} → statement M
 model_degree_spec =

@@ -8,22 +8,22 @@ use borrow.Author.Rules.{rules}
 use Rattle.editing.proofs.open_model.Statement.{statement}
 use Rattle.editing.proofs.open_model.Tie as tie
 
-judge_model_requires : tie.Need-judge-model-requires
+judge_model_requires : tie.Need-judge_model-refusal-requires
 judge_model_requires c κs = search rules
 
 empty_requires : tie.Need-empty-requires
 empty_requires c κs = search rules
 
-returns : tie.Need-returns
-returns c = call_refused c.before.before.judge-model.ensures c.before.if1.true c.empty.ensures
+returns : tie.Need-returns-then-refusal-ne0
+returns c = call_refused c.before.before.judge_model-refusal.ensures c.before.if-refusal-ne0.true c.empty.ensures
 
 below_requires : tie.Need-below-requires
 below_requires c κs = search rules
 
-returns_2 : tie.Need-returns-2
+returns_2 : tie.Need-returns
 returns_2 c =
     let d = c.before in
-    let ok = sym d.before.judge-model.ensures ∙ d.if1.false in
+    let ok = sym d.before.judge_model-refusal.ensures ∙ d.if-refusal-ne0.false in
     call_answered ok refl (below_shown _ _ (search (rules, c.below.type-inv)) (omega (arith, (model_accepted _ _ _ _ _ _ _ ok).n_most)) c.below.ensures)
 
 pub open_model_spec : {M : Type 1} → statement M

@@ -17,67 +17,67 @@ use Rattle.exchange.proofs.answer.Statement.{statement}
 use Rattle.exchange.proofs.answer.Tie as tie
 
 -- where each call has answered, from the last back to the first; and where the function begins
-abbrev sided : tie.After-short → tie.After-constant-side
+abbrev sided : tie.After-short-1 → tie.After-constant_side-side
 sided c = c.before.before.before
 
-abbrev counted : tie.After-short → tie.After-size
+abbrev counted : tie.After-short-1 → tie.After-size-rank
 counted c = (sided c).before.before
 
-abbrev searched : tie.After-short → tie.After-search
+abbrev searched : tie.After-short-1 → tie.After-search-f
 searched c = (counted c).before
 
-abbrev missed : tie.After-short → tie.After-difference
+abbrev missed : tie.After-short-1 → tie.After-difference-missing
 missed c = (searched c).before.before.before
 
-abbrev offered : tie.After-short → tie.After-offer-all
+abbrev offered : tie.After-short-1 → tie.After-offer_all-placed
 offered c = (missed c).before
 
-abbrev begun : tie.After-owner → tie.Start
+abbrev begun : tie.After-owner-1 → tie.Start
 begun c = c.before.before.before.before
 
-cast_owner : tie.Need-overflow-cast-owner
+cast_owner : tie.Need-overflow_cast-owner
 cast_owner c = search rules
 
-offer_all_requires : tie.Need-offer-all-requires
+offer_all_requires : tie.Need-offer_all-placed-requires
 offer_all_requires c κs =
     let k = begun c in
     let a = k.args in
-    let below : (x : ℕ) → x ∈ members (whole a.offered) → x < a.n = λ x e. (within_iff a.n (whole a.offered)).0 k.pre.5 x (columns_below a.offered x (search rules) e) e in (
+    let below : (x : ℕ) → x ∈ members (whole a.offered) → x < a.n = λ x e. (within_iff a.n (whole a.offered)).0 k.requires.5 x (columns_below a.offered x (search rules) e) e in (
       record {
-        lengths = record { tableau = k.pre.0.full; owners = refl; columns = k.pre.2; constant_rows = k.pre.3; constants_among = omega arith; all_rows = omega arith };
-        below = k.pre.0.below;
-        prime = k.pre.6;
+        lengths = record { tableau = k.requires.0.full; owners = refl; columns = k.requires.2; constant_rows = k.requires.3; constants_among = omega arith; all_rows = omega arith };
+        below = k.requires.0.below;
+        prime = k.requires.6;
       },
-      k.pre.1,
+      k.requires.1,
       offers_some a.p a.n a.a a.b (row_numbers a.parameters.now) a.t.now (replicate lines a.n) (none_owned a.n (a.a + a.b) (omega arith)) (members (whole a.offered)) below,
     )
 
-difference_requires : tie.Need-difference-requires
+difference_requires : tie.Need-difference-missing-requires
 difference_requires c κs = search rules
 
-add_search : tie.Need-overflow-add-search
+add_search : tie.Need-overflow_add-a
 add_search c = search rules
 
-search_requires : tie.Need-search-requires
+search_requires : tie.Need-search-f-requires
 search_requires c κs = search rules
 
-size_requires : tie.Need-size-requires
+size_requires : tie.Need-size-rank-requires
 size_requires c κs = search rules
 
-constant_side_requires : tie.Need-constant-side-requires
+constant_side_requires : tie.Need-constant_side-side-requires
 constant_side_requires c κs = search rules
 
-row_columns_requires : tie.Need-row-columns-requires
+row_columns_requires : tie.Need-row_columns-rows-requires
 row_columns_requires c κs = search rules
 
 returns : tie.Need-returns
 returns c =
-    let rows = c.before.row-columns in
-    let side = (sided c).constant-side in
-    let count = (counted c).size in
-    let found = (searched c).search in
-    let missing = (missed c).difference in
-    let offers = (offered c).offer-all in
+    let rows = c.before.row_columns-rows in
+    let side = (sided c).constant_side-side in
+    let count = (counted c).size-rank in
+    let found = (searched c).search-f in
+    let missing = (missed c).difference-missing in
+    let offers = (offered c).offer_all-placed in
     let k = begun (offered c).before in
     let a = k.args in
     let ws = row_numbers a.parameters.now in

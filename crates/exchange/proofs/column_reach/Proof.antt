@@ -23,32 +23,32 @@ use Rattle.exchange.proofs.column_reach.Statement.{statement}
 use Rattle.exchange.proofs.column_reach.Tie as tie
 
 -- where the call begins, seen from behind its test; and where the model is taken, seen from behind the filling
-abbrev begun : tie.After-is-admissible → tie.Start
+abbrev begun : tie.After-is_admissible → tie.Start
 begun c = c.before.before.before
 
-abbrev accepted : tie.After-fill → tie.Else1
+abbrev accepted : tie.After-fill → tie.Else-not-is_admissible
 accepted c = c.before.before
 
 -- what holds where the model is taken
-taken : (c : tie.Else1) → let a = (begun c.before).args in admissible a.p a.n a.a a.b (whole a.offered) a.constants.now (row_numbers a.parameters.now) ≡ true
-taken c = sym c.before.is-admissible.ensures ∙ not-false _ c.if1.false
+taken : (c : tie.Else-not-is_admissible) → let a = (begun c.before).args in admissible a.p a.n a.a a.b (whole a.offered) a.constants.now (row_numbers a.parameters.now) ≡ true
+taken c = sym c.before.is_admissible.ensures ∙ not-false _ c.if-not-is_admissible.false-raw
 
-good : (c : tie.Else1) → let a = (begun c.before).args in Admissible a.p a.n a.a a.b (whole a.offered) a.constants.now (row_numbers a.parameters.now)
+good : (c : tie.Else-not-is_admissible) → let a = (begun c.before).args in Admissible a.p a.n a.a a.b (whole a.offered) a.constants.now (row_numbers a.parameters.now)
 good c = let a = (begun c.before).args in admissible_reads a.p a.n a.a a.b (whole a.offered) a.constants.now (row_numbers a.parameters.now) (taken c)
 
-is_admissible_requires : tie.Need-is-admissible-requires
+is_admissible_requires : tie.Need-is_admissible-requires
 is_admissible_requires c κs = search rules
 
-no_reach_requires : tie.Need-no-reach-requires
+no_reach_requires : tie.Need-no_reach-requires
 no_reach_requires c κs = search rules
 
-returns : tie.Need-returns
+returns : tie.Need-returns-then-not-is_admissible
 returns c =
     let a = (begun c.before.before).args in
-    let refused : admissible a.p a.n a.a a.b (whole a.offered) a.constants.now (row_numbers a.parameters.now) ≡ false = sym c.before.before.is-admissible.ensures ∙ not-true _ c.before.if1.true in
+    let refused : admissible a.p a.n a.a a.b (whole a.offered) a.constants.now (row_numbers a.parameters.now) ≡ false = sym c.before.before.is_admissible.ensures ∙ not-true _ c.before.if-not-is_admissible.true-raw in
     record {
-      is_valid = c.no-reach.ensures.0 ∙ sym refused;
-      if_not = λ z. c.no-reach.ensures.1;
+      is_valid = c.no_reach.ensures.0 ∙ sym refused;
+      if_not = λ z. c.no_reach.ensures.1;
       if_valid = λ z. absurd (true≢false (sym z ∙ refused));
     }
 
@@ -81,39 +81,36 @@ fill_requires c κs =
     let f = (good c.before).fits in
     (refl, f.columns, f.constant_rows, f.constants_lent)
 
-listed_inverses_requires : tie.Need-listed-inverses-requires
+listed_inverses_requires : tie.Need-listed_inverses-inverses-requires
 listed_inverses_requires c κs = search rules
 
-slice_aggregate_reach_rows : tie.Need-slice-aggregate-reach-rows
+slice_aggregate_reach_rows : tie.Need-slice_bounds-reach_rows-end
 slice_aggregate_reach_rows c = search rules
 
-cast_reach_rows : tie.Need-overflow-cast-reach-rows
+cast_reach_rows : tie.Need-overflow_cast-p
 cast_reach_rows c = search rules
 
-reach_rows_requires : tie.Need-reach-rows-requires
+reach_rows_requires : tie.Need-reach_rows-requires
 reach_rows_requires c κs =
     let table = c.before.before in
     let k = table.before.before in
     let g = good (accepted k) in
-    (filled k, rw table.before.if2.true table.listed-inverses.ensures.1, g.fits.columns, g.fits.constant_rows, g.fits.parameter_rows, g.inside, g.prime)
+    (filled k, rw table.before.if-p-eq-LISTED_PRIME.true table.listed_inverses-inverses.ensures.1, g.fits.columns, g.fits.constant_rows, g.fits.parameter_rows, g.inside, g.prime)
 
-returns_2 : tie.Need-returns-2
-returns_2 c = shown c.before.before.before.before.before c.reach-rows.result c.reach-rows.ensures
+returns_2 : tie.Need-returns-then-p-eq-LISTED_PRIME
+returns_2 c = shown c.before.before.before.before.before c.reach_rows.result c.reach_rows.ensures
 
-slice_aggregate_reach_rows_2 : tie.Need-slice-aggregate-reach-rows-2
-slice_aggregate_reach_rows_2 c = search rules
-
-cast_reach_rows_2 : tie.Need-overflow-cast-reach-rows-2
+cast_reach_rows_2 : tie.Need-overflow_cast-p-2
 cast_reach_rows_2 c = omega (arith, (good (accepted c.before.before.before)).short_prime)
 
-reach_rows_requires_2 : tie.Need-reach-rows-requires-2
+reach_rows_requires_2 : tie.Need-reach_rows-requires-2
 reach_rows_requires_2 c κs =
     let k = c.before.before.before in
     let g = good (accepted k) in
     (filled k, record { entry = λ i l. absurd (omega arith) }, g.fits.columns, g.fits.constant_rows, g.fits.parameter_rows, g.inside, g.prime)
 
-returns_3 : tie.Need-returns-3
-returns_3 c = shown c.before.before.before.before c.reach-rows2.result c.reach-rows2.ensures
+returns_3 : tie.Need-returns
+returns_3 c = shown c.before.before.before.before c.reach_rows-2.result c.reach_rows-2.ensures
 
 pub column_reach_spec : {M : Type 1} → statement M
 column_reach_spec =
@@ -128,7 +125,6 @@ column_reach_spec =
     cast_reach_rows
     reach_rows_requires
     returns_2
-    slice_aggregate_reach_rows_2
     cast_reach_rows_2
     reach_rows_requires_2
     returns_3)

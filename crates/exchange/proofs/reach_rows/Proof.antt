@@ -17,66 +17,66 @@ use Rattle.exchange.proofs.reach_rows.Statement.{statement}
 use Rattle.exchange.proofs.reach_rows.Tie as tie
 
 -- where each call has answered, from the last back to the first; and where the function begins
-abbrev joined : tie.After-close → tie.After-join2
+abbrev joined : tie.After-close → tie.After-join-2
 joined c = c.before.before.before
 
-abbrev linked : tie.After-close → tie.After-link
+abbrev linked : tie.After-close → tie.After-link-ends
 linked c = (joined c).before.before.before
 
 abbrev started : tie.After-close → tie.After-join
 started c = (linked c).before.before.before.before.before
 
-abbrev missed : tie.After-close → tie.After-difference
+abbrev missed : tie.After-close → tie.After-difference-missing
 missed c = (started c).before.before
 
-abbrev offered : tie.After-close → tie.After-offer-all
+abbrev offered : tie.After-close → tie.After-offer_all-placed
 offered c = (missed c).before
 
-abbrev begun : tie.After-owner → tie.Start
+abbrev begun : tie.After-owner-1 → tie.Start
 begun c = c.before.before.before.before
 
-cast_owner : tie.Need-overflow-cast-owner
+cast_owner : tie.Need-overflow_cast-owner
 cast_owner c = search rules
 
-offer_all_requires : tie.Need-offer-all-requires
+offer_all_requires : tie.Need-offer_all-placed-requires
 offer_all_requires c κs =
     let k = begun c in
     let a = k.args in
-    let below : (x : ℕ) → x ∈ members (whole a.offered) → x < a.n = λ x e. (within_iff a.n (whole a.offered)).0 k.pre.5 x (columns_below a.offered x (search rules) e) e in (
+    let below : (x : ℕ) → x ∈ members (whole a.offered) → x < a.n = λ x e. (within_iff a.n (whole a.offered)).0 k.requires.5 x (columns_below a.offered x (search rules) e) e in (
       record {
-        lengths = record { tableau = k.pre.0.full; owners = refl; columns = k.pre.2; constant_rows = k.pre.3; constants_among = omega arith; all_rows = omega arith };
-        below = k.pre.0.below;
-        prime = k.pre.6;
+        lengths = record { tableau = k.requires.0.full; owners = refl; columns = k.requires.2; constant_rows = k.requires.3; constants_among = omega arith; all_rows = omega arith };
+        below = k.requires.0.below;
+        prime = k.requires.6;
       },
-      k.pre.1,
+      k.requires.1,
       offers_some a.p a.n a.a a.b (row_numbers a.parameters.now) a.t.now (replicate lines a.n) (none_owned a.n (a.a + a.b) (omega arith)) (members (whole a.offered)) below,
     )
 
-difference_requires : tie.Need-difference-requires
+difference_requires : tie.Need-difference-missing-requires
 difference_requires c κs = search rules
 
-slice_aggregate_join : tie.Need-slice-aggregate-join
+slice_aggregate_join : tie.Need-slice_bounds-join-end
 slice_aggregate_join c = search rules
 
 join_requires : tie.Need-join-requires
 join_requires c κs = search rules
 
-add_link : tie.Need-overflow-add-link
+add_link : tie.Need-overflow_add-a
 add_link c = search rules
 
-slice_aggregate_link : tie.Need-slice-aggregate-link
+slice_aggregate_link : tie.Need-slice_bounds-link-end
 slice_aggregate_link c = search rules
 
-link_requires : tie.Need-link-requires
+link_requires : tie.Need-link-ends-requires
 link_requires c κs = search rules
 
-slice_aggregate_join_2 : tie.Need-slice-aggregate-join-2
+slice_aggregate_join_2 : tie.Need-slice_bounds-join-end-2
 slice_aggregate_join_2 c = search rules
 
 join_requires_2 : tie.Need-join-requires-2
 join_requires_2 c κs = search rules
 
-slice_aggregate_close : tie.Need-slice-aggregate-close
+slice_aggregate_close : tie.Need-slice_bounds-close-end
 slice_aggregate_close c = search rules
 
 close_requires : tie.Need-close-requires
@@ -85,7 +85,7 @@ close_requires c κs = search rules
 returns : tie.Need-returns
 returns c =
     let close = c.before in
-    let offers = (offered close).offer-all in
+    let offers = (offered close).offer_all-placed in
     let k = begun (offered close).before in
     let a = k.args in
     let ws = row_numbers a.parameters.now in
@@ -96,10 +96,10 @@ returns c =
       refl,
       λ G sh m.
           let d = offers.ensures.1 G (offers_start a.p a.n a.a a.b ws a.t.now (replicate lines a.n) free all G sh m) in
-          reach_shown a.p a.n a.a a.b ws G t o (members (whole offers.result)) d all m k.pre.2
-          (held_shows a.p a.n a.a a.b ws G t o offers.ensures.0 d.held) (members (whole (linked close).link.result))
-          (started close).join.new.0 (linked close).link.new.1.1.1.1.1.1.1.0 (joined close).join2.new.0 close.close.new.0
-          (rw (missed close).difference.ensures at (started close).join.ensures) (linked close).link.ensures (joined close).join2.ensures close.close.ensures,
+          reach_shown a.p a.n a.a a.b ws G t o (members (whole offers.result)) d all m k.requires.2
+          (held_shows a.p a.n a.a a.b ws G t o offers.ensures.0 d.held) (members (whole (linked close).link-ends.result))
+          (started close).join.new.0 (linked close).link-ends.new.1.1.1.1.1.1.1.0 (joined close).join-2.new.0 close.close.new.0
+          (rw (missed close).difference-missing.ensures at (started close).join.ensures) (linked close).link-ends.ensures (joined close).join-2.ensures close.close.ensures,
     )
 
 pub reach_rows_spec : {M : Type 1} → statement M

@@ -17,22 +17,22 @@ use Rattle.exchange.proofs.reduce.Statement.{statement}
 use Rattle.exchange.proofs.reduce.Tie as tie
 
 -- where the call begins, seen from behind its test
-abbrev begun : tie.After-is-reducible → tie.Start
+abbrev begun : tie.After-is_reducible → tie.Start
 begun c = c.before.before.before.before.before
 
 -- the test
 abbrev taken : tie.Start → Bool
-taken k = let a = k.args in reducible a.p a.n a.a a.weights.now a.levels.now a.constants.now
+taken k = let a = k.args in reducible a.p a.n a.a a.weights.now a.levels.now a.constants-1.now
 
-passed : (c : tie.Else1) → taken (begun c.before) ≡ true
-passed c = sym c.before.is-reducible.ensures ∙ not-false _ c.if1.false
+passed : (c : tie.Else-not-is_reducible) → taken (begun c.before) ≡ true
+passed c = sym c.before.is_reducible.ensures ∙ not-false _ c.if-not-is_reducible.false-raw
 
 -- what holds where it is passed
-good : (c : tie.Else1) → let a = (begun c.before).args in Reducible a.p a.n a.a a.weights.now a.levels.now a.constants.now
+good : (c : tie.Else-not-is_reducible) → let a = (begun c.before).args in Reducible a.p a.n a.a a.weights.now a.levels.now a.constants-1.now
 good c = reducible_reads _ _ _ _ _ _ (passed c)
 
 -- where it is passed, seen from behind the filling, and where the call begins
-abbrev accepted : tie.After-fill → tie.Else1
+abbrev accepted : tie.After-fill → tie.Else-not-is_reducible
 accepted c = c.before.before.before
 
 abbrev start : tie.After-fill → tie.Start
@@ -42,22 +42,22 @@ start c = begun (accepted c).before
 filled : (c : tie.After-fill) → TableauArray (start c).args.p c.fill.new.0
 filled c =
     let a = (start c).args in
-    filled_tableau a.p a.n a.a 0 0 a.constants.now [] c.fill.new.0 (good (accepted c)).admitted c.fill.ensures.0 c.fill.ensures.1
+    filled_tableau a.p a.n a.a 0 0 a.constants-1.now [] c.fill.new.0 (good (accepted c)).admitted c.fill.ensures.0 c.fill.ensures.1
 
 -- the tableau when its rows are reduced, by either table of inverses
-worked : (c : tie.Joined2) → let a = (start c.before).args in
-    TableauArray a.p c.if2.t × Reduced a.p a.n a.a a.weights.now a.levels.now a.a c.before.fill.new.0 c.if2.t
-worked c = ⊎_elim (λ w. rw w.5 w.4.ensures) (λ w. rw w.4 w.3.ensures) c.if2.branch
+worked : (c : tie.Joined-p-eq-LISTED_PRIME) → let a = (start c.before).args in
+    TableauArray a.p c.if-p-eq-LISTED_PRIME.t-1 × Reduced a.p a.n a.a a.weights.now a.levels.now a.a c.before.fill.new.0 c.if-p-eq-LISTED_PRIME.t-1
+worked c = ⊎_elim (λ w. rw w.5 w.4.ensures) (λ w. rw w.4 w.3.ensures) c.if-p-eq-LISTED_PRIME.branch
 
-is_reducible_requires : tie.Need-is-reducible-requires
+is_reducible_requires : tie.Need-is_reducible-requires
 is_reducible_requires c κs = search rules
 
-same_length : tie.Need-same-length
+same_length : tie.Need-shape_of-constants-then-not-is_reducible
 same_length c = search rules
 
-returns : tie.Need-returns
+returns : tie.Need-returns-then-not-is_reducible
 returns c =
-    let e : taken (begun c.before) ≡ false = sym c.before.is-reducible.ensures ∙ not-true _ c.if1.true in
+    let e : taken (begun c.before) ≡ false = sym c.before.is_reducible.ensures ∙ not-true _ c.if-not-is_reducible.true-raw in
     record { is_valid = sym e; if_not = λ z. refl; if_valid = λ z. absurd (true≢false (sym z ∙ e)) }
 
 fill_requires : tie.Need-fill-requires
@@ -65,46 +65,43 @@ fill_requires c κs =
     let f = (good c.before.before).admitted.fits in
     (refl, f.columns, f.constant_rows, f.constants_lent)
 
-listed_inverses_requires : tie.Need-listed-inverses-requires
+listed_inverses_requires : tie.Need-listed_inverses-inverses-requires
 listed_inverses_requires c κs = search rules
 
-slice_aggregate_reduce_rows : tie.Need-slice-aggregate-reduce-rows
+slice_aggregate_reduce_rows : tie.Need-slice_bounds-reduce_rows-end
 slice_aggregate_reduce_rows c = search rules
 
-cast_reduce_rows : tie.Need-overflow-cast-reduce-rows
+cast_reduce_rows : tie.Need-overflow_cast-p
 cast_reduce_rows c = search rules
 
-reduce_rows_requires : tie.Need-reduce-rows-requires
+reduce_rows_requires : tie.Need-reduce_rows-requires
 reduce_rows_requires c κs =
     let table = c.before.before in
     let f = table.before.before in
     let g = good (accepted f) in
     let m = g.admitted in
-    (filled f, rw table.before.if2.true table.listed-inverses.ensures.1, m.fits.columns, m.fits.constant_rows, g.weighed, g.levelled, m.prime)
+    (filled f, rw table.before.if-p-eq-LISTED_PRIME.true table.listed_inverses-inverses.ensures.1, m.fits.columns, m.fits.constant_rows, g.weighed, g.levelled, m.prime)
 
-slice_aggregate_reduce_rows_2 : tie.Need-slice-aggregate-reduce-rows-2
-slice_aggregate_reduce_rows_2 c = search rules
-
-cast_reduce_rows_2 : tie.Need-overflow-cast-reduce-rows-2
+cast_reduce_rows_2 : tie.Need-overflow_cast-p-else-p-eq-LISTED_PRIME
 cast_reduce_rows_2 c = omega (arith, (good (accepted c.before.before.before)).admitted.short_prime)
 
-reduce_rows_requires_2 : tie.Need-reduce-rows-requires-2
+reduce_rows_requires_2 : tie.Need-reduce_rows-requires-else-p-eq-LISTED_PRIME
 reduce_rows_requires_2 c κs =
     let f = c.before.before.before in
     let g = good (accepted f) in
     let m = g.admitted in
     (filled f, record { entry = λ i l. absurd (omega arith) }, m.fits.columns, m.fits.constant_rows, g.weighed, g.levelled, m.prime)
 
-copy_back_requires : tie.Need-copy-back-requires
+copy_back_requires : tie.Need-copy_back-requires
 copy_back_requires c κs =
     let j = c.before.before in
     let f = (good (accepted j.before)).admitted.fits in
     ((worked j).0.full, f.columns, f.constant_rows, f.constants_lent)
 
-same_length_2 : tie.Need-same-length-2
+same_length_2 : tie.Need-shape_of-constants
 same_length_2 c = search rules
 
-returns_2 : tie.Need-returns-2
+returns_2 : tie.Need-returns
 returns_2 c =
     let copied = c.before.before in
     let j = copied.before.before.before in
@@ -115,9 +112,9 @@ returns_2 c =
     record {
       is_valid = sym e;
       if_not = λ z. absurd (true≢false (sym e ∙ z));
-      if_valid = λ z. rows_shown a.p a.n a.a (good (accepted filling)).admitted.prime _ j.if2.t a.constants.now _ w.0.below
-          (w.1 (constant_at (modulus a.p).0 (modulus a.p).1 a.n a.constants.now)
-          (λ i x li lx. ap (residue_of a.p) (filling.fill.ensures.1.done i x li lx))) copied.copy-back.ensures;
+      if_valid = λ z. rows_shown a.p a.n a.a (good (accepted filling)).admitted.prime _ j.if-p-eq-LISTED_PRIME.t-1 a.constants-1.now _ w.0.below
+          (w.1 (constant_at (modulus a.p).0 (modulus a.p).1 a.n a.constants-1.now)
+          (λ i x li lx. ap (residue_of a.p) (filling.fill.ensures.1.done i x li lx))) copied.copy_back.ensures;
     }
 
 pub reduce_spec : {M : Type 1} → statement M
@@ -132,7 +129,6 @@ reduce_spec =
     slice_aggregate_reduce_rows
     cast_reduce_rows
     reduce_rows_requires
-    slice_aggregate_reduce_rows_2
     cast_reduce_rows_2
     reduce_rows_requires_2
     copy_back_requires

@@ -22,29 +22,29 @@ use Rattle.exchange.proofs.solve.Statement.{statement}
 use Rattle.exchange.proofs.solve.Tie as tie
 
 -- where the call begins, seen from behind its test; and where the model is taken, seen from behind the filling
-abbrev begun : tie.After-is-admissible → tie.Start
+abbrev begun : tie.After-is_admissible → tie.Start
 begun c = c.before.before.before
 
-abbrev accepted : tie.After-fill → tie.Else1
+abbrev accepted : tie.After-fill → tie.Else-not-is_admissible
 accepted c = c.before.before
 
 -- what holds where the model is taken
-taken : (c : tie.Else1) → let a = (begun c.before).args in admissible a.p a.n a.a a.b (whole a.offered) a.constants.now (row_numbers a.parameters.now) ≡ true
-taken c = sym c.before.is-admissible.ensures ∙ not-false _ c.if1.false
+taken : (c : tie.Else-not-is_admissible) → let a = (begun c.before).args in admissible a.p a.n a.a a.b (whole a.offered) a.constants.now (row_numbers a.parameters.now) ≡ true
+taken c = sym c.before.is_admissible.ensures ∙ not-false _ c.if-not-is_admissible.false-raw
 
-good : (c : tie.Else1) → let a = (begun c.before).args in Admissible a.p a.n a.a a.b (whole a.offered) a.constants.now (row_numbers a.parameters.now)
+good : (c : tie.Else-not-is_admissible) → let a = (begun c.before).args in Admissible a.p a.n a.a a.b (whole a.offered) a.constants.now (row_numbers a.parameters.now)
 good c = let a = (begun c.before).args in admissible_reads a.p a.n a.a a.b (whole a.offered) a.constants.now (row_numbers a.parameters.now) (taken c)
 
-is_admissible_requires : tie.Need-is-admissible-requires
+is_admissible_requires : tie.Need-is_admissible-requires
 is_admissible_requires c κs = search rules
 
 nothing_requires : tie.Need-nothing-requires
 nothing_requires c κs = search rules
 
-returns : tie.Need-returns
+returns : tie.Need-returns-then-not-is_admissible
 returns c =
     let a = (begun c.before.before).args in
-    let refused : admissible a.p a.n a.a a.b (whole a.offered) a.constants.now (row_numbers a.parameters.now) ≡ false = sym c.before.before.is-admissible.ensures ∙ not-true _ c.before.if1.true in
+    let refused : admissible a.p a.n a.a a.b (whole a.offered) a.constants.now (row_numbers a.parameters.now) ≡ false = sym c.before.before.is_admissible.ensures ∙ not-true _ c.before.if-not-is_admissible.true-raw in
     record {
       is_valid = c.nothing.ensures.0 ∙ sym refused;
       if_not = λ z. c.nothing.ensures.1;
@@ -80,13 +80,13 @@ fill_requires c κs =
     let f = (good c.before).fits in
     (refl, f.columns, f.constant_rows, f.constants_lent)
 
-listed_inverses_requires : tie.Need-listed-inverses-requires
+listed_inverses_requires : tie.Need-listed_inverses-inverses-requires
 listed_inverses_requires c κs = search rules
 
-slice_aggregate_answer : tie.Need-slice-aggregate-answer
+slice_aggregate_answer : tie.Need-slice_bounds-answer-end
 slice_aggregate_answer c = search rules
 
-cast_answer : tie.Need-overflow-cast-answer
+cast_answer : tie.Need-overflow_cast-p
 cast_answer c = search rules
 
 answer_requires : tie.Need-answer-requires
@@ -94,15 +94,12 @@ answer_requires c κs =
     let table = c.before.before in
     let k = table.before.before in
     let g = good (accepted k) in
-    (filled k, rw table.before.if2.true table.listed-inverses.ensures.1, g.fits.columns, g.fits.constant_rows, g.fits.parameter_rows, g.inside, g.prime)
+    (filled k, rw table.before.if-p-eq-LISTED_PRIME.true table.listed_inverses-inverses.ensures.1, g.fits.columns, g.fits.constant_rows, g.fits.parameter_rows, g.inside, g.prime)
 
-returns_2 : tie.Need-returns-2
+returns_2 : tie.Need-returns-then-p-eq-LISTED_PRIME
 returns_2 c = solved c.before.before.before.before.before c.answer.result c.answer.ensures
 
-slice_aggregate_answer_2 : tie.Need-slice-aggregate-answer-2
-slice_aggregate_answer_2 c = search rules
-
-cast_answer_2 : tie.Need-overflow-cast-answer-2
+cast_answer_2 : tie.Need-overflow_cast-p-2
 cast_answer_2 c = omega (arith, (good (accepted c.before.before.before)).short_prime)
 
 answer_requires_2 : tie.Need-answer-requires-2
@@ -111,8 +108,8 @@ answer_requires_2 c κs =
     let g = good (accepted k) in
     (filled k, record { entry = λ i l. absurd (omega arith) }, g.fits.columns, g.fits.constant_rows, g.fits.parameter_rows, g.inside, g.prime)
 
-returns_3 : tie.Need-returns-3
-returns_3 c = solved c.before.before.before.before c.answer2.result c.answer2.ensures
+returns_3 : tie.Need-returns
+returns_3 c = solved c.before.before.before.before c.answer-2.result c.answer-2.ensures
 
 pub solve_spec : {M : Type 1} → statement M
 solve_spec =
@@ -127,7 +124,6 @@ solve_spec =
     cast_answer
     answer_requires
     returns_2
-    slice_aggregate_answer_2
     cast_answer_2
     answer_requires_2
     returns_3)

@@ -22,7 +22,7 @@ use Rattle.harness.proofs.harness_accepts.Statement.{statement}
 use Rattle.harness.proofs.harness_accepts.Tie as tie
 
 -- where the call begins, seen from where the model is answered
-abbrev begun : tie.After-model-acceptance → tie.Start
+abbrev begun : tie.After-model_acceptance-r → tie.Start
 begun c = c.before.before.before.before.before.before.before
 
 -- the tests of the model, and what is written
@@ -33,42 +33,42 @@ abbrev Written : tie.Start → List ℕ → List ℕ → Type 0
 Written k = let a = k.args in WrittenOver (AcceptanceOf (listed_model a.p a.n a.a a.b a.constants.now (row_numbers a.parameters.now)) a.claim.now) acceptance_bytes
 
 -- the claim's area is too short, whatever the answer's
-short : (k : tie.Start) → first_refusal (tests k) ≡ 0 → area_test claim_length (length k.args.claim.now) ≡ false → AreaCall (tests k) (claim_question k.args.claim.now) acceptance_length (Written k) k.args.answer.now 8 k.args.answer.now
+short : (k : tie.Start) → first_refusal (tests k) ≡ 0 → area_test claim_length (length k.args.claim.now) ≡ false → AreaCall (tests k) (claim_question k.args.claim.now) acceptance_length (Written k) k.args.answer-1.now 8 k.args.answer-1.now
 unfolding first_refusal
 short k ok e =
     let eight : 8 ≡ first_refusal (tests k then unless false area_short) = then_passed (tests k) (unless false area_short) 8 ok refl in
-    elim (dec_lt (length k.args.answer.now) acceptance_length) [
-      | yes l ↦ refused_short (tests k) (claim_question k.args.claim.now) acceptance_length (Written k) k.args.answer.now l 8 eight
-      | no nl ↦ refused_beside (tests k) [] (area_test claim_length (length k.args.claim.now)) acceptance_length (Written k) k.args.answer.now (omega arith) e 8 eight
+    elim (dec_lt (length k.args.answer-1.now) acceptance_length) [
+      | yes l ↦ refused_short (tests k) (claim_question k.args.claim.now) acceptance_length (Written k) k.args.answer-1.now l 8 eight
+      | no nl ↦ refused_beside (tests k) [] (area_test claim_length (length k.args.claim.now)) acceptance_length (Written k) k.args.answer-1.now (omega arith) e 8 eight
     ]
 
-read_claim_requires : tie.Need-read-claim-requires
+read_claim_requires : tie.Need-read_claim-c-requires
 read_claim_requires c κs = search rules
 
-model_acceptance_requires : tie.Need-model-acceptance-requires
+model_acceptance_requires : tie.Need-model_acceptance-r-requires
 model_acceptance_requires c κs = search rules
 
-returns : tie.Need-returns
+returns : tie.Need-returns-then-r-ne0
 unfolding refusal
 returns c =
     let f = c.before.before in
     let k = begun f in
-    refused_before (tests k) (claim_question k.args.claim.now) acceptance_length (Written k) k.args.answer.now _ f.model-acceptance.ensures.is_refusal c.if1.true
+    refused_before (tests k) (claim_question k.args.claim.now) acceptance_length (Written k) k.args.answer-1.now _ f.model_acceptance-r.ensures.is_refusal c.if-r-ne0.true
 
-returns_2 : tie.Need-returns-2
+returns_2 : tie.Need-returns-then-claim-lt-CLAIM_LENGTH
 unfolding area_test refusal
 returns_2 c =
     let at-else = c.before in
     let f = at-else.before.before in
-    short (begun f) (sym f.model-acceptance.ensures.is_refusal ∙ at-else.if1.false) (lt-leb _ _ c.if2.true)
+    short (begun f) (sym f.model_acceptance-r.ensures.is_refusal ∙ at-else.if-r-ne0.false) (lt-leb _ _ c.if-claim-lt-CLAIM_LENGTH.true)
 
-put_acceptance_requires : tie.Need-put-acceptance-requires
+put_acceptance_requires : tie.Need-put_acceptance-requires
 put_acceptance_requires c κs = search rules
 
-same_length : tie.Need-same-length
+same_length : tie.Need-shape_of-answer
 same_length c = search rules
 
-returns_3 : tie.Need-returns-3
+returns_3 : tie.Need-returns
 unfolding refusal
 returns_3 c =
     let d = c.before.before in
@@ -76,11 +76,11 @@ returns_3 c =
     let at-else = enough.before in
     let f = at-else.before.before in
     let k = begun f in
-    let h = f.model-acceptance.ensures in
-    let r = f.model-acceptance.result in
-    let ok = sym h.is_refusal ∙ at-else.if1.false in
-    answer_put acceptance_bytes (tests k) (claim_question k.args.claim.now) r (answered_of_bytes r (f.before.read-claim.ensures.if_long enough.if2.false) (h.if_accepted ok)) ok
-    (zero_unless _ area_short ((area_reads _ _).1 enough.if2.false)) d.put-acceptance.ensures
+    let h = f.model_acceptance-r.ensures in
+    let r = f.model_acceptance-r.result in
+    let ok = sym h.is_refusal ∙ at-else.if-r-ne0.false in
+    answer_put acceptance_bytes (tests k) (claim_question k.args.claim.now) r (answered_of_bytes r (f.before.read_claim-c.ensures.if_long enough.if-claim-lt-CLAIM_LENGTH.false) (h.if_accepted ok)) ok
+    (zero_unless _ area_short ((area_reads _ _).1 enough.if-claim-lt-CLAIM_LENGTH.false)) d.put_acceptance.ensures
 
 pub harness_accepts_spec : {M : Type 1} → statement M
 harness_accepts_spec =

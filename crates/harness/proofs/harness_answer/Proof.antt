@@ -17,7 +17,7 @@ use Rattle.harness.proofs.harness_answer.Statement.{statement}
 use Rattle.harness.proofs.harness_answer.Tie as tie
 
 -- where the call begins, seen from behind the reading of the columns present
-abbrev begun : tie.After-of-bytes → tie.Start
+abbrev begun : tie.After-of_bytes-set → tie.Start
 begun c = c.before.before.before.before.before
 
 -- what is held
@@ -28,34 +28,34 @@ abbrev holds : tie.Start → Open
 holds k = holding k (number (take room_bytes k.args.present.now))
 
 -- the call is one on these columns
-asked : (c : tie.After-open-answer) → let k = begun c.before in let r = c.open-answer.result in
+asked : (c : tie.After-open_answer-r) → let k = begun c.before in let r = c.open_answer-r.result in
     RankCall (answer_refusal (holds k)) r.refusal (Refused r) (Answered (open_model (holds k)) r)
 asked c =
     let k = begun c.before in
-    let r = c.open-answer.result in
+    let r = c.open_answer-r.result in
     subst (λ (w : ℕ). RankCall (answer_refusal (holding k w)) r.refusal (Refused r) (Answered (open_model (holding k w)) r))
-    c.before.of-bytes.ensures.is_number c.open-answer.ensures
+    c.before.of_bytes-set.ensures.is_number c.open_answer-r.ensures
 
-of_bytes_requires : tie.Need-of-bytes-requires
+of_bytes_requires : tie.Need-of_bytes-set-requires
 of_bytes_requires c κs = search rules
 
-open_answer_requires : tie.Need-open-answer-requires
+open_answer_requires : tie.Need-open_answer-r-requires
 open_answer_requires c κs = search rules
 
-returns : tie.Need-returns
+returns : tie.Need-returns-then-r-ne0
 unfolding answer_refusal
 returns c =
     let f = c.before.before in
     let k = begun f.before in
-    refused_before (answer_tests (holds k)) [] answer_length (AnswerWritten (open_model (holds k))) k.args.answer.now _ (asked f).is_refusal c.if1.true
+    refused_before (answer_tests (holds k)) [] answer_length (AnswerWritten (open_model (holds k))) k.args.answer-1.now _ (asked f).is_refusal c.if-r-ne0.true
 
-put_answer_requires : tie.Need-put-answer-requires
+put_answer_requires : tie.Need-put_answer-requires
 put_answer_requires c κs = search rules
 
-same_length : tie.Need-same-length
+same_length : tie.Need-shape_of-answer
 same_length c = search rules
 
-returns_2 : tie.Need-returns-2
+returns_2 : tie.Need-returns
 unfolding answer_refusal first_refusal
 returns_2 c =
     let put = c.before.before in
@@ -63,8 +63,8 @@ returns_2 c =
     let f = passed.before.before in
     let k = begun f.before in
     let h = asked f in
-    let ok = sym h.is_refusal ∙ passed.if1.false in
-    answer_put answer_bytes (answer_tests (holds k)) [] _ (h.if_accepted ok) ok refl put.put-answer.ensures
+    let ok = sym h.is_refusal ∙ passed.if-r-ne0.false in
+    answer_put answer_bytes (answer_tests (holds k)) [] _ (h.if_accepted ok) ok refl put.put_answer.ensures
 
 pub harness_answer_spec : {M : Type 1} → statement M
 harness_answer_spec =

@@ -15,7 +15,7 @@ use Rattle.harness.proofs.harness_degree.Statement.{statement}
 use Rattle.harness.proofs.harness_degree.Tie as tie
 
 -- where the call begins, seen from behind the answer; and the tests of the call
-abbrev begun : tie.After-model-degree → tie.Start
+abbrev begun : tie.After-model_degree-r → tie.Start
 begun c = c.before.before.before.before.before.before.before.before
 
 abbrev tests : tie.Start → Tests
@@ -23,31 +23,31 @@ tests k =
     let a = k.args in
     dynamic_tests a.p a.n a.a a.b a.constants.now (row_numbers a.parameters.now) (lent a.numbered a.numbers.now) a.rowpowers.now a.columnpowers.now a.parameterpowers.now
 
-model_degree_requires : tie.Need-model-degree-requires
+model_degree_requires : tie.Need-model_degree-r-requires
 model_degree_requires c κs = search rules
 
-returns : tie.Need-returns
+returns : tie.Need-returns-then-r-ne0
 returns c =
     let f = c.before.before in
     let k = begun f in
     let a = k.args in
-    refused_before (tests k) [] degree_length (WrittenOver (DegreeAnswered (listed_model a.p a.n a.a a.b a.constants.now (row_numbers a.parameters.now)) (listed_powers a.n a.rowpowers.now a.columnpowers.now a.parameterpowers.now)) degree_bytes) a.answer.now _ f.model-degree.ensures.is_refusal c.if1.true
+    refused_before (tests k) [] degree_length (WrittenOver (DegreeAnswered (listed_model a.p a.n a.a a.b a.constants.now (row_numbers a.parameters.now)) (listed_powers a.n a.rowpowers.now a.columnpowers.now a.parameterpowers.now)) degree_bytes) a.answer-1.now _ f.model_degree-r.ensures.is_refusal c.if-r-ne0.true
 
-put_degree_requires : tie.Need-put-degree-requires
+put_degree_requires : tie.Need-put_degree-requires
 put_degree_requires c κs = search rules
 
-same_length : tie.Need-same-length
+same_length : tie.Need-shape_of-answer
 same_length c = search rules
 
-returns_2 : tie.Need-returns-2
+returns_2 : tie.Need-returns
 unfolding first_refusal
 returns_2 c =
     let d = c.before.before in
     let e = d.before.before in
     let f = e.before.before in
-    let h = f.model-degree.ensures in
-    let ok = sym h.is_refusal ∙ e.if1.false in
-    answer_put degree_bytes (tests (begun f)) [] f.model-degree.result (h.if_accepted ok) ok refl d.put-degree.ensures
+    let h = f.model_degree-r.ensures in
+    let ok = sym h.is_refusal ∙ e.if-r-ne0.false in
+    answer_put degree_bytes (tests (begun f)) [] f.model_degree-r.result (h.if_accepted ok) ok refl d.put_degree.ensures
 
 pub harness_degree_spec : {M : Type 1} → statement M
 harness_degree_spec =

@@ -12,42 +12,42 @@ use Rattle.harness.proofs.harness_mixed.Statement.{statement}
 use Rattle.harness.proofs.harness_mixed.Tie as tie
 
 -- where the call begins, where the rank is known, where the answer is put, and where the model was accepted
-abbrev begun : tie.After-slice-known → tie.Start
+abbrev begun : tie.After-slice_known-1 → tie.Start
 begun c = c.before.before.before.before
 
-abbrev ranked : tie.After-struct-known → tie.After-mixed-rank
+abbrev ranked : tie.After-struct_known-1 → tie.After-mixed_rank-r
 ranked c = c.before
 
-abbrev put : tie.After-slice-known2 → tie.After-put-mixed
+abbrev put : tie.After-slice_known-2-1 → tie.After-put_mixed
 put c = c.before.before
 
-abbrev accepted : tie.After-slice-known2 → tie.Else1
+abbrev accepted : tie.After-slice_known-2-1 → tie.Else-r-ne0
 accepted c = (put c).before.before
 
-mixed_rank_requires : tie.Need-mixed-rank-requires
+mixed_rank_requires : tie.Need-mixed_rank-r-requires
 mixed_rank_requires c κs = search rules
 
-returns : tie.Need-returns
+returns : tie.Need-returns-then-r-ne0
 unfolding mixed_refusal
 returns c =
     let r = ranked c.before in
     let a = (begun r.before).args in
-    refused_before (mixed_tests a.p a.n a.a a.b a.constants.now (row_numbers a.parameters.now) (lent a.numbered a.numbers.now)) [] mixed_length (MixedWritten (mixed a.p a.a a.n a.constants.now (row_numbers a.parameters.now))) a.answer.now _ r.mixed-rank.ensures.is_refusal c.if1.true
+    refused_before (mixed_tests a.p a.n a.a a.b a.constants.now (row_numbers a.parameters.now) (lent a.numbered a.numbers.now)) [] mixed_length (MixedWritten (mixed a.p a.a a.n a.constants.now (row_numbers a.parameters.now))) a.answer-1.now _ r.mixed_rank-r.ensures.is_refusal c.if-r-ne0.true
 
-put_mixed_requires : tie.Need-put-mixed-requires
+put_mixed_requires : tie.Need-put_mixed-requires
 put_mixed_requires c κs = search rules
 
-same_length : tie.Need-same-length
+same_length : tie.Need-shape_of-answer
 same_length c = search rules
 
-returns_2 : tie.Need-returns-2
+returns_2 : tie.Need-returns
 unfolding mixed_refusal first_refusal
 returns_2 c =
     let r = ranked (accepted c).before in
     let a = (begun r.before).args in
-    let h = r.mixed-rank.ensures in
-    let ok = sym h.is_refusal ∙ (accepted c).if1.false in
-    answer_put mixed_bytes (mixed_tests a.p a.n a.a a.b a.constants.now (row_numbers a.parameters.now) (lent a.numbered a.numbers.now)) [] _ (h.if_accepted ok) ok refl (put c).put-mixed.ensures
+    let h = r.mixed_rank-r.ensures in
+    let ok = sym h.is_refusal ∙ (accepted c).if-r-ne0.false in
+    answer_put mixed_bytes (mixed_tests a.p a.n a.a a.b a.constants.now (row_numbers a.parameters.now) (lent a.numbered a.numbers.now)) [] _ (h.if_accepted ok) ok refl (put c).put_mixed.ensures
 
 pub harness_mixed_spec : {M : Type 1} → statement M
 harness_mixed_spec = tie.close (tie.spec mixed_rank_requires returns put_mixed_requires same_length returns_2)

@@ -18,7 +18,7 @@ use Rattle.harness.proofs.harness_multipliers.Statement.{statement}
 use Rattle.harness.proofs.harness_multipliers.Tie as tie
 
 -- where the call begins, seen from behind the reading of the held set
-abbrev begun : tie.After-of-bytes → tie.Start
+abbrev begun : tie.After-of_bytes-set → tie.Start
 begun c = c.before.before.before.before.before.before
 
 -- the number of the held set, and the tests of the call with such a number
@@ -29,34 +29,34 @@ abbrev tests : tie.Start → ℕ → Tests
 tests k w = let a = k.args in model_tests a.p a.n a.a a.b a.constants.now (row_numbers a.parameters.now) (lent a.numbered a.numbers.now) then column_question a.n w a.column
 
 -- the call is one on that set
-asked : (c : tie.After-model-multipliers) → let k = begun c.before in let r = c.model-multipliers.result in
+asked : (c : tie.After-model_multipliers-r) → let k = begun c.before in let r = c.model_multipliers-r.result in
     RankCall (first_refusal (tests k (held k))) r.refusal (MultipliersRefused r) (MultipliersAnswered k.args.p k.args.n k.args.a k.args.constants.now (members (held k)) k.args.column r)
 asked c =
     let k = begun c.before in
-    let r = c.model-multipliers.result in
+    let r = c.model_multipliers-r.result in
     subst (λ (w : ℕ). RankCall (first_refusal (tests k w)) r.refusal (MultipliersRefused r) (MultipliersAnswered k.args.p k.args.n k.args.a k.args.constants.now (members w) k.args.column r))
-    c.before.of-bytes.ensures.is_number c.model-multipliers.ensures
+    c.before.of_bytes-set.ensures.is_number c.model_multipliers-r.ensures
 
-of_bytes_requires : tie.Need-of-bytes-requires
+of_bytes_requires : tie.Need-of_bytes-set-requires
 of_bytes_requires c κs = search rules
 
-model_multipliers_requires : tie.Need-model-multipliers-requires
+model_multipliers_requires : tie.Need-model_multipliers-r-requires
 model_multipliers_requires c κs = search rules
 
-returns : tie.Need-returns
+returns : tie.Need-returns-then-r-ne0
 returns c =
     let f = c.before.before in
     let k = begun f.before in
     let a = k.args in
-    refused_before (tests k (held k)) [] multipliers_length (WrittenOver (MultipliersAnswered a.p a.n a.a a.constants.now (members (held k)) a.column) multipliers_bytes) a.answer.now _ (asked f).is_refusal c.if1.true
+    refused_before (tests k (held k)) [] multipliers_length (WrittenOver (MultipliersAnswered a.p a.n a.a a.constants.now (members (held k)) a.column) multipliers_bytes) a.answer-1.now _ (asked f).is_refusal c.if-r-ne0.true
 
-put_multipliers_requires : tie.Need-put-multipliers-requires
+put_multipliers_requires : tie.Need-put_multipliers-requires
 put_multipliers_requires c κs = search rules
 
-same_length : tie.Need-same-length
+same_length : tie.Need-shape_of-answer
 same_length c = search rules
 
-returns_2 : tie.Need-returns-2
+returns_2 : tie.Need-returns
 unfolding first_refusal
 returns_2 c =
     let d = c.before.before in
@@ -64,8 +64,8 @@ returns_2 c =
     let f = e.before.before in
     let k = begun f.before in
     let h = asked f in
-    let ok = sym h.is_refusal ∙ e.if1.false in
-    answer_put multipliers_bytes (tests k (held k)) [] f.model-multipliers.result (h.if_accepted ok) ok refl d.put-multipliers.ensures
+    let ok = sym h.is_refusal ∙ e.if-r-ne0.false in
+    answer_put multipliers_bytes (tests k (held k)) [] f.model_multipliers-r.result (h.if_accepted ok) ok refl d.put_multipliers.ensures
 
 pub harness_multipliers_spec : {M : Type 1} → statement M
 harness_multipliers_spec =

@@ -15,33 +15,33 @@ use borrow.Author.Rules.{rules}
 use Rattle.harness.proofs.harness_open.Statement.{statement}
 use Rattle.harness.proofs.harness_open.Tie as tie
 
-open_model_requires : tie.Need-open-model-requires
+open_model_requires : tie.Need-open_model-r-requires
 open_model_requires c κs = search rules
 
-returns : tie.Need-returns
+returns : tie.Need-returns-then-r-ne0
 unfolding refusal
 returns c =
     let r = c.before.before in
     let a = r.before.before.before.before.before.args in
     refused_before (model_tests a.p a.n a.a a.b a.constants.now (row_numbers a.parameters.now) (lent a.numbered a.numbers.now)) [] set_bytes
-    (WrittenOver (ShowsColumns (opened a.p a.n a.a a.b a.constants.now (row_numbers a.parameters.now)).present) (λ s. bytes_of set_bytes (whole s))) a.present.now _ r.open-model.ensures.is_refusal c.if1.true
+    (WrittenOver (ShowsColumns (opened a.p a.n a.a a.b a.constants.now (row_numbers a.parameters.now)).present-1) (λ s. bytes_of set_bytes (whole s))) a.present-1.now _ r.open_model-r.ensures.is_refusal c.if-r-ne0.true
 
-put_set_requires : tie.Need-put-set-requires
+put_set_requires : tie.Need-put_set-requires
 put_set_requires c κs = search rules
 
-same_length : tie.Need-same-length
+same_length : tie.Need-shape_of-present
 same_length c = search rules
 
-returns_2 : tie.Need-returns-2
+returns_2 : tie.Need-returns
 unfolding refusal first_refusal
 returns_2 c =
     let put = c.before.before in
     let passed = put.before.before in
     let r = passed.before.before in
     let a = r.before.before.before.before.before.args in
-    let h = r.open-model.ensures in
-    let ok = sym h.is_refusal ∙ passed.if1.false in
-    answer_put (λ s. bytes_of set_bytes (whole s)) (model_tests a.p a.n a.a a.b a.constants.now (row_numbers a.parameters.now) (lent a.numbered a.numbers.now)) [] _ (h.if_accepted ok) ok refl (set_put _ put.put-set.ensures)
+    let h = r.open_model-r.ensures in
+    let ok = sym h.is_refusal ∙ passed.if-r-ne0.false in
+    answer_put (λ s. bytes_of set_bytes (whole s)) (model_tests a.p a.n a.a a.b a.constants.now (row_numbers a.parameters.now) (lent a.numbered a.numbers.now)) [] _ (h.if_accepted ok) ok refl (set_put _ put.put_set.ensures)
 
 pub harness_open_spec : {M : Type 1} → statement M
 harness_open_spec =

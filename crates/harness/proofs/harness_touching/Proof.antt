@@ -8,16 +8,16 @@ use Rattle.touching.specs.RowCount.{touching_count}
 use Rattle.harness.proofs.harness_touching.Statement.{statement}
 use Rattle.harness.proofs.harness_touching.Tie as tie
 
-of_bytes_requires : tie.Need-of-bytes-requires
+of_bytes_requires : tie.Need-of_bytes-requires
 of_bytes_requires c κs = search rules
 
-touching_rows_requires : tie.Need-touching-rows-requires
+touching_rows_requires : tie.Need-touching_rows-requires
 touching_rows_requires c κs = search rules
 
 returns : tie.Need-returns
 returns c =
     let a = c.before.before.before.before.args in
-    c.touching-rows.ensures ∙ ap (λ (w : ℕ). touching_count a.n a.b (row_numbers a.parameters.now) (members w)) c.before.of-bytes.ensures.is_number
+    c.touching_rows.ensures ∙ ap (λ (w : ℕ). touching_count a.n a.b (row_numbers a.parameters.now) (members w)) c.before.of_bytes.ensures.is_number
 
 pub harness_touching_spec : {M : Type 1} → statement M
 harness_touching_spec = tie.close (tie.spec of_bytes_requires touching_rows_requires returns)

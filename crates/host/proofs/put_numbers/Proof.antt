@@ -6,13 +6,13 @@ use Rattle.format.specs.OverLaws.{wrote_none, wrote_set, wrote_all}
 use Rattle.host.proofs.put_numbers.Statement.{statement}
 use Rattle.host.proofs.put_numbers.Tie as tie
 
-slice_write_out : tie.Need-slice-write-out
+slice_write_out : tie.Need-bounds-out-0
 slice_write_out c = search rules
 
-slice_write_out_2 : tie.Need-slice-write-out-2
+slice_write_out_2 : tie.Need-bounds-out-1
 slice_write_out_2 c = search rules
 
-same_length : tie.Need-same-length
+same_length : tie.Need-shape_of-out
 same_length c = search rules
 
 returns : tie.Need-returns

@@ -12,13 +12,13 @@ use Rattle.layered.proofs.unnumbered_rank.Tie as tie
 below_requires : tie.Need-below-requires
 below_requires c κs = search rules
 
-offered_rank_requires : tie.Need-offered-rank-requires
+offered_rank_requires : tie.Need-offered_rank-requires
 offered_rank_requires c κs = search rules
 
 returns : tie.Need-returns
 returns c =
     let all = c.before.below.ensures in
-    let h = c.offered-rank.ensures in
+    let h = c.offered_rank.ensures in
     let e = all_offered _ _ _ _ _ _ _ (below_within _ _ all) in
     record {
       is_refusal = h.is_refusal ∙ e;

@@ -12,35 +12,35 @@ use Rattle.mixed.proofs.entry_of_form.Tie as tie
 small : (m n : ℕ) → m + n ≤ most_columns → m * n ≤ most_columns * most_columns
 small m n h = mul-le-mul {n₂ = most_columns} {m₂ = most_columns} (omega arith) (omega arith)
 
-add_width : tie.Need-overflow-add-width
+add_width : tie.Need-overflow_add-width
 add_width c = search rules
 
-div_i : tie.Need-nonzero-div-i
+div_i : tie.Need-nonzero_div-i
 div_i c = width_positive c.args.m c.args.n c.args.k c.requires.2
 
-rem_j : tie.Need-nonzero-rem-j
+rem_j : tie.Need-nonzero_rem-j
 rem_j c = width_positive c.args.m c.args.n c.args.k c.requires.2
 
-returns : tie.Need-returns
-returns c = let a = c.before.before.args in sym (entry_unit a.m a.n a.constants.now a.k c.before.if1.true c.if2.true)
+returns : tie.Need-returns-then-i-j
+returns c = let a = c.before.before.args in sym (entry_unit a.m a.n a.constants.now a.k c.before.if-j-m.true c.if-i-j.true)
 
-returns_2 : tie.Need-returns-2
-returns_2 c = let a = c.before.before.args in sym (entry_other a.m a.n a.constants.now a.k c.before.if1.true c.if2.false)
+returns_2 : tie.Need-returns-then-j-m
+returns_2 c = let a = c.before.before.args in sym (entry_other a.m a.n a.constants.now a.k c.before.if-j-m.true c.if-i-j.false)
 
-mul_at : tie.Need-overflow-mul-at
-mul_at c = let a = c.before.args in omega (arith, small a.m a.n c.before.requires.1, constant_inside a.m a.n a.constants.now a.k c.before.requires.2 c.if1.false)
+mul_at : tie.Need-overflow_mul-at
+mul_at c = let a = c.before.args in omega (arith, small a.m a.n c.before.requires.1, constant_inside a.m a.n a.constants.now a.k c.before.requires.2 c.if-j-m.false)
 
-add_at : tie.Need-overflow-add-at
-add_at c = let a = c.before.args in omega (arith, small a.m a.n c.before.requires.1, constant_inside a.m a.n a.constants.now a.k c.before.requires.2 c.if1.false)
+add_at : tie.Need-overflow_add-at
+add_at c = let a = c.before.args in omega (arith, small a.m a.n c.before.requires.1, constant_inside a.m a.n a.constants.now a.k c.before.requires.2 c.if-j-m.false)
 
-mul_result : tie.Need-overflow-mul-result
-mul_result c = let a = c.before.args in omega (arith, small a.m a.n c.before.requires.1, constant_inside a.m a.n a.constants.now a.k c.before.requires.2 c.if1.false)
+mul_result : tie.Need-offset_bounds-constants-at
+mul_result c = let a = c.before.args in omega (arith, small a.m a.n c.before.requires.1, constant_inside a.m a.n a.constants.now a.k c.before.requires.2 c.if-j-m.false)
 
-shared_slice_read_result : tie.Need-shared-slice-read-result
-shared_slice_read_result c = let a = c.before.before.args in omega (arith, c.before.before.requires.0, constant_inside a.m a.n a.constants.now a.k c.before.before.requires.2 c.before.if1.false)
+shared_slice_read_result : tie.Need-bounds-constants-at
+shared_slice_read_result c = let a = c.before.before.args in omega (arith, c.before.before.requires.0, constant_inside a.m a.n a.constants.now a.k c.before.before.requires.2 c.before.if-j-m.false)
 
-returns_3 : tie.Need-returns-3
-returns_3 c = let a = c.before.before.args in sym (entry_constant a.m a.n a.constants.now a.k c.before.if1.false)
+returns_3 : tie.Need-returns
+returns_3 c = let a = c.before.before.args in sym (entry_constant a.m a.n a.constants.now a.k c.before.if-j-m.false)
 
 pub entry_of_form_spec : {M : Type 1} → statement M
 entry_of_form_spec =

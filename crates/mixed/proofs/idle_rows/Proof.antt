@@ -34,53 +34,53 @@ idle_same m rows k S busy h i = (
   λ w. (h i).1 (elim (ℕ_discrete i k) [ yes z ↦ absurd (w.1 (rw z busy)) | no nz ↦ omega (arith, w.0) ], w.1),
 )
 
-abbrev invariant-loop : tie.invariant-loop
+abbrev invariant-loop : tie.invariant-loop-i
 invariant-loop m rows idle₀ i₀ idle i = (i ≤ m) × Idle m rows i (members (whole idle))
 
-abbrev decreases-loop : tie.decreases-loop
+abbrev decreases-loop : tie.decreases-loop-i
 decreases-loop m rows idle₀ i₀ idle i = m - i
 
 -- where a turn begins
-abbrev turn : tie.Joined1 invariant-loop decreases-loop → tie.At-loop invariant-loop decreases-loop
+abbrev turn : tie.Joined-not-serves_original invariant-loop decreases-loop → tie.At-loop-i invariant-loop decreases-loop
 turn c = c.before.before.before
 
-empty_requires : tie.Need-empty-requires invariant-loop decreases-loop
+empty_requires : tie.Need-empty-idle-requires invariant-loop decreases-loop
 empty_requires c κs = search rules
 
-loop_holds : tie.Need-loop-init invariant-loop decreases-loop
-loop_holds c = (search rules, rw (empty_none c.empty.ensures) (λ j. ((λ e. absurd (false≢true e)), λ w. absurd (omega (arith, w.0)))))
+loop_holds : tie.Need-loop-i-init invariant-loop decreases-loop
+loop_holds c = (search rules, rw (empty_none c.empty-idle.ensures) (λ j. ((λ e. absurd (false≢true e)), λ w. absurd (omega (arith, w.0)))))
 
-array_read_serves_original : tie.Need-array-read-serves-original invariant-loop decreases-loop
+array_read_serves_original : tie.Need-bounds-rows-i invariant-loop decreases-loop
 array_read_serves_original c = search rules
 
-serves_original_requires : tie.Need-serves-original-requires invariant-loop decreases-loop
+serves_original_requires : tie.Need-serves_original-requires invariant-loop decreases-loop
 serves_original_requires c κs = search rules
 
-with_requires : tie.Need-with-requires invariant-loop decreases-loop
+with_requires : tie.Need-with-idle-requires invariant-loop decreases-loop
 with_requires c κs = search rules
 
-add_i : tie.Need-overflow-add-i invariant-loop decreases-loop
+add_i : tie.Need-overflow_step-i invariant-loop decreases-loop
 add_i c = search rules
 
-loop_less : tie.Need-loop-smaller invariant-loop decreases-loop
+loop_less : tie.Need-loop-i-smaller invariant-loop decreases-loop
 loop_less c = search rules
 
-loop_again : tie.Need-loop-preserved invariant-loop decreases-loop
+loop_again : tie.Need-loop-i-preserved invariant-loop decreases-loop
 loop_again c =
-    let l = (turn c).loop in
+    let l = (turn c).loop-i in
     let a = (turn c).before.before.args in
-    let s = c.before.serves-original in (
+    let s = c.before.serves_original in (
       search rules,
       ⊎_elim
           (λ w. rw (w.2, w.1.ensures) (idle_more a.m a.t1 l.i (members (whole l.idle)) (omega arith) (s.ensures.1 (not-true _ w.0.taken)) l.inv.1))
           (λ w. rw w.1 (idle_same a.m a.t1 l.i (members (whole l.idle)) (s.ensures.0 (not-false _ w.0.left)) l.inv.1))
-          c.if1.branch,
+          c.if-not-serves_original.branch,
     )
 
 returns : tie.Need-returns invariant-loop decreases-loop
 returns c =
-    let done : c.before.loop.i ≡ c.before.before.before.args.m = omega arith in
-    rw done at c.before.loop.invariant.1
+    let done : c.before.loop-i.i ≡ c.before.before.before.args.m = omega arith in
+    rw done at c.before.loop-i.invariant.1
 
 pub idle_rows_spec : {M : Type 1} → statement M
 idle_rows_spec =

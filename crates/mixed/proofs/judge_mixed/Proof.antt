@@ -12,43 +12,43 @@ use Rattle.mixed.proofs.judge_mixed.Statement.{statement}
 use Rattle.mixed.proofs.judge_mixed.Tie as tie
 
 -- where the function begins, seen from behind the judgement of the model
-abbrev begun : tie.After-judge-model → tie.Start
+abbrev begun : tie.After-judge_model-number → tie.Start
 begun c = c.before.before.before.before
 
 -- where the model is accepted, seen from behind the test of the rows
-abbrev passed : tie.Else2 → tie.Else1
+abbrev passed : tie.Else-a-b → tie.Else-number-ne0
 passed c = c.before
 
 -- the model is accepted
-accepted : (c : tie.Else1) → let a = (begun c.before).args in refusal a.p a.n a.a a.b a.constants.now (row_numbers a.parameters.now) (lent a.numbered a.numbers.now) ≡ 0
-accepted c = sym c.before.judge-model.ensures ∙ c.if1.false
+accepted : (c : tie.Else-number-ne0) → let a = (begun c.before).args in refusal a.p a.n a.a a.b a.constants.now (row_numbers a.parameters.now) (lent a.numbered a.numbers.now) ≡ 0
+accepted c = sym c.before.judge_model-number.ensures ∙ c.if-number-ne0.false
 
-judge_model_requires : tie.Need-judge-model-requires
+judge_model_requires : tie.Need-judge_model-number-requires
 judge_model_requires c κs = search rules
 
-returns : tie.Need-returns
-returns c = let a = (begun c.before).args in at_model a.p a.n a.a a.b a.constants.now (row_numbers a.parameters.now) (lent a.numbered a.numbers.now) _ c.before.judge-model.ensures c.if1.true
+returns : tie.Need-returns-then-number-ne0
+returns c = let a = (begun c.before).args in at_model a.p a.n a.a a.b a.constants.now (row_numbers a.parameters.now) (lent a.numbered a.numbers.now) _ c.before.judge_model-number.ensures c.if-number-ne0.true
 
-returns_2 : tie.Need-returns-2
+returns_2 : tie.Need-returns-then-a-b
 returns_2 c =
     let a = (begun c.before.before).args in
-    at_mixed a.p a.n a.a a.b a.constants.now (row_numbers a.parameters.now) (lent a.numbered a.numbers.now) (accepted c.before) (not_true _ (λ e. c.if2.true ((mixed_reads a.p a.n a.a a.b a.constants.now (row_numbers a.parameters.now) (lent a.numbered a.numbers.now)).0 e).0))
+    at_mixed a.p a.n a.a a.b a.constants.now (row_numbers a.parameters.now) (lent a.numbered a.numbers.now) (accepted c.before) (not_true _ (λ e. c.if-a-b.true ((mixed_reads a.p a.n a.a a.b a.constants.now (row_numbers a.parameters.now) (lent a.numbered a.numbers.now)).0 e).0))
 
-add_if3 : tie.Need-overflow-add-if3
+add_if3 : tie.Need-overflow_add-a
 add_if3 c =
     let a = (begun (passed c).before).args in
     let h = model_accepted a.p a.n a.a a.b a.constants.now (row_numbers a.parameters.now) (lent a.numbered a.numbers.now) (accepted (passed c)) in
     omega (arith, h.n_most, h.a_most)
 
-returns_3 : tie.Need-returns-3
+returns_3 : tie.Need-returns-then-a-n-gt-MOST_COLUMNS
 returns_3 c =
     let a = (begun (passed c.before).before).args in
-    at_mixed a.p a.n a.a a.b a.constants.now (row_numbers a.parameters.now) (lent a.numbered a.numbers.now) (accepted (passed c.before)) (not_true _ (λ e. omega (arith, c.if3.true, ((mixed_reads a.p a.n a.a a.b a.constants.now (row_numbers a.parameters.now) (lent a.numbered a.numbers.now)).0 e).1)))
+    at_mixed a.p a.n a.a a.b a.constants.now (row_numbers a.parameters.now) (lent a.numbered a.numbers.now) (accepted (passed c.before)) (not_true _ (λ e. omega (arith, c.if-a-n-gt-MOST_COLUMNS.true, ((mixed_reads a.p a.n a.a a.b a.constants.now (row_numbers a.parameters.now) (lent a.numbered a.numbers.now)).0 e).1)))
 
-returns_4 : tie.Need-returns-4
+returns_4 : tie.Need-returns
 returns_4 c =
     let a = (begun (passed c.before).before).args in
-    at_none a.p a.n a.a a.b a.constants.now (row_numbers a.parameters.now) (lent a.numbered a.numbers.now) (accepted (passed c.before)) ((mixed_reads a.p a.n a.a a.b a.constants.now (row_numbers a.parameters.now) (lent a.numbered a.numbers.now)).1 (c.before.if2.false, c.if3.false))
+    at_none a.p a.n a.a a.b a.constants.now (row_numbers a.parameters.now) (lent a.numbered a.numbers.now) (accepted (passed c.before)) ((mixed_reads a.p a.n a.a a.b a.constants.now (row_numbers a.parameters.now) (lent a.numbered a.numbers.now)).1 (c.before.if-a-b.false, c.if-a-n-gt-MOST_COLUMNS.false))
 
 pub judge_mixed_spec : {M : Type 1} → statement M
 judge_mixed_spec =

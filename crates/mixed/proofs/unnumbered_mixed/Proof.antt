@@ -4,15 +4,15 @@ use borrow.Author.Rules.{rules}
 use Rattle.mixed.proofs.unnumbered_mixed.Statement.{statement}
 use Rattle.mixed.proofs.unnumbered_mixed.Tie as tie
 
-slice_aggregate_mixed_rank : tie.Need-slice-aggregate-mixed-rank
+slice_aggregate_mixed_rank : tie.Need-slice_bounds-mixed_rank-end
 slice_aggregate_mixed_rank c = search rules
 
-mixed_rank_requires : tie.Need-mixed-rank-requires
+mixed_rank_requires : tie.Need-mixed_rank-requires
 mixed_rank_requires c κs = search rules
 
 returns : tie.Need-returns
 unfolding lent
-returns c = c.mixed-rank.ensures
+returns c = c.mixed_rank.ensures
 
 pub unnumbered_mixed_spec : {M : Type 1} → statement M
 unnumbered_mixed_spec =

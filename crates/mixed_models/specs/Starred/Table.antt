@@ -3,7 +3,7 @@
 use Rattle.std.specs.Prelude.{ℕ, ◌+◌, ◌≡◌, refl, true, List, [], ◌∷◌}
 use Rattle.std.proofs.Common.{ap, ◌∙◌, arith}
 use Rattle.std.proofs.Math.Bool.{decide}
-use Rattle.std.proofs.Math.Logic.{Dec·not}
+use mathlib.Core.Logic.Dec
 use Rattle.std.proofs.Math.Decide.{ℕ_discrete, dec_le, dec_lt}
 use Rattle.residue.specs.Arithmetic.{Prime, is_prime, undivided, inv_of, last}
 use Rattle.residue.specs.Residues.{residues, res, mk, plus, times}
@@ -76,7 +76,7 @@ mixed_answers X c v r e s f =
 
 -- all that has to be opened to test the evidence
 unfoldable run : ℕ
-unfolding residues res mk plus times inv_of last members # indicator any all set choose touching beside unit pivot hits same_row among seats all_below_n pivoted_tableau owners proper owns sits apart sound rows_left spares spared earlier within_set refuses refused_by places_all below_all passes decide Dec·not ℕ_discrete dec_le dec_lt
+unfolding residues res mk plus times inv_of last members # indicator any all set choose touching beside unit pivot hits same_row among seats all_below_n pivoted_tableau owners proper owns sits apart sound rows_left spares spared earlier within_set refuses refused_by places_all below_all passes decide Dec.not ℕ_discrete dec_le dec_lt
 run = 0
 
 -- each claim passes its test: at 1,021, and S5 at 3

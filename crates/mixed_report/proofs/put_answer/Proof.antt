@@ -7,56 +7,44 @@ use Rattle.mixed_report.proofs.put_answer.Statement.{statement}
 use Rattle.mixed_report.proofs.put_answer.Tie as tie
 
 -- where each line is put, from the last back to the first, seen from where the area has come back
-abbrev short_put : tie.After-slice-known6 → tie.After-put-column-line3
+abbrev short_put : tie.After-slice_known-6-1 → tie.After-put_column_line
 short_put c = c.before.before
 
-abbrev columns_put : tie.After-slice-known5 → tie.After-put-column-line2
+abbrev columns_put : tie.After-slice_known-5-1 → tie.After-put_column_line-after_columns
 columns_put c = c.before.before
 
-abbrev rows_put : tie.After-slice-known4 → tie.After-put-column-line
+abbrev rows_put : tie.After-slice_known-4-1 → tie.After-put_column_line-after_rows
 rows_put c = c.before.before
 
-abbrev rank_put : tie.After-slice-known3 → tie.After-put-number-line
+abbrev rank_put : tie.After-slice_known-3-1 → tie.After-put_number_line-after_rank
 rank_put c = c.before.before
 
-abbrev verdict_put : tie.After-slice-known2 → tie.After-put-verdict-line
+abbrev verdict_put : tie.After-slice_known-2-1 → tie.After-put_verdict_line-after_verdict
 verdict_put c = c.before.before
 
 -- where the area is lent for the line of the rank
-abbrev rank_lent : tie.After-put-number-line → tie.After-put-number-line-arg
+abbrev rank_lent : tie.After-put_number_line-after_rank → tie.After-put_number_line-arg-1
 rank_lent c = c.before.before.before
 
-put_verdict_line_requires : tie.Need-put-verdict-line-requires
+put_verdict_line_requires : tie.Need-put_verdict_line-after_verdict-requires
 put_verdict_line_requires c κs = search rules
 
-slice_aggregate_put_number_line : tie.Need-slice-aggregate-put-number-line
-slice_aggregate_put_number_line c = search rules
-
-cast_put_number_line : tie.Need-overflow-cast-put-number-line
+cast_put_number_line : tie.Need-overflow_cast-answer
 cast_put_number_line c = search rules
 
-put_number_line_requires : tie.Need-put-number-line-requires
+put_number_line_requires : tie.Need-put_number_line-after_rank-requires
 put_number_line_requires c κs = search rules
 
-slice_aggregate_put_column_line : tie.Need-slice-aggregate-put-column-line
-slice_aggregate_put_column_line c = search rules
-
-put_column_line_requires : tie.Need-put-column-line-requires
+put_column_line_requires : tie.Need-put_column_line-after_rows-requires
 put_column_line_requires c κs = search rules
 
-slice_aggregate_put_column_line_2 : tie.Need-slice-aggregate-put-column-line-2
-slice_aggregate_put_column_line_2 c = search rules
-
-put_column_line_requires_2 : tie.Need-put-column-line-requires-2
+put_column_line_requires_2 : tie.Need-put_column_line-after_columns-requires
 put_column_line_requires_2 c κs = search rules
 
-slice_aggregate_put_column_line_3 : tie.Need-slice-aggregate-put-column-line-3
-slice_aggregate_put_column_line_3 c = search rules
-
-put_column_line_requires_3 : tie.Need-put-column-line-requires-3
+put_column_line_requires_3 : tie.Need-put_column_line-requires
 put_column_line_requires_3 c κs = search rules
 
-same_length : tie.Need-same-length
+same_length : tie.Need-shape_of-out
 same_length c = search rules
 
 returns : tie.Need-returns
@@ -67,21 +55,17 @@ returns c =
     let rows = rows_put columns.before.before.before in
     let rank = rank_put rows.before.before.before in
     let verdict = verdict_put (rank_lent rank).before in
-    puts_then verdict.put-verdict-line.ensures (puts_then rank.put-number-line.ensures (puts_then rows.put-column-line.ensures (puts_then columns.put-column-line2.ensures short.put-column-line3.ensures)))
+    puts_then verdict.put_verdict_line-after_verdict.ensures (puts_then rank.put_number_line-after_rank.ensures (puts_then rows.put_column_line-after_rows.ensures (puts_then columns.put_column_line-after_columns.ensures short.put_column_line.ensures)))
 
 pub put_answer_spec : {M : Type 1} → statement M
 put_answer_spec =
     tie.close
     (tie.spec
     put_verdict_line_requires
-    slice_aggregate_put_number_line
     cast_put_number_line
     put_number_line_requires
-    slice_aggregate_put_column_line
     put_column_line_requires
-    slice_aggregate_put_column_line_2
     put_column_line_requires_2
-    slice_aggregate_put_column_line_3
     put_column_line_requires_3
     same_length
     returns)

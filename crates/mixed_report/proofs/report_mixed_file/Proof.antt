@@ -15,34 +15,34 @@ use Rattle.mixed_report.proofs.report_mixed_file.Statement.{statement}
 use Rattle.mixed_report.proofs.report_mixed_file.Tie as tie
 
 -- where the report is put on the page, seen from where the page is lent to be printed
-abbrev page_put : tie.After-page3 → tie.After-put-report
+abbrev page_put : tie.After-page-3-1 → tie.After-put_report-length
 page_put c = c.before.before
 
 -- the answer's report has room on the page
-room : (c : tie.After-mixed-file) → let t = c.mixed-file.result in length (report_text t.refusal (mixed_answer_text t)) ≤ longest_mixed_report
+room : (c : tie.After-mixed_file-answer) → let t = c.mixed_file-answer.result in length (report_text t.refusal (mixed_answer_text t)) ≤ longest_mixed_report
 room c = report_length _ _ _ (omega arith) (omega arith) (mixed_answer_length _ (omega arith))
 
-mixed_file_requires : tie.Need-mixed-file-requires
+mixed_file_requires : tie.Need-mixed_file-answer-requires
 mixed_file_requires c κs = search rules
 
-slice_aggregate_put_report : tie.Need-slice-aggregate-put-report
+slice_aggregate_put_report : tie.Need-slice_bounds-put_report-end
 slice_aggregate_put_report c = search rules
 
-put_report_requires : tie.Need-put-report-requires
+put_report_requires : tie.Need-put_report-length-requires
 put_report_requires c κs = search rules
 
-array_share_prefix_page : tie.Need-array-share-prefix-page
-array_share_prefix_page c = let put = c.before in omega (arith, room put.before.before, puts_place put.put-report.ensures (room put.before.before))
+array_share_prefix_page : tie.Need-slice_bounds-page-end
+array_share_prefix_page c = let put = c.before in omega (arith, room put.before.before, puts_place put.put_report-length.ensures (room put.before.before))
 
-slice_aggregate_print : tie.Need-slice-aggregate-print
+slice_aggregate_print : tie.Need-slice_bounds-print-end
 slice_aggregate_print c =
     let put = page_put c in
-    puts_place put.put-report.ensures (room put.before.before) ∙ ap length (sym (puts_page put.put-report.ensures (room put.before.before)))
+    puts_place put.put_report-length.ensures (room put.before.before) ∙ ap length (sym (puts_page put.put_report-length.ensures (room put.before.before)))
 
 print_requires : tie.Need-print-requires
 print_requires c κs = search rules
 
-same_length : tie.Need-same-length
+same_length : tie.Need-shape_of-out
 same_length c = search rules
 
 returns : tie.Need-returns
@@ -50,7 +50,7 @@ returns c =
     let printed = c.before.before in
     let put = page_put printed.before.before in
     let asked = put.before.before in
-    call_reported _ _ asked.mixed-file.ensures (prints_as (puts_page put.put-report.ensures (room asked)) printed.print.ensures)
+    call_reported _ _ asked.mixed_file-answer.ensures (prints_as (puts_page put.put_report-length.ensures (room asked)) printed.print.ensures)
 
 pub report_mixed_file_spec : {M : Type 1} → statement M
 report_mixed_file_spec =

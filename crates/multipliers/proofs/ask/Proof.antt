@@ -14,48 +14,48 @@ use Rattle.multipliers.proofs.ask.Statement.{statement}
 use Rattle.multipliers.proofs.ask.Tie as tie
 
 -- where the call begins, seen from where the held columns are refused
-abbrev begun : tie.Then2 → tie.Start
+abbrev begun : tie.Then-not-within → tie.Start
 begun c = c.before.before.before.before
 
 refuse_requires : tie.Need-refuse-requires
 refuse_requires c κs = search rules
 
-returns : tie.Need-returns
+returns : tie.Need-returns-then-column-n
 returns c =
     let a = c.before.before.before.args in
     let e = c.refuse.ensures.0 in
-    call_refused (e ∙ column_refused a.n (whole a.held) a.column (omega (arith, c.before.if1.true))) (λ z. omega (arith, e)) c.refuse.ensures.1
+    call_refused (e ∙ column_refused a.n (whole a.held) a.column (omega (arith, c.before.if-column-n.true))) (λ z. omega (arith, e)) c.refuse.ensures.1
 
 within_requires : tie.Need-within-requires
 within_requires c κs = search rules
 
-refuse_requires_2 : tie.Need-refuse-requires-2
+refuse_requires_2 : tie.Need-refuse-requires-then-not-within
 refuse_requires_2 c κs = search rules
 
-returns_2 : tie.Need-returns-2
+returns_2 : tie.Need-returns-then-not-within
 returns_2 c =
     let t = c.before in
     let a = (begun t).args in
-    let e = c.refuse2.ensures.0 in
-    let out : within a.n (whole a.held) ≡ false = sym t.before.within.ensures ∙ not-true _ t.if2.true in
-    call_refused (e ∙ held_refused a.n (whole a.held) a.column (omega (arith, t.before.before.if1.false)) out) (λ z. omega (arith, e)) c.refuse2.ensures.1
+    let e = c.refuse-then-not-within.ensures.0 in
+    let out : within a.n (whole a.held) ≡ false = sym t.before.within.ensures ∙ not-true _ t.if-not-within.true-raw in
+    call_refused (e ∙ held_refused a.n (whole a.held) a.column (omega (arith, t.before.before.if-column-n.false)) out) (λ z. omega (arith, e)) c.refuse-then-not-within.ensures.1
 
-column_dependence_requires : tie.Need-column-dependence-requires
+column_dependence_requires : tie.Need-column_dependence-d-requires
 column_dependence_requires c κs = search rules
 
-returns_3 : tie.Need-returns-3
+returns_3 : tie.Need-returns
 returns_3 c =
     let d = c.before in
     let w = d.before.before in
     let k = w.before.before.before in
     let a = k.args in
-    let inside : within a.n (whole a.held) ≡ true = sym w.within.ensures ∙ not-false _ d.before.if2.false in
-    let l : a.column < a.n = omega (arith, w.before.if1.false) in
+    let inside : within a.n (whole a.held) ≡ true = sym w.within.ensures ∙ not-false _ d.before.if-not-within.false-raw in
+    let l : a.column < a.n = omega (arith, w.before.if-column-n.false) in
     let zero = columns_pass a.n (whole a.held) a.column l inside in
     record {
       is_refusal = zero;
       if_refused = λ z. absurd (z (sym zero));
-      if_accepted = λ z. d.column-dependence.ensures.if_valid (accepted_askable k.requires (whole a.held) a.column inside l);
+      if_accepted = λ z. d.column_dependence-d.ensures.if_valid (accepted_askable k.requires (whole a.held) a.column inside l);
     }
 
 pub ask_spec : {M : Type 1} → statement M

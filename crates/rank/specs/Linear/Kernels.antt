@@ -2,7 +2,8 @@
 use Rattle.std.specs.Prelude.{ℕ, ◌≤◌, Bool, true, false, ◌≢◌, ◌↔◌, ◌≡◌}
 use Rattle.std.proofs.Math.Bool.{decide, decide_iff}
 use Rattle.std.proofs.Common.{true≢false, sym, ◌∙◌, arith}
-use Rattle.std.proofs.Math.Logic.{by_cases, Dec·not}
+use mathlib.Core.Logic.Dec
+use Rattle.std.proofs.Math.Logic.{by_cases}
 use Rattle.std.proofs.Math.Decide.{dec_le}
 use Rattle.residue.specs.Fields.{Field}
 use Rattle.counting.specs.Sets.{#, ◌⊆◌, touching}
@@ -19,11 +20,11 @@ module _ (K : Field) (a n : ℕ) where
 
 -- row h of P has an entry in column x that is not zero
 unfoldable pub hits : (K : Field) → (ℕ → ℕ → K.F) → ℕ → ℕ → Bool
-hits K P h x = decide (Dec·not (K.decide (P h x) K.𝟘))
+hits K P h x = decide (Dec.not (K.decide (P h x) K.𝟘))
 
 pub hits_iff : (K : Field) (P : ℕ → ℕ → K.F) (h x : ℕ) → (hits K P h x ≡ true) ↔ (P h x ≢ K.𝟘)
 unfolding hits
-hits_iff K P h x = decide_iff (Dec·not (K.decide (P h x) K.𝟘))
+hits_iff K P h x = decide_iff (Dec.not (K.decide (P h x) K.𝟘))
 
 pub hits_not : (K : Field) (P : ℕ → ℕ → K.F) (h x : ℕ) → hits K P h x ≡ false → P h x ≡ K.𝟘
 hits_not K P h x e = by_cases (K.decide (P h x) K.𝟘) (λ z. z) (λ nz. absurd (true≢false (sym ((hits_iff K P h x).1 nz) ∙ e)))

@@ -3,7 +3,8 @@ use Prim.Native.Nat.{ℕ, zero, suc, ◌<◌}
 use Rattle.std.specs.Prelude.{Bool, true, ◌≢◌, ◌≡◌}
 use Rattle.std.proofs.Math.Bool.{false, Bool-discrete}
 use Rattle.std.proofs.lemmas.Bool.{false≢true}
-use Rattle.std.proofs.Math.Logic.{by_cases, Dec·and, Dec·not}
+use mathlib.Core.Logic.Dec
+use Rattle.std.proofs.Math.Logic.{by_cases}
 use Rattle.std.proofs.Common.{ap, ◌∙◌, arith}
 use Rattle.std.proofs.Math.Decide.{ℕ_discrete}
 use Rattle.residue.specs.Fields.{Field, ring, mul_zero, zero_mul, mul_neg, one_mul}
@@ -20,7 +21,7 @@ module _ (K : Field) (n : ℕ) where
   Touches S a = Some n (λ j. (S j ≡ true) × (a j ≢ 𝟘))
 
   pub touches? : (S : ℕ → Bool) (a : ℕ → F) → Dec (Touches S a)
-  touches? S a = some? n _ (λ j. Dec·and (Bool-discrete (S j) true) (Dec·not (K.decide (a j) 𝟘)))
+  touches? S a = some? n _ (λ j. Dec.and (Bool-discrete (S j) true) (Dec.not (K.decide (a j) 𝟘)))
 
   pub untouched : (S : ℕ → Bool) (a c : ℕ → F) → ¬ Touches S a → In K S c → dot K n a c ≡ 𝟘
   untouched S a c none h = dot_zero K n a c (λ j l. by_cases (Bool-discrete (S j) true)

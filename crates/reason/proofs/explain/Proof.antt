@@ -13,69 +13,69 @@ use Rattle.reason.proofs.explain.Statement.{statement}
 use Rattle.reason.proofs.explain.Tie as tie
 
 -- where the solver has answered, seen from behind the count of rows; and where the call begins
-abbrev answered : tie.After-touching-rows → tie.After-solve
+abbrev answered : tie.After-touching_rows-rows → tie.After-solve-s
 answered c = c.before.before
 
-abbrev begun : tie.After-solve → tie.Start
+abbrev begun : tie.After-solve-s → tie.Start
 begun c = c.before.before.before.before
 
-short_fits : (c : tie.After-solve) → Fits c.solve.result.short
-short_fits c = search (rules, c.solve.type-inv.1.1.1.1.1.1.0)
+short_fits : (c : tie.After-solve-s) → Fits c.solve-s.result.short
+short_fits c = search (rules, c.solve-s.type-inv.1.1.1.1.1.1.0)
 
 -- the answer of the solver
-solved_by : (c : tie.After-solve) → let a = (begun c).args in
-    SolvedBy (second_call (listed_model a.p a.n a.a a.b a.constants.now (row_numbers a.parameters.now)) a.column) c.solve.result
+solved_by : (c : tie.After-solve-s) → let a = (begun c).args in
+    SolvedBy (second_call (listed_model a.p a.n a.a a.b a.constants.now (row_numbers a.parameters.now)) a.column) c.solve-s.result
 solved_by c =
     let u = (begun c).requires in
-    c.solve.ensures.if_valid (drawn_taken u _ c.before.with.ensures) _ _ _ (drawn_shown u _ c.before.with.ensures)
+    c.solve-s.ensures.if_valid (drawn_taken u _ c.before.with-drawn.ensures) _ _ _ (drawn_shown u _ c.before.with-drawn.ensures)
 
-with_requires : tie.Need-with-requires
+with_requires : tie.Need-with-drawn-requires
 with_requires c κs = search rules
 
-solve_requires : tie.Need-solve-requires
+solve_requires : tie.Need-solve-s-requires
 solve_requires c κs = search rules
 
-touching_rows_requires : tie.Need-touching-rows-requires
+touching_rows_requires : tie.Need-touching_rows-rows-requires
 touching_rows_requires c κs = search rules
 
-returns : tie.Need-returns
+returns : tie.Need-returns-then-rows-ne0
 returns c =
     let k = c.before in
     let s = answered k in
-    let u = (begun s).pre in
-    let e = touched u s.solve.result (short_fits s) (solved_by s) _ k.touching-rows.ensures (λ z. omega (arith, z, c.if1.true)) in
+    let u = (begun s).requires in
+    let e = touched u s.solve-s.result (short_fits s) (solved_by s) _ k.touching_rows-rows.ensures (λ z. omega (arith, z, c.if-rows-ne0.true)) in
     record {
       no_refusal = refl;
       answer = record {
-        set_number = reason_number u s.solve.result (short_fits s) (solved_by s);
-        set_is = reason_is u s.solve.result (short_fits s) (solved_by s);
+        set_number = reason_number u s.solve-s.result (short_fits s) (solved_by s);
+        set_is = reason_is u s.solve-s.result (short_fits s) (solved_by s);
         is_given = e;
-        multipliers_are = no_multipliers u s.solve.result (short_fits s) (solved_by s) e;
+        multipliers_are = no_multipliers u s.solve-s.result (short_fits s) (solved_by s) e;
       };
     }
 
-without_requires : tie.Need-without-requires
+without_requires : tie.Need-without-others-requires
 without_requires c κs = search rules
 
-column_dependence_requires : tie.Need-column-dependence-requires
+column_dependence_requires : tie.Need-column_dependence-d-requires
 column_dependence_requires c κs = search rules
 
-returns_2 : tie.Need-returns-2
+returns_2 : tie.Need-returns
 returns_2 c =
     let d = c.before in
     let o = d.before in
     let k = o.before.before in
     let s = answered k in
-    let u = (begun s).pre in
-    let e = not_touched u s.solve.result (short_fits s) (solved_by s) _ k.touching-rows.ensures (omega (arith, o.before.if1.false)) in
-    let asked = d.column-dependence.ensures.if_valid (accepted_askable (constants_accepted u.accepted) _ _ (others_below u s.solve.result (short_fits s) (solved_by s) _ o.without.ensures) u.below) in
+    let u = (begun s).requires in
+    let e = not_touched u s.solve-s.result (short_fits s) (solved_by s) _ k.touching_rows-rows.ensures (omega (arith, o.before.if-rows-ne0.false)) in
+    let asked = d.column_dependence-d.ensures.if_valid (accepted_askable (constants_accepted u.accepted) _ _ (others_below u s.solve-s.result (short_fits s) (solved_by s) _ o.without-others.ensures) u.below) in
     record {
       no_refusal = refl;
       answer = record {
-        set_number = reason_number u s.solve.result (short_fits s) (solved_by s);
-        set_is = reason_is u s.solve.result (short_fits s) (solved_by s);
+        set_number = reason_number u s.solve-s.result (short_fits s) (solved_by s);
+        set_is = reason_is u s.solve-s.result (short_fits s) (solved_by s);
         is_given = e;
-        multipliers_are = their_multipliers u s.solve.result (short_fits s) (solved_by s) _ o.without.ensures e asked;
+        multipliers_are = their_multipliers u s.solve-s.result (short_fits s) (solved_by s) _ o.without-others.ensures e asked;
       };
     }
 

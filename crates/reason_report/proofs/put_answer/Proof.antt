@@ -7,22 +7,19 @@ use Rattle.reason_report.proofs.put_answer.Statement.{statement}
 use Rattle.reason_report.proofs.put_answer.Tie as tie
 
 -- where the line of the multipliers and that of the set are put, each seen from where the area has come back
-abbrev multipliers_put : tie.After-slice-known3 → tie.After-put-multiplier-line
+abbrev multipliers_put : tie.After-slice_known-3-1 → tie.After-put_multiplier_line
 multipliers_put c = c.before.before
 
-abbrev set_put : tie.After-slice-known2 → tie.After-put-column-line
+abbrev set_put : tie.After-slice_known-2-1 → tie.After-put_column_line-after_set
 set_put c = c.before.before
 
-slice_aggregate_put_column_line : tie.Need-slice-aggregate-put-column-line
-slice_aggregate_put_column_line c = search rules
-
-put_column_line_requires : tie.Need-put-column-line-requires
+put_column_line_requires : tie.Need-put_column_line-after_set-requires
 put_column_line_requires c κs = search rules
 
-put_multiplier_line_requires : tie.Need-put-multiplier-line-requires
+put_multiplier_line_requires : tie.Need-put_multiplier_line-requires
 put_multiplier_line_requires c κs = search rules
 
-same_length : tie.Need-same-length
+same_length : tie.Need-shape_of-out
 same_length c = search rules
 
 returns : tie.Need-returns
@@ -30,13 +27,12 @@ unfolding reason_text ascii
 returns c =
     let multipliers = multipliers_put c in
     let columns = set_put multipliers.before.before in
-    puts_then columns.put-column-line.ensures multipliers.put-multiplier-line.ensures
+    puts_then columns.put_column_line-after_set.ensures multipliers.put_multiplier_line.ensures
 
 pub put_answer_spec : {M : Type 1} → statement M
 put_answer_spec =
     tie.close
     (tie.spec
-    slice_aggregate_put_column_line
     put_column_line_requires
     put_multiplier_line_requires
     same_length

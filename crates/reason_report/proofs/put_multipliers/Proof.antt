@@ -13,52 +13,52 @@ use native.Mathlib.Omega.{arith}
 use Rattle.reason_report.proofs.put_multipliers.Statement.{statement}
 use Rattle.reason_report.proofs.put_multipliers.Tie as tie
 
-abbrev invariant-loop : tie.invariant-loop
+abbrev invariant-loop : tie.invariant-loop-x
 invariant-loop out₀ at multipliers place₀ x₀ out place x = (x ≤ most_columns) × (length multipliers ≡ most_columns) × Putting (multiplier_items multipliers) (pair_items 0 x (drop x multipliers)) out₀ at out place
 
-abbrev decreases-loop : tie.decreases-loop
+abbrev decreases-loop : tie.decreases-loop-x
 decreases-loop out₀ at multipliers place₀ x₀ out place x = most_columns - x
 
 -- where a turn puts its multiplier
-abbrev multiplier_put : tie.After-slice-known2 invariant-loop decreases-loop → tie.After-put-pair-unless invariant-loop decreases-loop
+abbrev multiplier_put : tie.After-slice_known-in-loop-x-1 invariant-loop decreases-loop → tie.After-put_pair_unless-place invariant-loop decreases-loop
 multiplier_put c = c.before.before
 
-loop_holds : tie.Need-loop-init invariant-loop decreases-loop
+loop_holds : tie.Need-loop-x-init invariant-loop decreases-loop
 unfolding multiplier_items
 loop_holds c = (omega arith, search rules, putting_none _ _ _)
 
-mul_put_pair_unless : tie.Need-overflow-mul-put-pair-unless invariant-loop decreases-loop
+mul_put_pair_unless : tie.Need-offset_bounds-multipliers-x invariant-loop decreases-loop
 mul_put_pair_unless c = search rules
 
-array_read_put_pair_unless : tie.Need-array-read-put-pair-unless invariant-loop decreases-loop
+array_read_put_pair_unless : tie.Need-bounds-multipliers-x invariant-loop decreases-loop
 array_read_put_pair_unless c = search rules
 
-cast_put_pair_unless : tie.Need-overflow-cast-put-pair-unless invariant-loop decreases-loop
+cast_put_pair_unless : tie.Need-overflow_cast-multipliers invariant-loop decreases-loop
 cast_put_pair_unless c = search rules
 
-put_pair_unless_requires : tie.Need-put-pair-unless-requires invariant-loop decreases-loop
+put_pair_unless_requires : tie.Need-put_pair_unless-place-requires invariant-loop decreases-loop
 put_pair_unless_requires c κs = search rules
 
-add_x : tie.Need-overflow-add-x invariant-loop decreases-loop
+add_x : tie.Need-overflow_add-x invariant-loop decreases-loop
 add_x c = search rules
 
-loop_less : tie.Need-loop-smaller invariant-loop decreases-loop
+loop_less : tie.Need-loop-x-smaller invariant-loop decreases-loop
 loop_less c = search rules
 
-loop_again : tie.Need-loop-preserved invariant-loop decreases-loop
+loop_again : tie.Need-loop-x-preserved invariant-loop decreases-loop
 loop_again c =
     let turn = (multiplier_put c).before.before in
-    let l = turn.before.loop in
-    let multipliers = turn.before.before.before.args.t3 in
-    (omega arith, l.inv.1, putting_next (pair_unless 0 l.x (get_or multipliers l.x 0)) _ l.inv.2 (pairs_next 0 l.x multipliers (omega arith)) (multiplier_put c).put-pair-unless.ensures)
+    let l = turn.before.loop-x in
+    let multipliers = turn.before.before.before.args.multipliers in
+    (omega arith, l.inv.1, putting_next (pair_unless 0 l.x (get_or multipliers l.x 0)) _ l.inv.2 (pairs_next 0 l.x multipliers (omega arith)) (multiplier_put c).put_pair_unless-place.ensures)
 
-same_length : tie.Need-same-length invariant-loop decreases-loop
-same_length c = putting_same c.before.loop.invariant.2
+same_length : tie.Need-shape_of-out invariant-loop decreases-loop
+same_length c = putting_same c.before.loop-x.invariant.2
 
 returns : tie.Need-returns invariant-loop decreases-loop
 returns c =
-    let l = c.before.loop in
-    let multipliers = c.before.before.before.args.t3 in
+    let l = c.before.loop-x in
+    let multipliers = c.before.before.before.args.multipliers in
     putting_all l.invariant.2 (pairs_none 0 l.x multipliers (omega arith))
 
 pub put_multipliers_spec : {M : Type 1} → statement M

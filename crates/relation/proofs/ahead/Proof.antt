@@ -14,13 +14,13 @@ difference_requires c κs = search rules
 without_requires : tie.Need-without-requires
 without_requires c κs = search rules
 
-returns : tie.Need-returns
+returns : tie.Need-returns-then-known
 returns c = record {
   if_done = λ e. c.without.ensures ∙ ap (λ (S : Set). removed S c.before.before.before.args.y) c.before.difference.ensures;
-  if_not = λ e. absurd (true≢false (sym c.before.before.if1.true ∙ e));
+  if_not = λ e. absurd (true≢false (sym c.before.before.if-known.true ∙ e));
 }
 
-difference_requires_2 : tie.Need-difference-requires-2
+difference_requires_2 : tie.Need-difference-new-requires
 difference_requires_2 c κs = search rules
 
 union_requires : tie.Need-union-requires
@@ -29,14 +29,14 @@ union_requires c κs = search rules
 without_requires_2 : tie.Need-without-requires-2
 without_requires_2 c κs = search rules
 
-returns_2 : tie.Need-returns-2
+returns_2 : tie.Need-returns
 returns_2 c =
     let u = c.before in
     let d = u.before in
     let a = d.before.before.args in
     record {
-      if_done = λ e. absurd (true≢false (sym e ∙ d.before.if1.false));
-      if_not = λ e. c.without2.ensures ∙ ap (λ (S : Set). removed S a.y) (u.union.ensures ∙ ap (λ (S : Set). members (whole a.front) ∪ S) d.difference2.ensures);
+      if_done = λ e. absurd (true≢false (sym e ∙ d.before.if-known.false));
+      if_not = λ e. c.without-2.ensures ∙ ap (λ (S : Set). removed S a.y) (u.union.ensures ∙ ap (λ (S : Set). members (whole a.front) ∪ S) d.difference-new.ensures);
     }
 
 pub ahead_spec : {M : Type 1} → statement M

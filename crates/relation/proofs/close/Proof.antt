@@ -15,82 +15,82 @@ use borrow.Author.Rules.{rules}
 use Rattle.relation.proofs.close.Statement.{statement}
 use Rattle.relation.proofs.close.Tie as tie
 
-abbrev invariant-loop : tie.invariant-loop
+abbrev invariant-loop : tie.invariant-loop-rest
 invariant-loop rows₀ rest₀ done₀ rows rest done = Closing (members (whole rest₀)) (members (whole rest)) (members (whole done)) rows₀ rows
 
-abbrev decreases-loop : tie.decreases-loop
+abbrev decreases-loop : tie.decreases-loop-rest
 decreases-loop rows₀ rest₀ done₀ rows rest done = # width (members (whole rest))
 
 -- the places of a turn: where its row is written, where it is found, where its column is chosen, and where it begins; and where the call did
-abbrev written : tie.After-without invariant-loop decreases-loop → tie.After-put-row invariant-loop decreases-loop
+abbrev written : tie.After-without-rest invariant-loop decreases-loop → tie.After-put_row invariant-loop decreases-loop
 written c = c.before.before.before.before
 
-abbrev row_found : tie.After-without invariant-loop decreases-loop → tie.After-reached invariant-loop decreases-loop
+abbrev row_found : tie.After-without-rest invariant-loop decreases-loop → tie.After-reached-all invariant-loop decreases-loop
 row_found c = (written c).before.before
 
-abbrev chosen : tie.After-without invariant-loop decreases-loop → tie.After-pick-spread invariant-loop decreases-loop
+abbrev chosen : tie.After-without-rest invariant-loop decreases-loop → tie.After-pick_spread-x invariant-loop decreases-loop
 chosen c = (row_found c).before.before
 
-abbrev turn : tie.After-pick-spread invariant-loop decreases-loop → tie.At-loop invariant-loop decreases-loop
+abbrev turn : tie.After-pick_spread-x invariant-loop decreases-loop → tie.At-loop-rest invariant-loop decreases-loop
 turn f = f.before.before.before
 
-abbrev begun : tie.At-loop invariant-loop decreases-loop → tie.Start invariant-loop decreases-loop
+abbrev begun : tie.At-loop-rest invariant-loop decreases-loop → tie.Start invariant-loop decreases-loop
 begun k = k.before.before.before
 
 -- a column is left
-some : (c : tie.Then1 invariant-loop decreases-loop) → # width (members (whole c.before.before.loop.rest)) ≢ 0
-some c = eqb-false _ 0 (sym c.before.is-empty.ensures ∙ not_in _ c.if1.true)
+some : (c : tie.In-loop-rest invariant-loop decreases-loop) → # width (members (whole c.before.before.loop-rest.rest)) ≢ 0
+some c = eqb-false _ 0 (sym c.before.is_empty.ensures ∙ not_in _ c.loop-rest-test.true-raw)
 
-empty_requires : tie.Need-empty-requires invariant-loop decreases-loop
+empty_requires : tie.Need-empty-done-requires invariant-loop decreases-loop
 empty_requires c κs = search rules
 
-loop_holds : tie.Need-loop-init invariant-loop decreases-loop
-loop_holds c = closing_start (members (whole c.before.before.args.over)) (members (whole c.empty.result)) c.before.before.args.rows.now (empty_none c.empty.ensures)
+loop_holds : tie.Need-loop-rest-init invariant-loop decreases-loop
+loop_holds c = closing_start (members (whole c.before.before.args.over)) (members (whole c.empty-done.result)) c.before.before.args.rows-1.now (empty_none c.empty-done.ensures)
 
-is_empty_requires : tie.Need-is-empty-requires invariant-loop decreases-loop
+is_empty_requires : tie.Need-is_empty-requires invariant-loop decreases-loop
 is_empty_requires c κs = search rules
 
-pick_spread_requires : tie.Need-pick-spread-requires invariant-loop decreases-loop
+pick_spread_requires : tie.Need-pick_spread-x-requires invariant-loop decreases-loop
 pick_spread_requires c κs = some c
 
-reached_requires : tie.Need-reached-requires invariant-loop decreases-loop
+reached_requires : tie.Need-reached-all-requires invariant-loop decreases-loop
 reached_requires c κs =
     let f = c.before in
-    let t = f.pick-spread.ensures in
-    (t.0, (turn f).loop.invariant.apart f.pick-spread.result t.1)
+    let t = f.pick_spread-x.ensures in
+    (t.0, (turn f).loop-rest.invariant.apart f.pick_spread-x.result t.1)
 
-put_row_requires : tie.Need-put-row-requires invariant-loop decreases-loop
+put_row_requires : tie.Need-put_row-requires invariant-loop decreases-loop
 put_row_requires c κs = search rules
 
-with_requires : tie.Need-with-requires invariant-loop decreases-loop
+with_requires : tie.Need-with-done-requires invariant-loop decreases-loop
 with_requires c κs = search rules
 
-without_requires : tie.Need-without-requires invariant-loop decreases-loop
+without_requires : tie.Need-without-rest-requires invariant-loop decreases-loop
 without_requires c κs = search rules
 
-loop_less : tie.Need-loop-smaller invariant-loop decreases-loop
-loop_less c = let w = (chosen c).pick-spread.ensures in rw c.without.ensures (removed_less width _ _ w.0 w.1)
+loop_less : tie.Need-loop-rest-smaller invariant-loop decreases-loop
+loop_less c = let w = (chosen c).pick_spread-x.ensures in rw c.without-rest.ensures (removed_less width _ _ w.0 w.1)
 
-loop_again : tie.Need-loop-preserved invariant-loop decreases-loop
+loop_again : tie.Need-loop-rest-preserved invariant-loop decreases-loop
 loop_again c =
     let f = chosen c in
-    let l = (turn f).loop in
+    let l = (turn f).loop-rest in
     let a = (begun (turn f)).args in
-    let t = f.pick-spread.ensures in
+    let t = f.pick_spread-x.ensures in
     let r = row_found c in
-    rw (c.without.ensures, c.before.with.ensures, (written c).put-row.ensures)
-    (closing_more (members (whole a.over)) (members (whole l.rest)) (members (whole l.done)) a.rows.now l.rows l.inv f.pick-spread.result t.0 t.1 (whole r.reached.result)
-    (r.reached.ensures (row_of a.rows.now) l.inv.partly) (λ y e. columns_below r.reached.result y (search (rules, r.reached.ok)) e))
+    rw (c.without-rest.ensures, c.before.with-done.ensures, (written c).put_row.ensures)
+    (closing_more (members (whole a.over)) (members (whole l.rest)) (members (whole l.done)) a.rows-1.now l.rows-1 l.inv f.pick_spread-x.result t.0 t.1 (whole r.reached-all.result)
+    (r.reached-all.ensures (row_of a.rows-1.now) l.inv.partly) (λ y e. columns_below r.reached-all.result y (search (rules, r.reached-all.ok)) e))
 
-same_length : tie.Need-same-length invariant-loop decreases-loop
-same_length c = c.before.before.loop.invariant.others.same_length
+same_length : tie.Need-shape_of-rows invariant-loop decreases-loop
+same_length c = c.before.before.loop-rest.invariant.others.same_length
 
 returns : tie.Need-returns invariant-loop decreases-loop
 returns c =
-    let l = c.before.before.loop in
+    let l = c.before.before.loop-rest in
     let a = (begun c.before.before).args in
-    let gone : # width (members (whole l.rest)) ≡ 0 = eqb-true _ 0 (sym c.before.is-empty.ensures ∙ not-false _ c.if1.false) in
-    closing_done (members (whole a.over)) (members (whole l.rest)) (members (whole l.done)) a.rows.now l.rows l.invariant
+    let gone : # width (members (whole l.rest)) ≡ 0 = eqb-true _ 0 (sym c.before.is_empty.ensures ∙ not-false _ c.loop-rest-test.false-raw) in
+    closing_done (members (whole a.over)) (members (whole l.rest)) (members (whole l.done)) a.rows-1.now l.rows-1 l.invariant
     (λ x e. nothing_in width (members (whole l.rest)) gone x (columns_below a.over x (search rules) (l.invariant.inside x e)) e)
 
 pub close_spec : {M : Type 1} → statement M

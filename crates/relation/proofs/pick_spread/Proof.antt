@@ -13,23 +13,23 @@ use Rattle.relation.proofs.pick_spread.Tie as tie
 size_requires : tie.Need-size-requires
 size_requires c κs = search rules
 
-mul_x : tie.Need-overflow-mul-x
+mul_x : tie.Need-overflow_mul-x
 mul_x c = omega (arith, c.size.ensures, #-le width (members (whole c.before.args.set)))
 
 contains_requires : tie.Need-contains-requires
 contains_requires c κs = search rules
 
-returns : tie.Need-returns
+returns : tie.Need-returns-then-contains
 returns c =
     let k = c.before in
     let a = k.before.before.args in
-    let e = sym k.contains.ensures ∙ c.if1.true in
+    let e = sym k.contains.ensures ∙ c.if-contains.true in
     (columns_below a.set _ (search rules) e, e)
 
 first_requires : tie.Need-first-requires
 first_requires c κs = search rules
 
-returns_2 : tie.Need-returns-2
+returns_2 : tie.Need-returns
 returns_2 c =
     let t = least_there width _ c.before.before.before.before.requires in
     ((rw (sym c.first.ensures) at t).0, (rw (sym c.first.ensures) at t).1)

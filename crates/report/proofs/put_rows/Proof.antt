@@ -12,49 +12,49 @@ use native.Mathlib.Omega.{arith}
 use Rattle.report.proofs.put_rows.Statement.{statement}
 use Rattle.report.proofs.put_rows.Tie as tie
 
-abbrev invariant-loop : tie.invariant-loop
+abbrev invariant-loop : tie.invariant-loop-r
 invariant-loop out₀ at rows place₀ r₀ out place r = (r ≤ most_rows) × (length rows ≡ most_rows) × Putting (row_items rows) (pair_items no_column r (drop r rows)) out₀ at out place
 
-abbrev decreases-loop : tie.decreases-loop
+abbrev decreases-loop : tie.decreases-loop-r
 decreases-loop out₀ at rows place₀ r₀ out place r = most_rows - r
 
 -- where a turn puts its row
-abbrev row_put : tie.After-slice-known2 invariant-loop decreases-loop → tie.After-put-pair-unless invariant-loop decreases-loop
+abbrev row_put : tie.After-slice_known-in-loop-r-1 invariant-loop decreases-loop → tie.After-put_pair_unless-place invariant-loop decreases-loop
 row_put c = c.before.before
 
-loop_holds : tie.Need-loop-init invariant-loop decreases-loop
+loop_holds : tie.Need-loop-r-init invariant-loop decreases-loop
 unfolding row_items
 loop_holds c = (omega arith, search rules, putting_none _ _ _)
 
-array_read_put_pair_unless : tie.Need-array-read-put-pair-unless invariant-loop decreases-loop
+array_read_put_pair_unless : tie.Need-bounds-rows-r invariant-loop decreases-loop
 array_read_put_pair_unless c = search rules
 
-cast_put_pair_unless : tie.Need-overflow-cast-put-pair-unless invariant-loop decreases-loop
+cast_put_pair_unless : tie.Need-overflow_cast-rows invariant-loop decreases-loop
 cast_put_pair_unless c = search rules
 
-put_pair_unless_requires : tie.Need-put-pair-unless-requires invariant-loop decreases-loop
+put_pair_unless_requires : tie.Need-put_pair_unless-place-requires invariant-loop decreases-loop
 put_pair_unless_requires c κs = search rules
 
-add_r : tie.Need-overflow-add-r invariant-loop decreases-loop
+add_r : tie.Need-overflow_add-r invariant-loop decreases-loop
 add_r c = search rules
 
-loop_less : tie.Need-loop-smaller invariant-loop decreases-loop
+loop_less : tie.Need-loop-r-smaller invariant-loop decreases-loop
 loop_less c = search rules
 
-loop_again : tie.Need-loop-preserved invariant-loop decreases-loop
+loop_again : tie.Need-loop-r-preserved invariant-loop decreases-loop
 loop_again c =
     let turn = (row_put c).before.before in
-    let l = turn.before.loop in
-    let rows = turn.before.before.before.args.t3 in
-    (omega arith, l.inv.1, putting_next (pair_unless no_column l.r (get_or rows l.r 0)) _ l.inv.2 (pairs_next no_column l.r rows (omega arith)) (row_put c).put-pair-unless.ensures)
+    let l = turn.before.loop-r in
+    let rows = turn.before.before.before.args.rows in
+    (omega arith, l.inv.1, putting_next (pair_unless no_column l.r (get_or rows l.r 0)) _ l.inv.2 (pairs_next no_column l.r rows (omega arith)) (row_put c).put_pair_unless-place.ensures)
 
-same_length : tie.Need-same-length invariant-loop decreases-loop
-same_length c = putting_same c.before.loop.invariant.2
+same_length : tie.Need-shape_of-out invariant-loop decreases-loop
+same_length c = putting_same c.before.loop-r.invariant.2
 
 returns : tie.Need-returns invariant-loop decreases-loop
 returns c =
-    let l = c.before.loop in
-    let rows = c.before.before.before.args.t3 in
+    let l = c.before.loop-r in
+    let rows = c.before.before.before.args.rows in
     putting_all l.invariant.2 (pairs_none no_column l.r rows (omega arith))
 
 pub put_rows_spec : {M : Type 1} → statement M

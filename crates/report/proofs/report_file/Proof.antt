@@ -16,40 +16,40 @@ use Rattle.report.proofs.report_file.Statement.{statement}
 use Rattle.report.proofs.report_file.Tie as tie
 
 -- where the report is put on the page, seen from where the page is lent to be printed
-abbrev page_put : tie.After-page3 → tie.After-put-report
+abbrev page_put : tie.After-page-3-1 → tie.After-put_report-length
 page_put c = c.before.before
 
 -- the answer has a byte for each row, and its report has room on the page
-rows_long : (c : tie.After-layered-file) → length c.layered-file.result.rows ≡ most_rows
+rows_long : (c : tie.After-layered_file-answer) → length c.layered_file-answer.result.rows ≡ most_rows
 rows_long c = search rules
 
-rows_low : (c : tie.After-layered-file) (i : ℕ) → get_or c.layered-file.result.rows i 0 < 1000
-rows_low c i = let known : Fits w8 (get_or c.layered-file.result.rows i 0) = search rules in omega (arith, known.fits)
+rows_low : (c : tie.After-layered_file-answer) (i : ℕ) → get_or c.layered_file-answer.result.rows i 0 < 1000
+rows_low c i = let known : Fits w8 (get_or c.layered_file-answer.result.rows i 0) = search rules in omega (arith, known.fits)
 
-room : (c : tie.After-layered-file) → let t = c.layered-file.result in length (report_text t.refusal (answer_text t)) ≤ longest_report
+room : (c : tie.After-layered_file-answer) → let t = c.layered_file-answer.result in length (report_text t.refusal (answer_text t)) ≤ longest_report
 room c = report_length _ _ _ (omega arith) (omega arith) (answer_length _ (omega arith) (rows_long c) (rows_low c))
 
-layered_file_requires : tie.Need-layered-file-requires
+layered_file_requires : tie.Need-layered_file-answer-requires
 layered_file_requires c κs = search rules
 
-slice_aggregate_put_report : tie.Need-slice-aggregate-put-report
+slice_aggregate_put_report : tie.Need-slice_bounds-put_report-end
 slice_aggregate_put_report c = search rules
 
-put_report_requires : tie.Need-put-report-requires
+put_report_requires : tie.Need-put_report-length-requires
 put_report_requires c κs = search rules
 
-array_share_prefix_page : tie.Need-array-share-prefix-page
-array_share_prefix_page c = let put = c.before in omega (arith, room put.before.before, puts_place put.put-report.ensures (room put.before.before))
+array_share_prefix_page : tie.Need-slice_bounds-page-end
+array_share_prefix_page c = let put = c.before in omega (arith, room put.before.before, puts_place put.put_report-length.ensures (room put.before.before))
 
-slice_aggregate_print : tie.Need-slice-aggregate-print
+slice_aggregate_print : tie.Need-slice_bounds-print-end
 slice_aggregate_print c =
     let put = page_put c in
-    puts_place put.put-report.ensures (room put.before.before) ∙ ap length (sym (puts_page put.put-report.ensures (room put.before.before)))
+    puts_place put.put_report-length.ensures (room put.before.before) ∙ ap length (sym (puts_page put.put_report-length.ensures (room put.before.before)))
 
 print_requires : tie.Need-print-requires
 print_requires c κs = search rules
 
-same_length : tie.Need-same-length
+same_length : tie.Need-shape_of-out
 same_length c = search rules
 
 returns : tie.Need-returns
@@ -57,7 +57,7 @@ returns c =
     let printed = c.before.before in
     let put = page_put printed.before.before in
     let asked = put.before.before in
-    call_reported _ _ asked.layered-file.ensures (prints_as (puts_page put.put-report.ensures (room asked)) printed.print.ensures)
+    call_reported _ _ asked.layered_file-answer.ensures (prints_as (puts_page put.put_report-length.ensures (room asked)) printed.print.ensures)
 
 pub report_file_spec : {M : Type 1} → statement M
 report_file_spec =

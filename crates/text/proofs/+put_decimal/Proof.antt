@@ -69,7 +69,7 @@ put_decimal_returns : (t : ℕ) → put-decimal-lts.Need-returns (
 put_decimal_returns t c =
     let last = c.before.before.before in
     let small = last.before.before in
-    puts_as (ap (λ (d : ℕ). d ∷ []) last.digit.ensures ∙ sym (decimal_small small.before.before.args.x small.if1.true)) c.before.before.put_byte.ensures
+    puts_as (ap (λ (d : ℕ). d ∷ []) last.digit.ensures ∙ sym (decimal_small small.before.before.args.x small.if-x-lt10.true)) c.before.before.put_byte.ensures
 
 put_decimal_put_decimal_requires : (t : ℕ) → put-decimal-lts.Need-put-decimal-requires (
   digit-reads.Asked,
@@ -113,7 +113,7 @@ put_decimal_same_length_2 t c =
     let last = c.before.before in
     let back = last.before.before.before in
     let tens = back.before.before in
-    puts_same last.put-byte2.ensures ∙ puts_same tens.put-decimal.ensures
+    puts_same last.put_byte-2.ensures ∙ puts_same tens.put_decimal-after_tens.ensures
 
 put_decimal_returns_2 : (t : ℕ) → put-decimal-lts.Need-returns-2 (
   digit-reads.Asked,
@@ -129,8 +129,8 @@ put_decimal_returns_2 t c =
     let tens = back.before.before in
     let large = tens.before.before in
     let x = large.before.before.args.x in
-    let whole : decimal (x / 10) ++ (last.digit2.result ∷ []) ≡ decimal x = ap (λ (d : ℕ). decimal (x / 10) ++ (d ∷ [])) last.digit2.ensures ∙ sym (decimal_large x large.if1.false) in
-    puts_as whole (puts_then tens.put-decimal.ensures c.before.before.put-byte2.ensures)
+    let whole : decimal (x / 10) ++ (last.digit-2.result ∷ []) ≡ decimal x = ap (λ (d : ℕ). decimal (x / 10) ++ (d ∷ [])) last.digit-2.ensures ∙ sym (decimal_large x large.if-x-lt10.false) in
+    puts_as whole (puts_then tens.put_decimal-after_tens.ensures c.before.before.put_byte-2.ensures)
 
 pub +put-decimal-spec : {M : Type 1} → statement M
 +put-decimal-spec = close μ-put-decimal λ t. put-decimal-lts.spec (

@@ -11,50 +11,50 @@ use native.Mathlib.Omega.{arith}
 use Rattle.text.proofs.put_bytes.Statement.{statement}
 use Rattle.text.proofs.put_bytes.Tie as tie
 
-abbrev invariant-loop : tie.invariant-loop
+abbrev invariant-loop : tie.invariant-loop-i
 invariant-loop out₀ at text place₀ i₀ out place i = (i ≤ length text) × Putting text (drop i text) out₀ at out place
 
-abbrev decreases-loop : tie.decreases-loop
+abbrev decreases-loop : tie.decreases-loop-i
 decreases-loop out₀ at text place₀ i₀ out place i = length text - i
 
 -- where a turn puts its byte, and where it begins
-abbrev byte_put : tie.After-slice-known2 invariant-loop decreases-loop → tie.After-put-byte invariant-loop decreases-loop
+abbrev byte_put : tie.After-slice_known-in-loop-i-1 invariant-loop decreases-loop → tie.After-put_byte-place invariant-loop decreases-loop
 byte_put c = c.before.before
 
-abbrev turn : tie.After-slice-known2 invariant-loop decreases-loop → tie.In-loop invariant-loop decreases-loop
+abbrev turn : tie.After-slice_known-in-loop-i-1 invariant-loop decreases-loop → tie.In-loop-i invariant-loop decreases-loop
 turn c = (byte_put c).before.before.before
 
 -- where the function begins, seen from the loop
-abbrev begun : tie.At-loop invariant-loop decreases-loop → tie.Start invariant-loop decreases-loop
+abbrev begun : tie.At-loop-i invariant-loop decreases-loop → tie.Start invariant-loop decreases-loop
 begun c = c.before.before.before
 
-loop_holds : tie.Need-loop-init invariant-loop decreases-loop
+loop_holds : tie.Need-loop-i-init invariant-loop decreases-loop
 loop_holds c = (omega arith, putting_none _ _ _)
 
-shared_slice_read_put_byte : tie.Need-shared-slice-read-put-byte invariant-loop decreases-loop
+shared_slice_read_put_byte : tie.Need-bounds-text-i invariant-loop decreases-loop
 shared_slice_read_put_byte c = search rules
 
-put_byte_requires : tie.Need-put-byte-requires invariant-loop decreases-loop
+put_byte_requires : tie.Need-put_byte-place-requires invariant-loop decreases-loop
 put_byte_requires c κs = search rules
 
-add_i : tie.Need-overflow-add-i invariant-loop decreases-loop
+add_i : tie.Need-overflow_add-i invariant-loop decreases-loop
 add_i c = search rules
 
-loop_less : tie.Need-loop-smaller invariant-loop decreases-loop
+loop_less : tie.Need-loop-i-smaller invariant-loop decreases-loop
 loop_less c = search rules
 
-loop_again : tie.Need-loop-preserved invariant-loop decreases-loop
+loop_again : tie.Need-loop-i-preserved invariant-loop decreases-loop
 loop_again c =
     let k = turn c in
-    let l = k.before.loop in
+    let l = k.before.loop-i in
     let t = (begun k.before).args.text.now in
-    (omega arith, putting_next (get_or t l.i 0 ∷ []) _ l.inv.1 (drop-cons t l.i 0 k.loop-test.taken ∙ rw (add-one l.i) refl) (byte_put c).put_byte.ensures)
+    (omega arith, putting_next (get_or t l.i 0 ∷ []) _ l.inv.1 (drop-cons t l.i 0 k.loop-i-test.true ∙ rw (add-one l.i) refl) (byte_put c).put_byte-place.ensures)
 
-same_length : tie.Need-same-length invariant-loop decreases-loop
-same_length c = putting_same c.before.loop.invariant.1
+same_length : tie.Need-shape_of-out invariant-loop decreases-loop
+same_length c = putting_same c.before.loop-i.invariant.1
 
 returns : tie.Need-returns invariant-loop decreases-loop
-returns c = let l = c.before.loop in putting_all l.invariant.1 (drop_of_length-le (begun c.before).args.text.now c.loop-test.false)
+returns c = let l = c.before.loop-i in putting_all l.invariant.1 (drop_of_length-le (begun c.before).args.text.now c.loop-i-test.false)
 
 pub put_bytes_spec : {M : Type 1} → statement M
 put_bytes_spec =

@@ -7,25 +7,25 @@ use Rattle.text.proofs.put_column_line.Statement.{statement}
 use Rattle.text.proofs.put_column_line.Tie as tie
 
 -- where the line's end, the columns and the word are put, each seen from where the area has come back
-abbrev end_put : tie.After-slice-known4 → tie.After-put-byte
+abbrev end_put : tie.After-slice_known-4-1 → tie.After-put_byte
 end_put c = c.before.before
 
-abbrev columns_put : tie.After-slice-known3 → tie.After-put-columns
+abbrev columns_put : tie.After-slice_known-3-1 → tie.After-put_columns-after_items
 columns_put c = c.before.before
 
-abbrev word_put : tie.After-slice-known2 → tie.After-put-bytes
+abbrev word_put : tie.After-slice_known-2-1 → tie.After-put_bytes-after_word
 word_put c = c.before.before
 
-put_bytes_requires : tie.Need-put-bytes-requires
+put_bytes_requires : tie.Need-put_bytes-after_word-requires
 put_bytes_requires c κs = search rules
 
-put_columns_requires : tie.Need-put-columns-requires
+put_columns_requires : tie.Need-put_columns-after_items-requires
 put_columns_requires c κs = search rules
 
-put_byte_requires : tie.Need-put-byte-requires
+put_byte_requires : tie.Need-put_byte-requires
 put_byte_requires c κs = search rules
 
-same_length : tie.Need-same-length
+same_length : tie.Need-shape_of-out
 same_length c = search rules
 
 returns : tie.Need-returns
@@ -33,7 +33,7 @@ returns c =
     let end = end_put c in
     let items = columns_put end.before.before in
     let word = word_put items.before.before in
-    puts_as (sym (line_is _ _)) (puts_then word.put-bytes.ensures (puts_then items.put-columns.ensures end.put_byte.ensures))
+    puts_as (sym (line_is _ _)) (puts_then word.put_bytes-after_word.ensures (puts_then items.put_columns-after_items.ensures end.put_byte.ensures))
 
 pub put_column_line_spec : {M : Type 1} → statement M
 put_column_line_spec =

@@ -15,59 +15,59 @@ use borrow.Author.Rules.{rules}
 use Rattle.text.proofs.put_columns.Statement.{statement}
 use Rattle.text.proofs.put_columns.Tie as tie
 
-abbrev invariant-loop : tie.invariant-loop
+abbrev invariant-loop : tie.invariant-loop-rest
 invariant-loop out₀ at place₀ rest₀ out place rest = Putting (column_items (members (whole rest₀))) (column_items (members (whole rest))) out₀ at out place
 
-abbrev decreases-loop : tie.decreases-loop
+abbrev decreases-loop : tie.decreases-loop-rest
 decreases-loop out₀ at place₀ rest₀ out place rest = # width (members (whole rest))
 
 -- where a turn puts the item of its column, and where it finds the column
-abbrev item_put : tie.After-without invariant-loop decreases-loop → tie.After-put-item invariant-loop decreases-loop
+abbrev item_put : tie.After-without-rest invariant-loop decreases-loop → tie.After-put_item-place invariant-loop decreases-loop
 item_put c = c.before.before.before
 
-abbrev column_found : tie.After-without invariant-loop decreases-loop → tie.After-first invariant-loop decreases-loop
+abbrev column_found : tie.After-without-rest invariant-loop decreases-loop → tie.After-first-x invariant-loop decreases-loop
 column_found c = (item_put c).before.before
 
-some : (c : tie.After-first invariant-loop decreases-loop) → # width (members (whole c.before.before.before.loop.rest)) ≢ 0
-some c = eqb-false _ 0 (sym c.before.before.is-empty.ensures ∙ not-true _ c.before.if1.true)
+some : (c : tie.After-first-x invariant-loop decreases-loop) → # width (members (whole c.before.before.before.loop-rest.rest)) ≢ 0
+some c = eqb-false _ 0 (sym c.before.before.is_empty.ensures ∙ not-true _ c.before.loop-rest-test.true-raw)
 
 -- what is left is the item of the first column and those of the others
-next : (c : tie.After-first invariant-loop decreases-loop) → let left = members (whole c.before.before.before.loop.rest) in
-    column_items left ≡ item c.first.result ++ column_items (removed left c.first.result)
-next c = rw c.first.ensures (column_items_next _ (some c))
+next : (c : tie.After-first-x invariant-loop decreases-loop) → let left = members (whole c.before.before.before.loop-rest.rest) in
+    column_items left ≡ item c.first-x.result ++ column_items (removed left c.first-x.result)
+next c = rw c.first-x.ensures (column_items_next _ (some c))
 
-loop_holds : tie.Need-loop-init invariant-loop decreases-loop
+loop_holds : tie.Need-loop-rest-init invariant-loop decreases-loop
 loop_holds c = putting_none _ _ _
 
-is_empty_requires : tie.Need-is-empty-requires invariant-loop decreases-loop
+is_empty_requires : tie.Need-is_empty-requires invariant-loop decreases-loop
 is_empty_requires c κs = search rules
 
-first_requires : tie.Need-first-requires invariant-loop decreases-loop
+first_requires : tie.Need-first-x-requires invariant-loop decreases-loop
 first_requires c κs = search rules
 
-put_item_requires : tie.Need-put-item-requires invariant-loop decreases-loop
+put_item_requires : tie.Need-put_item-place-requires invariant-loop decreases-loop
 put_item_requires c κs = search rules
 
-without_requires : tie.Need-without-requires invariant-loop decreases-loop
+without_requires : tie.Need-without-rest-requires invariant-loop decreases-loop
 without_requires c κs = search rules
 
-loop_less : tie.Need-loop-smaller invariant-loop decreases-loop
+loop_less : tie.Need-loop-rest-smaller invariant-loop decreases-loop
 loop_less c =
     let found = column_found c in
     let there = least_there width _ (some found) in
-    rw (c.without.ensures, found.first.ensures) (removed_less width _ _ there.0 there.1)
+    rw (c.without-rest.ensures, found.first-x.ensures) (removed_less width _ _ there.0 there.1)
 
-loop_again : tie.Need-loop-preserved invariant-loop decreases-loop
+loop_again : tie.Need-loop-rest-preserved invariant-loop decreases-loop
 loop_again c =
     let found = column_found c in
-    let x = found.first.result in
-    putting_next (item x) _ found.before.before.before.loop.inv (next found ∙ ap (λ (S : Set). item x ++ column_items S) (sym c.without.ensures)) (item_put c).put_item.ensures
+    let x = found.first-x.result in
+    putting_next (item x) _ found.before.before.before.loop-rest.invariant (next found ∙ ap (λ (S : Set). item x ++ column_items S) (sym c.without-rest.ensures)) (item_put c).put_item-place.ensures
 
-same_length : tie.Need-same-length invariant-loop decreases-loop
-same_length c = putting_same c.before.before.loop.invariant
+same_length : tie.Need-shape_of-out invariant-loop decreases-loop
+same_length c = putting_same c.before.before.loop-rest.invariant
 
 returns : tie.Need-returns invariant-loop decreases-loop
-returns c = putting_all c.before.before.loop.invariant (column_items_none _ (eqb-true _ 0 (sym c.before.is-empty.ensures ∙ not-false _ c.if1.false)))
+returns c = putting_all c.before.before.loop-rest.invariant (column_items_none _ (eqb-true _ 0 (sym c.before.is_empty.ensures ∙ not-false _ c.loop-rest-test.false-raw)))
 
 pub put_columns_spec : {M : Type 1} → statement M
 put_columns_spec =

@@ -6,17 +6,17 @@ use borrow.Author.Rules.{rules}
 use Rattle.text.proofs.put_pair_unless.Statement.{statement}
 use Rattle.text.proofs.put_pair_unless.Tie as tie
 
-returns : tie.Need-returns
-returns c = puts_as (sym (pair_left_out _ _ _ c.if1.true)) (puts_none _ _)
+returns : tie.Need-returns-then-second-nothing
+returns c = puts_as (sym (pair_left_out _ _ _ c.if-second-nothing.true)) (puts_none _ _)
 
-put_pair_requires : tie.Need-put-pair-requires
+put_pair_requires : tie.Need-put_pair-requires
 put_pair_requires c κs = search rules
 
-same_length : tie.Need-same-length
+same_length : tie.Need-shape_of-out
 same_length c = search rules
 
-returns_2 : tie.Need-returns-2
-returns_2 c = let put = c.before.before in puts_as (sym (pair_shown _ _ _ put.before.before.if1.false)) put.put-pair.ensures
+returns_2 : tie.Need-returns
+returns_2 c = let put = c.before.before in puts_as (sym (pair_shown _ _ _ put.before.before.if-second-nothing.false)) put.put_pair.ensures
 
 pub put_pair_unless_spec : {M : Type 1} → statement M
 put_pair_unless_spec =

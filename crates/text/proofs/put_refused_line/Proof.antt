@@ -4,20 +4,17 @@ use borrow.Author.Rules.{rules}
 use Rattle.text.proofs.put_refused_line.Statement.{statement}
 use Rattle.text.proofs.put_refused_line.Tie as tie
 
-slice_aggregate_put_number_line : tie.Need-slice-aggregate-put-number-line
-slice_aggregate_put_number_line c = search rules
-
-put_number_line_requires : tie.Need-put-number-line-requires
+put_number_line_requires : tie.Need-put_number_line-requires
 put_number_line_requires c κs = search rules
 
-same_length : tie.Need-same-length
+same_length : tie.Need-shape_of-out
 same_length c = search rules
 
 returns : tie.Need-returns
 unfolding refused_line ascii
-returns c = c.before.before.put-number-line.ensures
+returns c = c.before.before.put_number_line.ensures
 
 pub put_refused_line_spec : {M : Type 1} → statement M
 put_refused_line_spec =
     tie.close
-    (tie.spec slice_aggregate_put_number_line put_number_line_requires same_length returns)
+    (tie.spec put_number_line_requires same_length returns)

@@ -15,26 +15,26 @@ use Rattle.touching.specs.RowCountLaws.{count_touching}
 use Rattle.touching.proofs.touching_rows.Statement.{statement}
 use Rattle.touching.proofs.touching_rows.Tie as tie
 
-abbrev invariant-loop : tie.invariant-loop
+abbrev invariant-loop : tie.invariant-loop-r
 invariant-loop parameters n b end inside many₀ r₀ many r = (r ≤ end) × (many ≡ # r (rows_touching (row_numbers parameters) (members (whole inside))))
 
-abbrev decreases-loop : tie.decreases-loop
+abbrev decreases-loop : tie.decreases-loop-r
 decreases-loop parameters n b end inside many₀ r₀ many r = end - r
 
 -- where the call begins
-abbrev begun : tie.At-loop invariant-loop decreases-loop → tie.Start invariant-loop decreases-loop
+abbrev begun : tie.At-loop-r invariant-loop decreases-loop → tie.Start invariant-loop decreases-loop
 begun l = l.before.before.before.before.before
 
-rows_below_requires : tie.Need-rows-below-requires invariant-loop decreases-loop
+rows_below_requires : tie.Need-rows_below-end-requires invariant-loop decreases-loop
 rows_below_requires c κs = search rules
 
 below_requires : tie.Need-below-requires invariant-loop decreases-loop
 below_requires c κs = search rules
 
-intersection_requires : tie.Need-intersection-requires invariant-loop decreases-loop
+intersection_requires : tie.Need-intersection-inside-requires invariant-loop decreases-loop
 intersection_requires c κs = search rules
 
-loop_holds : tie.Need-loop-init invariant-loop decreases-loop
+loop_holds : tie.Need-loop-r-init invariant-loop decreases-loop
 unfolding #
 loop_holds c = (search rules, refl)
 
@@ -44,26 +44,26 @@ row_requires c κs = search rules
 touches_requires : tie.Need-touches-requires invariant-loop decreases-loop
 touches_requires c κs = search rules
 
-add_many : tie.Need-overflow-add-many invariant-loop decreases-loop
-add_many c = let l = c.before.before.before.before.loop in omega (arith, #-le l.r (rows_touching (row_numbers (begun c.before.before.before.before).args.parameters.now) (members (whole c.before.before.before.before.before.intersection.result))))
+add_many : tie.Need-overflow_add-many invariant-loop decreases-loop
+add_many c = let l = c.before.before.before.before.loop-r in omega (arith, #-le l.r (rows_touching (row_numbers (begun c.before.before.before.before).args.parameters.now) (members (whole c.before.before.before.before.before.intersection-inside.result))))
 
-add_r : tie.Need-overflow-add-r invariant-loop decreases-loop
+add_r : tie.Need-overflow_step-r invariant-loop decreases-loop
 add_r c = search rules
 
-loop_less : tie.Need-loop-smaller invariant-loop decreases-loop
+loop_less : tie.Need-loop-r-smaller invariant-loop decreases-loop
 loop_less c = search rules
 
-loop_again : tie.Need-loop-preserved invariant-loop decreases-loop
+loop_again : tie.Need-loop-r-preserved invariant-loop decreases-loop
 unfolding indicator touching
 loop_again c =
     let l = c.before.before.before.before in
-    let S = rows_touching (row_numbers (begun l).args.parameters.now) (members (whole l.before.intersection.result)) in
-    let met : c.before.touches.result ≡ S l.loop.r = c.before.touches.ensures ∙ ap (λ (w : ℕ). any width (members (whole l.before.intersection.result) ∩ members w)) c.before.before.row.ensures in (
+    let S = rows_touching (row_numbers (begun l).args.parameters.now) (members (whole l.before.intersection-inside.result)) in
+    let met : c.before.touches.result ≡ S l.loop-r.r = c.before.touches.ensures ∙ ap (λ (w : ℕ). any width (members (whole l.before.intersection-inside.result) ∩ members w)) c.before.before.row.ensures in (
       search rules,
       ⊎_elim
-          (λ w. rw w.1 (omega (arith, l.loop.invariant.1, #-next l.loop.r S true (sym met ∙ w.0.taken))))
-          (λ w. rw w.1 (omega (arith, l.loop.invariant.1, #-next l.loop.r S false (sym met ∙ w.0.left))))
-          c.if1.branch,
+          (λ w. rw w.1 (omega (arith, l.loop-r.invariant.1, #-next l.loop-r.r S true (sym met ∙ w.0.taken))))
+          (λ w. rw w.1 (omega (arith, l.loop-r.invariant.1, #-next l.loop-r.r S false (sym met ∙ w.0.left))))
+          c.if-touches.branch,
     )
 
 returns : tie.Need-returns invariant-loop decreases-loop
@@ -71,10 +71,10 @@ returns c =
     let l = c.before in
     let a = (begun l).args in
     let ws = row_numbers a.parameters.now in
-    let done : l.loop.r ≡ min a.b (length ws) = omega (arith, l.before.before.before.rows_below.ensures) in
-    let inside : members (whole l.before.intersection.result) ≡ members (whole a.set) ∩ upto a.n = l.before.intersection.ensures ∙ ap (λ (S : Set). members (whole a.set) ∩ S) l.before.before.below.ensures in
-    l.loop.invariant.1
-    ∙ ap (λ (k : ℕ). # k (rows_touching ws (members (whole l.before.intersection.result)))) done
+    let done : l.loop-r.r ≡ min a.b (length ws) = omega (arith, l.before.before.before.rows_below-end.ensures) in
+    let inside : members (whole l.before.intersection-inside.result) ≡ members (whole a.set) ∩ upto a.n = l.before.intersection-inside.ensures ∙ ap (λ (S : Set). members (whole a.set) ∩ S) l.before.before.below.ensures in
+    l.loop-r.invariant.1
+    ∙ ap (λ (k : ℕ). # k (rows_touching ws (members (whole l.before.intersection-inside.result)))) done
     ∙ ap (λ (S : Set). # (min a.b (length ws)) (rows_touching ws S)) inside
     ∙ count_touching a.n a.b ws (members (whole a.set)) (λ x e. columns_below a.set x (search (rules, (begun l).well-formed.1.1.1.0)) e)
 

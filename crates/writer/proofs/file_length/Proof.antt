@@ -12,31 +12,31 @@ use Rattle.writer.proofs.file_length.Tie as tie
 rows : (c : tie.Start) → c.args.a * (head_bytes + 2 * c.args.n) ≤ most_rows * (head_bytes + 2 * most_columns)
 rows c = mul-le-mul c.requires.1 (let m : head_bytes + 2 * c.args.n ≤ head_bytes + 2 * most_columns = omega arith in m)
 
-add_prime : tie.Need-overflow-add-prime
+add_prime : tie.Need-overflow_add-prime
 add_prime c = search rules
 
-add_sizes : tie.Need-overflow-add-sizes
+add_sizes : tie.Need-overflow_add-sizes
 add_sizes c = search rules
 
-mul_constant : tie.Need-overflow-mul-constant
+mul_constant : tie.Need-overflow_mul-constant
 mul_constant c = search rules
 
-add_constant : tie.Need-overflow-add-constant
+add_constant : tie.Need-overflow_add-constant
 add_constant c = search rules
 
-add_result : tie.Need-overflow-add-result
+add_result : tie.Need-overflow_add-result
 add_result c = search rules
 
-mul_result : tie.Need-overflow-mul-result
+mul_result : tie.Need-overflow_mul-result
 mul_result c = omega (arith, rows c)
 
-add_result_2 : tie.Need-overflow-add-result-2
+add_result_2 : tie.Need-overflow_add-result-2
 add_result_2 c = omega (arith, rows c)
 
-add_result_3 : tie.Need-overflow-add-result-3
+add_result_3 : tie.Need-overflow_add-result-3
 add_result_3 c = omega (arith, rows c, c.requires.2)
 
-add_result_4 : tie.Need-overflow-add-result-4
+add_result_4 : tie.Need-overflow_add-result-4
 add_result_4 c = omega (arith, rows c, c.requires.2)
 
 returns : tie.Need-returns

@@ -24,10 +24,10 @@ count c =
 size_requires : tie.Need-size-requires
 size_requires c κs = search rules
 
-mul_result : tie.Need-overflow-mul-result
+mul_result : tie.Need-overflow_mul-result
 mul_result c = omega (arith, few c)
 
-add_result : tie.Need-overflow-add-result
+add_result : tie.Need-overflow_add-result
 add_result c = omega (arith, few c)
 
 returns : tie.Need-returns

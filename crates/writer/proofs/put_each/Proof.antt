@@ -14,27 +14,27 @@ use Rattle.writer.proofs.put_each.Statement.{statement}
 use Rattle.writer.proofs.put_each.Tie as tie
 
 -- where the call begins, seen from behind its test
-abbrev begun : tie.Else1 → tie.Start
+abbrev begun : tie.Else-out-numbers → tie.Start
 begun c = c.before.before.before
 
-returns : tie.Need-returns
+returns : tie.Need-returns-then-out-numbers
 unfolding area_test
 returns c =
     let a = c.before.before.before.args in
-    let short : length a.out.now < length (entry_bytes a.numbers.now) = omega (arith, (entries_back a.numbers.now).0) in
+    let short : length a.out-1.now < length (entry_bytes a.numbers.now) = omega (arith, (entries_back a.numbers.now).0) in
     record { refusal_is = first_fails _ _ _ (lt-leb _ _ short); bytes_are = over_no_room _ _ short }
 
 -- where the bytes have room
-fits : (c : tie.Else1) → let a = (begun c).args in length (entry_bytes a.numbers.now) ≤ length a.out.now
-fits c = omega (arith, (entries_back (begun c).args.numbers.now).0, c.if1.false)
+fits : (c : tie.Else-out-numbers) → let a = (begun c).args in length (entry_bytes a.numbers.now) ≤ length a.out-1.now
+fits c = omega (arith, (entries_back (begun c).args.numbers.now).0, c.if-out-numbers.false)
 
-put_entries_requires : tie.Need-put-entries-requires
+put_entries_requires : tie.Need-put_entries-requires
 put_entries_requires c κs = fits c.before
 
-same_length : tie.Need-same-length
+same_length : tie.Need-shape_of-out
 same_length c = search rules
 
-returns_2 : tie.Need-returns-2
+returns_2 : tie.Need-returns
 unfolding area_test
 returns_2 c =
     let d = c.before.before in

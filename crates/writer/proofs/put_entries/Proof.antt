@@ -13,18 +13,18 @@ use Rattle.format.proofs.Puts.{wrote_put, put_all, room_left}
 use Rattle.writer.proofs.put_entries.Statement.{statement}
 use Rattle.writer.proofs.put_entries.Tie as tie
 
-abbrev invariant-loop : tie.invariant-loop
+abbrev invariant-loop : tie.invariant-loop-rest
 invariant-loop out₀ row rest₀ at₀ out rest at = Wrote (entry_bytes row) (entry_bytes rest) out₀ out at
 
-abbrev decreases-loop : tie.decreases-loop
+abbrev decreases-loop : tie.decreases-loop-rest
 decreases-loop out₀ row rest₀ at₀ out rest at = length rest
 
 -- the places of a turn: where its entry is put, and where it began
 
-abbrev put : tie.After-slice-known2 invariant-loop decreases-loop → tie.After-put-two invariant-loop decreases-loop
+abbrev put : tie.After-slice_known-in-loop-rest-1 invariant-loop decreases-loop → tie.After-put_two-at invariant-loop decreases-loop
 put c = c.before.before
 
-abbrev turn : tie.After-put-two invariant-loop decreases-loop → tie.In-loop invariant-loop decreases-loop
+abbrev turn : tie.After-put_two-at invariant-loop decreases-loop → tie.In-loop-rest invariant-loop decreases-loop
 turn c = c.before.before.before
 
 -- the bytes of the first entry
@@ -32,54 +32,54 @@ abbrev first : List ℕ → List ℕ
 first r = get_or r 0 0 % 256 ∷ get_or r 0 0 / 256 ∷ []
 
 -- while entries are left, there is room for the next one
-room : (c : tie.In-loop invariant-loop decreases-loop) → let l = c.before.loop in (l.at + 2 ≤ length l.out) × (2 ≤ length (take (length l.out - l.at) (drop l.at l.out)))
-room c = let l = c.before.loop in room_left (first l.rest.now) _ l.invariant (entry_bytes_next l.rest.now c.loop-test.true)
+room : (c : tie.In-loop-rest invariant-loop decreases-loop) → let l = c.before.loop-rest in (l.at + 2 ≤ length l.out-1) × (2 ≤ length (take (length l.out-1 - l.at) (drop l.at l.out-1)))
+room c = let l = c.before.loop-rest in room_left (first l.rest-1.now) _ l.invariant (entry_bytes_next l.rest-1.now c.loop-rest-test.true)
 
-loop_holds : tie.Need-loop-init invariant-loop decreases-loop
+loop_holds : tie.Need-loop-rest-init invariant-loop decreases-loop
 loop_holds c = wrote_none _ _ c.before.before.requires
 
-sub_put_two : tie.Need-overflow-sub-put-two invariant-loop decreases-loop
+sub_put_two : tie.Need-slice_bounds-put_two-count invariant-loop decreases-loop
 sub_put_two c = omega (arith, room c)
 
-part_put_two_start : tie.Need-slice-bounds-put-two-start invariant-loop decreases-loop
+part_put_two_start : tie.Need-slice_bounds-put_two-start invariant-loop decreases-loop
 part_put_two_start c = omega (arith, room c)
 
-part_put_two_end : tie.Need-slice-bounds-put-two-end invariant-loop decreases-loop
+part_put_two_end : tie.Need-slice_bounds-put_two-end invariant-loop decreases-loop
 part_put_two_end c = omega (arith, room c)
 
-shared_slice_read_put_two : tie.Need-shared-slice-read-put-two invariant-loop decreases-loop
+shared_slice_read_put_two : tie.Need-bounds-rest-0 invariant-loop decreases-loop
 shared_slice_read_put_two c = omega arith
 
-put_two_requires : tie.Need-put-two-requires invariant-loop decreases-loop
+put_two_requires : tie.Need-put_two-at-requires invariant-loop decreases-loop
 put_two_requires c κs = (room c.before.before).1
 
-add_at : tie.Need-overflow-add-at invariant-loop decreases-loop
-add_at c = let k = (put c).put_two.ensures.many_is in omega (arith, room (turn (put c)))
+add_at : tie.Need-overflow_add-at invariant-loop decreases-loop
+add_at c = let k = (put c).put_two-at.ensures.many_is in omega (arith, room (turn (put c)))
 
-sub_rest : tie.Need-overflow-sub-rest invariant-loop decreases-loop
+sub_rest : tie.Need-slice_bounds-rest-count invariant-loop decreases-loop
 sub_rest c = omega arith
 
-part_rest_start : tie.Need-slice-bounds-rest-start invariant-loop decreases-loop
+part_rest_start : tie.Need-slice_bounds-rest-start invariant-loop decreases-loop
 part_rest_start c = omega arith
 
-part_rest_end : tie.Need-slice-bounds-rest-end invariant-loop decreases-loop
+part_rest_end : tie.Need-slice_bounds-rest-end invariant-loop decreases-loop
 part_rest_end c = omega arith
 
-loop_less : tie.Need-loop-smaller invariant-loop decreases-loop
+loop_less : tie.Need-loop-rest-smaller invariant-loop decreases-loop
 loop_less c = simp (length-take, length-drop) (omega arith)
 
-loop_again : tie.Need-loop-preserved invariant-loop decreases-loop
+loop_again : tie.Need-loop-rest-preserved invariant-loop decreases-loop
 loop_again c =
     let d = put c.before in
-    let l = (turn d).before.loop in
-    let r = l.rest.now in
-    wrote_put (first r) _ _ l.inv (entry_bytes_next r (turn d).loop-test.taken ∙ ap (λ (s : List ℕ). first r ++ entry_bytes s) (sym (tail_part 1 r))) d.put_two.ensures
+    let l = (turn d).before.loop-rest in
+    let r = l.rest-1.now in
+    wrote_put (first r) _ _ l.inv (entry_bytes_next r (turn d).loop-rest-test.true ∙ ap (λ (s : List ℕ). first r ++ entry_bytes s) (sym (tail_part 1 r))) d.put_two-at.ensures
 
-same_length : tie.Need-same-length invariant-loop decreases-loop
-same_length c = c.before.loop.invariant.same
+same_length : tie.Need-shape_of-out invariant-loop decreases-loop
+same_length c = c.before.loop-rest.invariant.same
 
 returns : tie.Need-returns invariant-loop decreases-loop
-returns c = put_all c.before.loop.invariant (entry_bytes_done _ c.loop-test.false)
+returns c = put_all c.before.loop-rest.invariant (entry_bytes_done _ c.loop-rest-test.false)
 
 pub put_entries_spec : {M : Type 1} → statement M
 put_entries_spec =

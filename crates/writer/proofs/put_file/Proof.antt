@@ -20,48 +20,48 @@ use Rattle.writer.proofs.put_file.Tie as tie
 
 -- the places: where the call began, where each field is put, and where each was still to be put
 
-abbrev entry : tie.After-shared-slice-known3 → tie.Start
+abbrev entry : tie.After-shared_slice_known-3-1 → tie.Start
 entry c = c.before.before.before.before
 
-abbrev prime_put : tie.After-slice-known2 → tie.After-put-prime
+abbrev prime_put : tie.After-slice_known-2-1 → tie.After-put_prime-at
 prime_put c = c.before.before
 
-abbrev sizes_put : tie.After-slice-known3 → tie.After-put-sizes
+abbrev sizes_put : tie.After-slice_known-3-1 → tie.After-put_sizes-at
 sizes_put c = c.before.before
 
-abbrev before_sizes : tie.After-slice-known3 → tie.After-slice-known2
+abbrev before_sizes : tie.After-slice_known-3-1 → tie.After-slice_known-2-1
 before_sizes c = (sizes_put c).before.before
 
-abbrev rows_put : tie.After-slice-known4 → tie.After-put-constant-rows
+abbrev rows_put : tie.After-slice_known-4-1 → tie.After-put_constant_rows-at
 rows_put c = c.before.before
 
-abbrev before_rows : tie.After-slice-known4 → tie.After-slice-known3
+abbrev before_rows : tie.After-slice_known-4-1 → tie.After-slice_known-3-1
 before_rows c = (rows_put c).before.before
 
-abbrev parameters_put : tie.After-slice-known5 → tie.After-put-rows
+abbrev parameters_put : tie.After-slice_known-5-1 → tie.After-put_rows-at
 parameters_put c = c.before.before
 
-abbrev before_parameters : tie.After-slice-known5 → tie.After-slice-known4
+abbrev before_parameters : tie.After-slice_known-5-1 → tie.After-slice_known-4-1
 before_parameters c = (parameters_put c).before.before
 
-abbrev end_put : tie.After-slice-known6 → tie.After-put-head
+abbrev end_put : tie.After-slice_known-6-1 → tie.After-put_head
 end_put c = c.before.before
 
-abbrev before_end : tie.After-slice-known6 → tie.After-slice-known5
+abbrev before_end : tie.After-slice_known-6-1 → tie.After-slice_known-5-1
 before_end c = (end_put c).before.before
 
 -- where the call began, from behind each field
 
-abbrev entry₁ : tie.After-slice-known2 → tie.Start
+abbrev entry₁ : tie.After-slice_known-2-1 → tie.Start
 entry₁ c = entry (prime_put c).before.before
 
-abbrev entry₂ : tie.After-slice-known3 → tie.Start
+abbrev entry₂ : tie.After-slice_known-3-1 → tie.Start
 entry₂ c = entry₁ (before_sizes c)
 
-abbrev entry₃ : tie.After-slice-known4 → tie.Start
+abbrev entry₃ : tie.After-slice_known-4-1 → tie.Start
 entry₃ c = entry₂ (before_rows c)
 
-abbrev entry₄ : tie.After-slice-known5 → tie.Start
+abbrev entry₄ : tie.After-slice_known-5-1 → tie.Start
 entry₄ c = entry₃ (before_parameters c)
 
 -- the file of a call, and the bytes of its fields
@@ -106,135 +106,135 @@ abbrev back : List ℕ → ℕ → List ℕ → List ℕ
 back d k e = take k d ++ (e ++ drop (length d - k) (drop k d))
 
 -- the area, and where the next field goes, after each field
-abbrev area₁ : tie.After-slice-known2 → List ℕ
-area₁ c = (prime_put c).put-prime.new.0
+abbrev area₁ : tie.After-slice_known-2-1 → List ℕ
+area₁ c = (prime_put c).put_prime-at.new.0
 
-abbrev at₁ : tie.After-slice-known2 → ℕ
-at₁ c = (prime_put c).put-prime.result
+abbrev at₁ : tie.After-slice_known-2-1 → ℕ
+at₁ c = (prime_put c).put_prime-at.result
 
-written₁ : (c : tie.After-slice-known2) → let s = entry₁ c in Wrote (file s) (left₁ s) s.args.out.now (area₁ c) (at₁ c)
-written₁ c = let s = entry₁ c in first_put _ (prime s) (left₁ s) (fields s) s.pre.1 (prime_put c).put-prime.ensures
+written₁ : (c : tie.After-slice_known-2-1) → let s = entry₁ c in Wrote (file s) (left₁ s) s.args.out-1.now (area₁ c) (at₁ c)
+written₁ c = let s = entry₁ c in first_put _ (prime s) (left₁ s) (fields s) s.requires.1 (prime_put c).put_prime-at.ensures
 
-abbrev area₂ : tie.After-slice-known3 → List ℕ
-area₂ c = let d = before_sizes c in back (area₁ d) (at₁ d) (sizes_put c).put-sizes.new.0
+abbrev area₂ : tie.After-slice_known-3-1 → List ℕ
+area₂ c = let d = before_sizes c in back (area₁ d) (at₁ d) (sizes_put c).put_sizes-at.new.0
 
-abbrev at₂ : tie.After-slice-known3 → ℕ
-at₂ c = at₁ (before_sizes c) + (sizes_put c).put-sizes.result
+abbrev at₂ : tie.After-slice_known-3-1 → ℕ
+at₂ c = at₁ (before_sizes c) + (sizes_put c).put_sizes-at.result
 
-written₂ : (c : tie.After-slice-known3) → let s = entry₂ c in Wrote (file s) (left₂ s) s.args.out.now (area₂ c) (at₂ c)
-written₂ c = wrote_put (sizes (entry₂ c)) _ _ (written₁ (before_sizes c)) refl (sizes_put c).put-sizes.ensures
+written₂ : (c : tie.After-slice_known-3-1) → let s = entry₂ c in Wrote (file s) (left₂ s) s.args.out-1.now (area₂ c) (at₂ c)
+written₂ c = wrote_put (sizes (entry₂ c)) _ _ (written₁ (before_sizes c)) refl (sizes_put c).put_sizes-at.ensures
 
-abbrev area₃ : tie.After-slice-known4 → List ℕ
-area₃ c = let d = before_rows c in back (area₂ d) (at₂ d) (rows_put c).put-constant-rows.new.0
+abbrev area₃ : tie.After-slice_known-4-1 → List ℕ
+area₃ c = let d = before_rows c in back (area₂ d) (at₂ d) (rows_put c).put_constant_rows-at.new.0
 
-abbrev at₃ : tie.After-slice-known4 → ℕ
-at₃ c = at₂ (before_rows c) + (rows_put c).put-constant-rows.result
+abbrev at₃ : tie.After-slice_known-4-1 → ℕ
+at₃ c = at₂ (before_rows c) + (rows_put c).put_constant_rows-at.result
 
-written₃ : (c : tie.After-slice-known4) → let s = entry₃ c in Wrote (file s) (left₃ s) s.args.out.now (area₃ c) (at₃ c)
-written₃ c = wrote_put (rows (entry₃ c)) _ _ (written₂ (before_rows c)) refl (rows_put c).put-constant-rows.ensures
+written₃ : (c : tie.After-slice_known-4-1) → let s = entry₃ c in Wrote (file s) (left₃ s) s.args.out-1.now (area₃ c) (at₃ c)
+written₃ c = wrote_put (rows (entry₃ c)) _ _ (written₂ (before_rows c)) refl (rows_put c).put_constant_rows-at.ensures
 
-abbrev area₄ : tie.After-slice-known5 → List ℕ
-area₄ c = let d = before_parameters c in back (area₃ d) (at₃ d) (parameters_put c).put-rows.new.0
+abbrev area₄ : tie.After-slice_known-5-1 → List ℕ
+area₄ c = let d = before_parameters c in back (area₃ d) (at₃ d) (parameters_put c).put_rows-at.new.0
 
-abbrev at₄ : tie.After-slice-known5 → ℕ
-at₄ c = at₃ (before_parameters c) + (parameters_put c).put-rows.result
+abbrev at₄ : tie.After-slice_known-5-1 → ℕ
+at₄ c = at₃ (before_parameters c) + (parameters_put c).put_rows-at.result
 
-written₄ : (c : tie.After-slice-known5) → let s = entry₄ c in Wrote (file s) end s.args.out.now (area₄ c) (at₄ c)
-written₄ c = wrote_put (parameters (entry₄ c)) _ _ (written₃ (before_parameters c)) refl (parameters_put c).put-rows.ensures
+written₄ : (c : tie.After-slice_known-5-1) → let s = entry₄ c in Wrote (file s) end s.args.out-1.now (area₄ c) (at₄ c)
+written₄ c = wrote_put (parameters (entry₄ c)) _ _ (written₃ (before_parameters c)) refl (parameters_put c).put_rows-at.ensures
 
 -- there is room for the next field
 abbrev Room : List ℕ → ℕ → List ℕ → Type 0
 Room next at area = (at + length next ≤ length area) × (length next ≤ length (take (length area - at) (drop at area)))
 
-room₁ : (c : tie.After-slice-known2) → Room (sizes (entry₁ c)) (at₁ c) (area₁ c)
+room₁ : (c : tie.After-slice_known-2-1) → Room (sizes (entry₁ c)) (at₁ c) (area₁ c)
 room₁ c = room_left (sizes (entry₁ c)) _ (written₁ c) refl
 
-room₂ : (c : tie.After-slice-known3) → Room (rows (entry₂ c)) (at₂ c) (area₂ c)
+room₂ : (c : tie.After-slice_known-3-1) → Room (rows (entry₂ c)) (at₂ c) (area₂ c)
 room₂ c = room_left (rows (entry₂ c)) _ (written₂ c) refl
 
-room₃ : (c : tie.After-slice-known4) → Room (parameters (entry₃ c)) (at₃ c) (area₃ c)
+room₃ : (c : tie.After-slice_known-4-1) → Room (parameters (entry₃ c)) (at₃ c) (area₃ c)
 room₃ c = room_left (parameters (entry₃ c)) _ (written₃ c) refl
 
-room₄ : (c : tie.After-slice-known5) → Room end (at₄ c) (area₄ c)
+room₄ : (c : tie.After-slice_known-5-1) → Room end (at₄ c) (area₄ c)
 room₄ c = room_left end [] (written₄ c) refl
 
-put_prime_requires : tie.Need-put-prime-requires
-put_prime_requires c κs = let s = entry c.before in omega (arith, first s, s.pre.1)
+put_prime_requires : tie.Need-put_prime-at-requires
+put_prime_requires c κs = let s = entry c.before in omega (arith, first s, s.requires.1)
 
-sub_put_sizes : tie.Need-overflow-sub-put-sizes
+sub_put_sizes : tie.Need-slice_bounds-put_sizes-count
 sub_put_sizes c = omega (arith, room₁ c)
 
-part_put_sizes_start : tie.Need-slice-bounds-put-sizes-start
+part_put_sizes_start : tie.Need-slice_bounds-put_sizes-start
 part_put_sizes_start c = omega (arith, room₁ c)
 
-part_put_sizes_end : tie.Need-slice-bounds-put-sizes-end
+part_put_sizes_end : tie.Need-slice_bounds-put_sizes-end
 part_put_sizes_end c = search rules
 
-cast_put_sizes : tie.Need-overflow-cast-put-sizes
+cast_put_sizes : tie.Need-overflow_cast-n
 cast_put_sizes c = search rules
 
-cast_put_sizes_2 : tie.Need-overflow-cast-put-sizes-2
+cast_put_sizes_2 : tie.Need-overflow_cast-a
 cast_put_sizes_2 c = search rules
 
-cast_put_sizes_3 : tie.Need-overflow-cast-put-sizes-3
+cast_put_sizes_3 : tie.Need-overflow_cast-b
 cast_put_sizes_3 c = search rules
 
-put_sizes_requires : tie.Need-put-sizes-requires
+put_sizes_requires : tie.Need-put_sizes-at-requires
 put_sizes_requires c κs = (room₁ c.before).1
 
-add_at : tie.Need-overflow-add-at
+add_at : tie.Need-overflow_add-at
 add_at c = search rules
 
-sub_put_constant_rows : tie.Need-overflow-sub-put-constant-rows
+sub_put_constant_rows : tie.Need-slice_bounds-put_constant_rows-count
 sub_put_constant_rows c = omega (arith, room₂ c)
 
-part_put_constant_rows_start : tie.Need-slice-bounds-put-constant-rows-start
+part_put_constant_rows_start : tie.Need-slice_bounds-put_constant_rows-start
 part_put_constant_rows_start c = omega (arith, room₂ c)
 
-part_put_constant_rows_end : tie.Need-slice-bounds-put-constant-rows-end
+part_put_constant_rows_end : tie.Need-slice_bounds-put_constant_rows-end
 part_put_constant_rows_end c = search rules
 
-put_constant_rows_requires : tie.Need-put-constant-rows-requires
+put_constant_rows_requires : tie.Need-put_constant_rows-at-requires
 put_constant_rows_requires c κs = let h = (entry₂ c.before).requires.0 in (h.n_most, h.constants_lent, (room₂ c.before).1)
 
-add_at_2 : tie.Need-overflow-add-at-2
+add_at_2 : tie.Need-overflow_add-at-2
 add_at_2 c = omega (arith, (written₃ c).room)
 
-sub_put_rows : tie.Need-overflow-sub-put-rows
+sub_put_rows : tie.Need-slice_bounds-put_rows-count
 sub_put_rows c = omega (arith, room₃ c)
 
-part_put_rows_start : tie.Need-slice-bounds-put-rows-start
+part_put_rows_start : tie.Need-slice_bounds-put_rows-start
 part_put_rows_start c = omega (arith, room₃ c)
 
-part_put_rows_end : tie.Need-slice-bounds-put-rows-end
+part_put_rows_end : tie.Need-slice_bounds-put_rows-end
 part_put_rows_end c = search rules
 
-put_rows_requires : tie.Need-put-rows-requires
+put_rows_requires : tie.Need-put_rows-at-requires
 put_rows_requires c κs = let h = (entry₃ c.before).requires.0 in (h.n_most, h.parameters_lent, h.parameters_within, h.numbers_lent, (room₃ c.before).1)
 
-add_at_3 : tie.Need-overflow-add-at-3
+add_at_3 : tie.Need-overflow_add-at-3
 add_at_3 c = omega (arith, (written₄ c).room)
 
-sub_put_head : tie.Need-overflow-sub-put-head
+sub_put_head : tie.Need-slice_bounds-put_head-count
 sub_put_head c = omega (arith, room₄ c)
 
-part_put_head_start : tie.Need-slice-bounds-put-head-start
+part_put_head_start : tie.Need-slice_bounds-put_head-start
 part_put_head_start c = omega (arith, room₄ c)
 
-part_put_head_end : tie.Need-slice-bounds-put-head-end
+part_put_head_end : tie.Need-slice_bounds-put_head-end
 part_put_head_end c = search rules
 
-put_head_requires : tie.Need-put-head-requires
+put_head_requires : tie.Need-put_head-requires
 put_head_requires c κs = (room₄ c.before).1
 
-add_result : tie.Need-overflow-add-result
-add_result c = let k = (end_put c).put-head.ensures.many_is in omega (arith, room₄ (before_end c))
+add_result : tie.Need-overflow_add-result
+add_result c = let k = (end_put c).put_head.ensures.many_is in omega (arith, room₄ (before_end c))
 
-same_length : tie.Need-same-length
+same_length : tie.Need-shape_of-out
 same_length c = search rules
 
 returns : tie.Need-returns
-returns c = put_all (wrote_put end [] _ (written₄ (before_end c)) refl (end_put c).put-head.ensures) refl
+returns c = put_all (wrote_put end [] _ (written₄ (before_end c)) refl (end_put c).put_head.ensures) refl
 
 pub put_file_spec : {M : Type 1} → statement M
 put_file_spec =

@@ -12,38 +12,38 @@ use Rattle.writer.proofs.put_head.Tie as tie
 
 -- the places: where the size is put, and where the call began
 
-abbrev size_put : tie.After-slice-known2 → tie.After-put-two
+abbrev size_put : tie.After-slice_known-2-1 → tie.After-put_two
 size_put c = c.before.before
 
-abbrev entry : tie.After-slice-known2 → tie.Start
+abbrev entry : tie.After-slice_known-2-1 → tie.Start
 entry c = (size_put c).before.before.before
 
 -- the bytes of the size, and what is written when they are left
 abbrev bytes : tie.Start → List ℕ
 bytes s = s.args.size % 256 ∷ s.args.size / 256 ∷ []
 
-tagged : (s : tie.Start) → let a = s.args in Wrote (a.tag ∷ bytes s) (bytes s) a.out.now (set a.out.now 0 a.tag) 1
-tagged s = let a = s.args in wrote_set a.tag (bytes s) (wrote_none (a.tag ∷ bytes s) a.out.now (omega arith)) refl
+tagged : (s : tie.Start) → let a = s.args in Wrote (a.tag ∷ bytes s) (bytes s) a.out-1.now (set a.out-1.now 0 a.tag) 1
+tagged s = let a = s.args in wrote_set a.tag (bytes s) (wrote_none (a.tag ∷ bytes s) a.out-1.now (omega arith)) refl
 
-slice_write_out : tie.Need-slice-write-out
+slice_write_out : tie.Need-bounds-out-0
 slice_write_out c = search rules
 
-sub_put_two : tie.Need-overflow-sub-put-two
+sub_put_two : tie.Need-slice_bounds-put_two-count
 sub_put_two c = simp length-set (omega arith)
 
-part_put_two_start : tie.Need-slice-bounds-put-two-start
+part_put_two_start : tie.Need-slice_bounds-put_two-start
 part_put_two_start c = simp length-set (omega arith)
 
-part_put_two_end : tie.Need-slice-bounds-put-two-end
+part_put_two_end : tie.Need-slice_bounds-put_two-end
 part_put_two_end c = search rules
 
-put_two_requires : tie.Need-put-two-requires
+put_two_requires : tie.Need-put_two-requires
 put_two_requires c κs = simp (length-take, length-drop, length-set) (omega arith)
 
-add_result : tie.Need-overflow-add-result
+add_result : tie.Need-overflow_add-result
 add_result c = search rules
 
-same_length : tie.Need-same-length
+same_length : tie.Need-shape_of-out
 same_length c = let s = entry c in (wrote_put (bytes s) [] _ (tagged s) refl (size_put c).put_two.ensures).same
 
 returns : tie.Need-returns

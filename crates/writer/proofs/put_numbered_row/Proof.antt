@@ -12,10 +12,10 @@ use Rattle.writer.proofs.put_numbered_row.Tie as tie
 
 -- the places: where the call began, and where the row is put
 
-abbrev entry : tie.After-put-parameter-row → tie.Start
+abbrev entry : tie.After-put_parameter_row-at → tie.Start
 entry c = c.before.before.before.before
 
-abbrev row_put : tie.After-slice-known2 → tie.After-put-parameter-row
+abbrev row_put : tie.After-slice_known-2-1 → tie.After-put_parameter_row-at
 row_put c = c.before.before
 
 -- the bytes of the row, and of its numbers
@@ -26,45 +26,45 @@ row s = parameter_bytes (length s.args.row.now) (whole s.args.set)
 abbrev own : tie.Start → List ℕ
 own s = number_bytes (length s.args.row.now) (whole s.args.set) s.args.row.now
 
-fits : (s : tie.Start) → length (row s) + length (own s) ≤ length s.args.out.now
+fits : (s : tie.Start) → length (row s) + length (own s) ≤ length s.args.out-1.now
 unfolding numbered_row_bytes
 fits s = omega (arith, length-append (row s) (own s), s.requires.2)
 
 -- there is room behind the row
-room : (c : tie.After-slice-known2) → let r = (row_put c).put-parameter-row in (r.result ≤ length r.last.0) × (length (own (entry (row_put c))) ≤ length r.last.0 - r.result)
+room : (c : tie.After-slice_known-2-1) → let r = (row_put c).put_parameter_row-at in (r.result ≤ length r.last.0) × (length (own (entry (row_put c))) ≤ length r.last.0 - r.result)
 room c =
-    let r = (row_put c).put-parameter-row.ensures in
+    let r = (row_put c).put_parameter_row-at.ensures in
     let f = fits (entry (row_put c)) in
     let same = put_same r (omega arith) in
     (omega (arith, r.many_is, same, f), omega (arith, r.many_is, same, f))
 
-put_parameter_row_requires : tie.Need-put-parameter-row-requires
+put_parameter_row_requires : tie.Need-put_parameter_row-at-requires
 put_parameter_row_requires c κs = let s = c.before.before.before in omega (arith, fits s)
 
-sub_put_numbers : tie.Need-overflow-sub-put-numbers
+sub_put_numbers : tie.Need-slice_bounds-put_numbers-count
 sub_put_numbers c = (room c).0
 
-part_put_numbers_start : tie.Need-slice-bounds-put-numbers-start
+part_put_numbers_start : tie.Need-slice_bounds-put_numbers-start
 part_put_numbers_start c = omega (arith, room c)
 
-part_put_numbers_end : tie.Need-slice-bounds-put-numbers-end
+part_put_numbers_end : tie.Need-slice_bounds-put_numbers-end
 part_put_numbers_end c = search rules
 
-put_numbers_requires : tie.Need-put-numbers-requires
+put_numbers_requires : tie.Need-put_numbers-requires
 put_numbers_requires c κs =
     let d = c.before in
     let s = entry (row_put d) in
-    (s.pre.0, s.pre.1, omega (arith, room d, left_length (row_put d).put-parameter-row.result (row_put d).put-parameter-row.new.0))
+    (s.requires.0, s.requires.1, omega (arith, room d, left_length (row_put d).put_parameter_row-at.result (row_put d).put_parameter_row-at.new.0))
 
-add_result : tie.Need-overflow-add-result
-add_result c = let d = c.before.before in let r = row_put d.before.before in let s = entry r in omega (arith, r.put-parameter-row.ensures.many_is, d.put-numbers.ensures.many_is, fits s, s.good)
+add_result : tie.Need-overflow_add-result
+add_result c = let d = c.before.before in let r = row_put d.before.before in let s = entry r in omega (arith, r.put_parameter_row-at.ensures.many_is, d.put_numbers.ensures.many_is, fits s, s.good)
 
-same_length : tie.Need-same-length
+same_length : tie.Need-shape_of-out
 same_length c = search rules
 
 returns : tie.Need-returns
 unfolding numbered_row_bytes
-returns c = let d = c.before.before in put_next (row_put d.before.before).put-parameter-row.ensures d.put-numbers.ensures
+returns c = let d = c.before.before in put_next (row_put d.before.before).put_parameter_row-at.ensures d.put_numbers.ensures
 
 pub put_numbered_row_spec : {M : Type 1} → statement M
 put_numbered_row_spec =

@@ -18,44 +18,44 @@ use Rattle.writer.proofs.put_rows.Tie as tie
 abbrev bytes : tie.Start → Bool → List ℕ
 bytes s t = let a = s.args in rows_bytes a.n (take a.b (row_numbers a.parameters.now)) (lent t a.numbers.now)
 
-put_parameter_rows_requires : tie.Need-put-parameter-rows-requires
+put_parameter_rows_requires : tie.Need-put_parameter_rows-requires
 unfolding rows_bytes lent
 put_parameter_rows_requires c κs =
     let s = c.before.before.before.before.before in
-    (s.requires.1, subst (λ (t : Bool). length (bytes s t) ≤ length s.args.out.now) (not-true s.args.numbered c.before.if1.true) s.requires.4)
+    (s.requires.1, subst (λ (t : Bool). length (bytes s t) ≤ length s.args.out-1.now) (not-true s.args.numbered c.before.if-not-numbered.true-raw) s.requires.4)
 
-same_length : tie.Need-same-length
+same_length : tie.Need-shape_of-out-then-not-numbered
 same_length c = search rules
 
-returns : tie.Need-returns
+returns : tie.Need-returns-then-not-numbered
 unfolding rows_bytes lent
 returns c =
     let d = c.before.before in
     let s = d.before.before.before.before.before.before in
-    subst (λ (t : Bool). Put (bytes s t) s.args.out.now d.put-parameter-rows.new.0 d.put-parameter-rows.result) (sym (not-true s.args.numbered d.before.before.if1.true)) d.put-parameter-rows.ensures
+    subst (λ (t : Bool). Put (bytes s t) s.args.out-1.now d.put_parameter_rows.new.0 d.put_parameter_rows.result) (sym (not-true s.args.numbered d.before.before.if-not-numbered.true-raw)) d.put_parameter_rows.ensures
 
-put_numbered_rows_requires : tie.Need-put-numbered-rows-requires
+put_numbered_rows_requires : tie.Need-put_numbered_rows-requires
 unfolding rows_bytes lent numbers_room
 put_numbered_rows_requires c κs =
     let s = c.before.before.before.before.before in
     let a = s.args in
-    let t = not-false a.numbered c.before.if1.false in (
+    let t = not-false a.numbered c.before.if-not-numbered.false-raw in (
       s.requires.0,
       s.requires.1,
       s.requires.2,
       (area_reads _ _).0 (subst (λ (t : Bool). numbers_room (a.b * a.n) (lent t a.numbers.now) ≡ true) t s.requires.3),
-      subst (λ (t : Bool). length (bytes s t) ≤ length a.out.now) t s.requires.4,
+      subst (λ (t : Bool). length (bytes s t) ≤ length a.out-1.now) t s.requires.4,
     )
 
-same_length_2 : tie.Need-same-length-2
+same_length_2 : tie.Need-shape_of-out
 same_length_2 c = search rules
 
-returns_2 : tie.Need-returns-2
+returns_2 : tie.Need-returns
 unfolding rows_bytes lent
 returns_2 c =
     let d = c.before.before in
     let s = d.before.before.before.before.before.before in
-    subst (λ (t : Bool). Put (bytes s t) s.args.out.now d.put-numbered-rows.new.0 d.put-numbered-rows.result) (sym (not-false s.args.numbered d.before.before.if1.false)) d.put-numbered-rows.ensures
+    subst (λ (t : Bool). Put (bytes s t) s.args.out-1.now d.put_numbered_rows.new.0 d.put_numbered_rows.result) (sym (not-false s.args.numbered d.before.before.if-not-numbered.false-raw)) d.put_numbered_rows.ensures
 
 pub put_rows_spec : {M : Type 1} → statement M
 put_rows_spec =

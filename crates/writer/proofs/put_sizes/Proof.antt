@@ -14,48 +14,48 @@ use Rattle.writer.proofs.put_sizes.Tie as tie
 
 -- the places: where the head is put, and where the call began
 
-abbrev head_put : tie.After-slice-known2 → tie.After-put-head
+abbrev head_put : tie.After-slice_known-2-1 → tie.After-put_head-at
 head_put c = c.before.before
 
-abbrev entry : tie.After-slice-known2 → tie.Start
+abbrev entry : tie.After-slice_known-2-1 → tie.Start
 entry c = (head_put c).before.before.before
 
 -- there is room behind the head
-room : (c : tie.After-slice-known2) → let h = (head_put c).put-head in h.result + 3 ≤ length h.last.0
-room c = let h = (head_put c).put-head.ensures in omega (arith, h.many_is, put_same h (omega arith))
+room : (c : tie.After-slice_known-2-1) → let h = (head_put c).put_head-at in h.result + 3 ≤ length h.last.0
+room c = let h = (head_put c).put_head-at.ensures in omega (arith, h.many_is, put_same h (omega arith))
 
-cast_put_head : tie.Need-overflow-cast-put-head
+cast_put_head : tie.Need-overflow_cast-put_head
 cast_put_head c = search rules
 
-put_head_requires : tie.Need-put-head-requires
+put_head_requires : tie.Need-put_head-at-requires
 put_head_requires c κs = search rules
 
-slice_write_out : tie.Need-slice-write-out
+slice_write_out : tie.Need-bounds-out-at
 slice_write_out c = search rules
 
-add_at : tie.Need-overflow-add-at
+add_at : tie.Need-overflow_add-at
 add_at c = search rules
 
-slice_write_out_2 : tie.Need-slice-write-out-2
+slice_write_out_2 : tie.Need-bounds-out-at-2
 slice_write_out_2 c = simp length-set (omega (arith, room c))
 
-add_at_2 : tie.Need-overflow-add-at-2
+add_at_2 : tie.Need-overflow_add-at-2
 add_at_2 c = search rules
 
-slice_write_out_3 : tie.Need-slice-write-out-3
+slice_write_out_3 : tie.Need-bounds-out-at-3
 slice_write_out_3 c = simp (length-set, length-set) (omega (arith, room c))
 
-add_result : tie.Need-overflow-add-result
+add_result : tie.Need-overflow_add-result
 add_result c = search rules
 
-same_length : tie.Need-same-length
+same_length : tie.Need-shape_of-out
 same_length c = search rules
 
 returns : tie.Need-returns
 returns c =
     let a = (entry c).args in
     let sizes : List ℕ = a.n ∷ a.a ∷ a.b ∷ [] in
-    let w = first_put (field_bytes sizes_tag 3 sizes) (field_bytes sizes_tag 3 []) sizes refl (entry c).requires (head_put c).put-head.ensures in
+    let w = first_put (field_bytes sizes_tag 3 sizes) (field_bytes sizes_tag 3 []) sizes refl (entry c).requires (head_put c).put_head-at.ensures in
     put_all (wrote_set a.b [] (wrote_set a.a (a.b ∷ []) (wrote_set a.n (a.a ∷ a.b ∷ []) w refl) refl) refl) refl
 
 pub put_sizes_spec : {M : Type 1} → statement M

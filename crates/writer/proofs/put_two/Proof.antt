@@ -8,19 +8,19 @@ use Rattle.format.proofs.Puts.{put_all}
 use Rattle.writer.proofs.put_two.Statement.{statement}
 use Rattle.writer.proofs.put_two.Tie as tie
 
-cast_out : tie.Need-overflow-cast-out
+cast_out : tie.Need-overflow_cast-out
 cast_out c = search rules
 
-slice_write_out : tie.Need-slice-write-out
+slice_write_out : tie.Need-bounds-out-0
 slice_write_out c = search rules
 
-cast_out_2 : tie.Need-overflow-cast-out-2
+cast_out_2 : tie.Need-overflow_cast-out-2
 cast_out_2 c = search rules
 
-slice_write_out_2 : tie.Need-slice-write-out-2
+slice_write_out_2 : tie.Need-bounds-out-1
 slice_write_out_2 c = search rules
 
-same_length : tie.Need-same-length
+same_length : tie.Need-shape_of-out
 same_length c = search rules
 
 returns : tie.Need-returns

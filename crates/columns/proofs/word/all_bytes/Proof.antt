@@ -7,48 +7,48 @@ use Rattle.columns.proofs.word.all_bytes.Statement.{statement}
 use Rattle.columns.proofs.word.all_bytes.Tie as tie
 
 -- where the call begins
-abbrev begun : tie.After-four-bytes2 → tie.Start
+abbrev begun : tie.After-four_bytes-high → tie.Start
 begun c = c.before.before.before.before.before.before.before.before.before.before.before
 
-shared_slice_read_four_bytes : tie.Need-shared-slice-read-four-bytes
+shared_slice_read_four_bytes : tie.Need-bounds-bytes-0
 shared_slice_read_four_bytes c = search rules
 
-shared_slice_read_four_bytes_2 : tie.Need-shared-slice-read-four-bytes-2
+shared_slice_read_four_bytes_2 : tie.Need-bounds-bytes-1
 shared_slice_read_four_bytes_2 c = search rules
 
-shared_slice_read_four_bytes_3 : tie.Need-shared-slice-read-four-bytes-3
+shared_slice_read_four_bytes_3 : tie.Need-bounds-bytes-2
 shared_slice_read_four_bytes_3 c = search rules
 
-shared_slice_read_four_bytes_4 : tie.Need-shared-slice-read-four-bytes-4
+shared_slice_read_four_bytes_4 : tie.Need-bounds-bytes-3
 shared_slice_read_four_bytes_4 c = search rules
 
-four_bytes_requires : tie.Need-four-bytes-requires
+four_bytes_requires : tie.Need-four_bytes-low-requires
 four_bytes_requires c κs = search rules
 
-shared_slice_read_four_bytes_5 : tie.Need-shared-slice-read-four-bytes-5
+shared_slice_read_four_bytes_5 : tie.Need-bounds-bytes-4
 shared_slice_read_four_bytes_5 c = search rules
 
-shared_slice_read_four_bytes_6 : tie.Need-shared-slice-read-four-bytes-6
+shared_slice_read_four_bytes_6 : tie.Need-bounds-bytes-5
 shared_slice_read_four_bytes_6 c = search rules
 
-shared_slice_read_four_bytes_7 : tie.Need-shared-slice-read-four-bytes-7
+shared_slice_read_four_bytes_7 : tie.Need-bounds-bytes-6
 shared_slice_read_four_bytes_7 c = search rules
 
-shared_slice_read_four_bytes_8 : tie.Need-shared-slice-read-four-bytes-8
+shared_slice_read_four_bytes_8 : tie.Need-bounds-bytes-7
 shared_slice_read_four_bytes_8 c = search rules
 
-four_bytes_requires_2 : tie.Need-four-bytes-requires-2
+four_bytes_requires_2 : tie.Need-four_bytes-high-requires
 four_bytes_requires_2 c κs = search rules
 
-mul_result : tie.Need-overflow-mul-result
+mul_result : tie.Need-overflow_mul-result
 mul_result c = search rules
 
-add_result : tie.Need-overflow-add-result
+add_result : tie.Need-overflow_add-result
 add_result c = search rules
 
 returns : tie.Need-returns
 returns c =
-    ap₂ (λ (low high : ℕ). low + 4294967296 * high) c.before.before.before.before.before.four_bytes.ensures.0 c.four-bytes2.ensures.0
+    ap₂ (λ (low high : ℕ). low + 4294967296 * high) c.before.before.before.before.before.four_bytes-low.ensures.0 c.four_bytes-high.ensures.0
     ∙ sym (number_eight (begun c).args.bytes.now)
 
 pub all_bytes_spec : {M : Type 1} → statement M

@@ -13,10 +13,10 @@ use Rattle.columns.specs.Columns.{word_width, word_bytes}
 use Rattle.columns.proofs.word.few_bytes.Statement.{statement}
 use Rattle.columns.proofs.word.few_bytes.Tie as tie
 
-abbrev invariant-loop : tie.invariant-loop
+abbrev invariant-loop : tie.invariant-loop-k
 invariant-loop bytes word₀ k₀ word k = (k ≤ word_bytes) × (word ≡ number (take (word_bytes - k) (drop k bytes)))
 
-abbrev decreases-loop : tie.decreases-loop
+abbrev decreases-loop : tie.decreases-loop-k
 decreases-loop bytes word₀ k₀ word k = k
 
 small : (bs : List ℕ) (k word : ℕ) → AreBytes bs → 0 < k → word ≡ number (take (word_bytes - k) (drop k bs)) → word < 2 ^ (word_width - 8)
@@ -36,43 +36,43 @@ turn bs (suc j) word byte l h e d =
     ∙ number_front j (word_bytes - suc j) bs
     ∙ sym (ap (λ (m : ℕ). number (take m (drop (suc j - 1) bs))) more ∙ ap (λ (i : ℕ). number (take (suc (word_bytes - suc j)) (drop i bs))) at)
 
-loop_holds : tie.Need-loop-init invariant-loop decreases-loop
+loop_holds : tie.Need-loop-k-init invariant-loop decreases-loop
 loop_holds c = (omega arith, refl)
 
-sub_k : tie.Need-overflow-sub-k invariant-loop decreases-loop
+sub_k : tie.Need-overflow_sub-k invariant-loop decreases-loop
 sub_k c = omega arith
 
-mul_word : tie.Need-overflow-mul-word invariant-loop decreases-loop
+mul_word : tie.Need-overflow_mul-word invariant-loop decreases-loop
 mul_word c =
-    let v = c.before.loop in
-    omega (arith, small _ v.k v.word (λ i. search (rules, c.before.before.shared-slice-known.given i)) c.loop-test.true v.invariant.1)
+    let v = c.before.loop-k in
+    omega (arith, small _ v.k v.word (λ i. search (rules, c.before.before.shared_slice_known-1.given i)) c.loop-k-test.true v.invariant.1)
 
-byte_or_zero_requires : tie.Need-byte-or-zero-requires invariant-loop decreases-loop
+byte_or_zero_requires : tie.Need-byte_or_zero-requires invariant-loop decreases-loop
 byte_or_zero_requires c κs = search rules
 
-add_word : tie.Need-overflow-add-word invariant-loop decreases-loop
+add_word : tie.Need-overflow_add-word invariant-loop decreases-loop
 add_word c =
-    let v = c.before.before.loop in
-    let known = c.before.before.before.shared-slice-known.given in
+    let v = c.before.before.loop-k in
+    let known = c.before.before.before.shared_slice_known-1.given in
     omega (
       arith,
-      small _ v.k v.word (λ i. search (rules, known i)) c.before.loop-test.true v.invariant.1,
-      c.byte-or-zero.ensures,
+      small _ v.k v.word (λ i. search (rules, known i)) c.before.loop-k-test.true v.invariant.1,
+      c.byte_or_zero.ensures,
       known (v.k - 1),
     )
 
-loop_less : tie.Need-loop-smaller invariant-loop decreases-loop
+loop_less : tie.Need-loop-k-smaller invariant-loop decreases-loop
 loop_less c = omega arith
 
-loop_again : tie.Need-loop-preserved invariant-loop decreases-loop
+loop_again : tie.Need-loop-k-preserved invariant-loop decreases-loop
 loop_again c =
-    let v = c.before.before.loop in
-    (omega arith, turn _ v.k v.word c.byte-or-zero.result c.before.loop-test.true v.invariant.0 v.invariant.1 c.byte-or-zero.ensures)
+    let v = c.before.before.loop-k in
+    (omega arith, turn _ v.k v.word c.byte_or_zero.result c.before.loop-k-test.true v.invariant.0 v.invariant.1 c.byte_or_zero.ensures)
 
 returns : tie.Need-returns invariant-loop decreases-loop
 returns c =
-    let v = c.before.loop in
-    let done : v.k ≡ 0 = omega (arith, c.loop-test.false) in
+    let v = c.before.loop-k in
+    let done : v.k ≡ 0 = omega (arith, c.loop-k-test.false) in
     v.invariant.1 ∙ ap (λ (k : ℕ). number (take (word_bytes - k) (drop k c.before.before.before.args.bytes.now))) done
 
 pub few_bytes_spec : {M : Type 1} → statement M

@@ -5,7 +5,7 @@ use Rattle.columns.specs.Words.Operations.{least_zeros, least_le}
 use Rattle.columns.proofs.word.first.Statement.{statement}
 use Rattle.columns.proofs.word.first.Tie as tie
 
-cast_result : tie.Need-overflow-cast-result
+cast_result : tie.Need-overflow_cast-result
 cast_result c = omega (arith, least_zeros word_width c.args.word, least_le word_width (members c.args.word))
 
 returns : tie.Need-returns

@@ -6,14 +6,14 @@ use borrow.Author.Rules.{rules}
 use Rattle.columns.proofs.word.lowered.Statement.{statement}
 use Rattle.columns.proofs.word.lowered.Tie as tie
 
-shr_result : tie.Need-overflow-shr-result
+shr_result : tie.Need-overflow_shr-result
 shr_result c = search rules
 
-returns : tie.Need-returns
+returns : tie.Need-returns-then-m-lt-WIDTH
 returns c = members_down c.before.args.word c.before.args.m
 
-returns_2 : tie.Need-returns-2
-returns_2 c = members_zero ∙ none_down word_width c.before.args.word c.before.args.m (search rules) c.if1.false
+returns_2 : tie.Need-returns
+returns_2 c = members_zero ∙ none_down word_width c.before.args.word c.before.args.m (search rules) c.if-m-lt-WIDTH.false
 
 pub lowered_spec : {M : Type 1} → statement M
 lowered_spec = tie.close (tie.spec shr_result returns returns_2)

@@ -6,14 +6,14 @@ use borrow.Author.Rules.{rules}
 use Rattle.columns.proofs.word.raised.Statement.{statement}
 use Rattle.columns.proofs.word.raised.Tie as tie
 
-shl_result : tie.Need-overflow-shl-result
+shl_result : tie.Need-overflow_shl-result
 shl_result c = search rules
 
-returns : tie.Need-returns
+returns : tie.Need-returns-then-m-lt-WIDTH
 returns c = members_up word_width c.before.args.word c.before.args.m
 
-returns_2 : tie.Need-returns-2
-returns_2 c = members_zero ∙ none_up word_width (members c.before.args.word) c.before.args.m c.if1.false
+returns_2 : tie.Need-returns
+returns_2 c = members_zero ∙ none_up word_width (members c.before.args.word) c.before.args.m c.if-m-lt-WIDTH.false
 
 pub raised_spec : {M : Type 1} → statement M
 raised_spec = tie.close (tie.spec shl_result returns returns_2)

@@ -7,7 +7,7 @@ use Rattle.columns.specs.Words.Operations.{size_ones}
 use Rattle.columns.proofs.word.size.Statement.{statement}
 use Rattle.columns.proofs.word.size.Tie as tie
 
-cast_result : tie.Need-overflow-cast-result
+cast_result : tie.Need-overflow_cast-result
 cast_result c = omega (arith, size_ones word_width c.args.word (search rules), #-le word_width (members c.args.word))
 
 returns : tie.Need-returns

@@ -9,16 +9,16 @@ use Rattle.columns.specs.Words.Operations.{members_with, inserted_beyond}
 use Rattle.columns.proofs.word.with.Statement.{statement}
 use Rattle.columns.proofs.word.with.Tie as tie
 
-shl_result : tie.Need-overflow-shl-result
+shl_result : tie.Need-overflow_shl-result
 shl_result c = search rules
 
-returns : tie.Need-returns
+returns : tie.Need-returns-then-x-lt-WIDTH
 returns c =
     let a = c.before.args in
-    ap (λ (m : ℕ). members (bit_or a.word m)) (shl_one a.x c.if1.true) ∙ members_with word_width a.word a.x c.if1.true
+    ap (λ (m : ℕ). members (bit_or a.word m)) (shl_one a.x c.if-x-lt-WIDTH.true) ∙ members_with word_width a.word a.x c.if-x-lt-WIDTH.true
 
-returns_2 : tie.Need-returns-2
-returns_2 c = inserted_beyond word_width (members c.before.args.word) c.before.args.x c.if1.false
+returns_2 : tie.Need-returns
+returns_2 c = inserted_beyond word_width (members c.before.args.word) c.before.args.x c.if-x-lt-WIDTH.false
 
 pub with_spec : {M : Type 1} → statement M
 with_spec = tie.close (tie.spec shl_result returns returns_2)

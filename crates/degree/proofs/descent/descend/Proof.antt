@@ -27,69 +27,69 @@ Held p n a b cs₀ ws rp cp pp cs levels heights k s =
     (Q : ℕ → ℕ → (field_of p).F) → ConstantsShown p n a Q cs₀ → rank (layered (model_with p n a b Q ws rp cp pp)) ≡ n
     → Descending p n a b Q ws rp cp pp cs levels heights k × SolvedBy (tight_part p n a b Q ws rp cp pp cs levels heights) s
 
-abbrev invariant-loop : tie.invariant-loop
+abbrev invariant-loop : tie.invariant-loop-s
 invariant-loop p n a b constants₀ parameters rowpowers columnpowers parameterpowers heights₀ levels₀ risen₀ s₀ constants heights levels risen s =
     (length constants ≡ length constants₀) × (length heights ≡ most_columns) × (length levels ≡ most_columns)
     × Held p n a b constants₀ (row_numbers parameters) rowpowers columnpowers parameterpowers constants levels heights risen s
 
-abbrev decreases-loop : tie.decreases-loop
+abbrev decreases-loop : tie.decreases-loop-s
 decreases-loop p n a b constants₀ parameters rowpowers columnpowers parameterpowers heights₀ levels₀ risen₀ s₀ constants heights levels risen s = 3000 - risen
 
 -- where the call begins: seen from where the first heights are known, the first levels, and from the loop
-abbrev begun : tie.After-first-heights invariant-loop decreases-loop → tie.Start invariant-loop decreases-loop
+abbrev begun : tie.After-first_heights-heights invariant-loop decreases-loop → tie.Start invariant-loop decreases-loop
 begun c = c.before.before.before.before.before.before
 
-abbrev raised : tie.After-tops invariant-loop decreases-loop → tie.After-first-heights invariant-loop decreases-loop
+abbrev raised : tie.After-tops-levels invariant-loop decreases-loop → tie.After-first_heights-heights invariant-loop decreases-loop
 raised c = c.before.before.before.before.before.before.before
 
-abbrev levelled : tie.At-loop invariant-loop decreases-loop → tie.After-tops invariant-loop decreases-loop
+abbrev levelled : tie.At-loop-s invariant-loop decreases-loop → tie.After-tops-levels invariant-loop decreases-loop
 levelled c = c.before.before.before.before.before
 
-abbrev start : tie.At-loop invariant-loop decreases-loop → tie.Start invariant-loop decreases-loop
+abbrev start : tie.At-loop-s invariant-loop decreases-loop → tie.Start invariant-loop decreases-loop
 start c = begun (raised (levelled c))
 
 -- the first state
-first_state : (c : tie.After-tops invariant-loop decreases-loop) → let k = begun (raised c) in let a = k.args in
-    (Q : ℕ → ℕ → (field_of a.p).F) → ConstantsShown a.p a.n a.a Q a.constants.now
+first_state : (c : tie.After-tops-levels invariant-loop decreases-loop) → let k = begun (raised c) in let a = k.args in
+    (Q : ℕ → ℕ → (field_of a.p).F) → ConstantsShown a.p a.n a.a Q a.constants-1.now
     → rank (layered (model_with a.p a.n a.a a.b Q (row_numbers a.parameters.now) a.rowpowers.now a.columnpowers.now a.parameterpowers.now)) ≡ a.n
-    → Descending a.p a.n a.a a.b Q (row_numbers a.parameters.now) a.rowpowers.now a.columnpowers.now a.parameterpowers.now a.constants.now
-    c.tops.result (raised c).first-heights.result 0
+    → Descending a.p a.n a.a a.b Q (row_numbers a.parameters.now) a.rowpowers.now a.columnpowers.now a.parameterpowers.now a.constants-1.now
+    c.tops-levels.result (raised c).first_heights-heights.result 0
 first_state c Q shown full =
     let f = raised c in
     let w = c.before.before.before.before in
-    descending_starts _ _ _ _ Q _ _ _ _ _ (begun f).pre.0 shown full _ w.before.before.below.ensures _ _ w.weights.result f.first-heights.ensures w.weights.ensures c.tops.ensures
-    (search (rules, c.tops.type-inv)) (search (rules, f.first-heights.ok))
+    descending_starts _ _ _ _ Q _ _ _ _ _ (begun f).requires.0 shown full _ w.before.before.below-all.ensures _ _ w.weights-weights.result f.first_heights-heights.ensures w.weights-weights.ensures c.tops-levels.ensures
+    (search (rules, c.tops-levels.type-inv)) (search (rules, f.first_heights-heights.ok))
 
 -- the state of a turn, of the constants that are known to be there
-now_state : (c : tie.At-loop invariant-loop decreases-loop) → let k = start c in let a = k.args in let l = c.loop in
-    Descending a.p a.n a.a a.b k.pre.1.0 (row_numbers a.parameters.now) a.rowpowers.now a.columnpowers.now a.parameterpowers.now l.constants l.levels l.heights l.risen
-    × SolvedBy (tight_part a.p a.n a.a a.b k.pre.1.0 (row_numbers a.parameters.now) a.rowpowers.now a.columnpowers.now a.parameterpowers.now l.constants l.levels l.heights) l.s
-now_state c = let k = start c in c.loop.invariant.3 k.pre.1.0 k.pre.1.1 k.pre.1.2
+now_state : (c : tie.At-loop-s invariant-loop decreases-loop) → let k = start c in let a = k.args in let l = c.loop-s in
+    Descending a.p a.n a.a a.b k.requires.1.0 (row_numbers a.parameters.now) a.rowpowers.now a.columnpowers.now a.parameterpowers.now l.constants-1 l.levels-1 l.heights-1 l.risen
+    × SolvedBy (tight_part a.p a.n a.a a.b k.requires.1.0 (row_numbers a.parameters.now) a.rowpowers.now a.columnpowers.now a.parameterpowers.now l.constants-1 l.levels-1 l.heights-1) l.s
+now_state c = let k = start c in c.loop-s.invariant.3 k.requires.1.0 k.requires.1.1 k.requires.1.2
 
-first_heights_requires : tie.Need-first-heights-requires invariant-loop decreases-loop
+first_heights_requires : tie.Need-first_heights-heights-requires invariant-loop decreases-loop
 first_heights_requires c κs =
     let r = c.before.before.before.before.before.requires.0 in
     (r.columns, r.column_powers_lent, r.column_powers_low, r.powers_lent, r.rows_within, r.powers_low)
 
-below_requires : tie.Need-below-requires invariant-loop decreases-loop
+below_requires : tie.Need-below-all-requires invariant-loop decreases-loop
 below_requires c κs = search rules
 
-slice_aggregate_weights : tie.Need-slice-aggregate-weights invariant-loop decreases-loop
+slice_aggregate_weights : tie.Need-slice_bounds-weights-end invariant-loop decreases-loop
 slice_aggregate_weights c = search rules
 
-weights_requires : tie.Need-weights-requires invariant-loop decreases-loop
+weights_requires : tie.Need-weights-weights-requires invariant-loop decreases-loop
 weights_requires c κs =
     let f = c.before.before in
     let r = (begun f).requires.0 in
-    (r.columns, r.column_powers_lent, omega (arith, r.columns), λ x l. omega (arith, (f.first-heights.ensures x l).1))
+    (r.columns, r.column_powers_lent, omega (arith, r.columns), λ x l. omega (arith, (f.first_heights-heights.ensures x l).1))
 
-slice_aggregate_tops : tie.Need-slice-aggregate-tops invariant-loop decreases-loop
+slice_aggregate_tops : tie.Need-slice_bounds-tops-end invariant-loop decreases-loop
 slice_aggregate_tops c = search rules
 
-slice_aggregate_tops_2 : tie.Need-slice-aggregate-tops-2 invariant-loop decreases-loop
+slice_aggregate_tops_2 : tie.Need-slice_bounds-tops-end-2 invariant-loop decreases-loop
 slice_aggregate_tops_2 c = search rules
 
-tops_requires : tie.Need-tops-requires invariant-loop decreases-loop
+tops_requires : tie.Need-tops-levels-requires invariant-loop decreases-loop
 tops_requires c κs =
     let f = c.before.before.before.before.before.before in
     let r = (begun f).requires.0 in
@@ -101,123 +101,123 @@ tops_requires c κs =
       powers_lent = r.powers_lent;
       weights_lent = omega (arith, r.columns);
       heights_lent = omega (arith, r.columns);
-      heights_low = λ x l. omega (arith, (f.first-heights.ensures x l).1);
+      heights_low = λ x l. omega (arith, (f.first_heights-heights.ensures x l).1);
     }
 
-slice_aggregate_solve_tight : tie.Need-slice-aggregate-solve-tight invariant-loop decreases-loop
+slice_aggregate_solve_tight : tie.Need-slice_bounds-solve_tight-end invariant-loop decreases-loop
 slice_aggregate_solve_tight c = search rules
 
-slice_aggregate_solve_tight_2 : tie.Need-slice-aggregate-solve-tight-2 invariant-loop decreases-loop
+slice_aggregate_solve_tight_2 : tie.Need-slice_bounds-solve_tight-end-2 invariant-loop decreases-loop
 slice_aggregate_solve_tight_2 c = search rules
 
-solve_tight_requires : tie.Need-solve-tight-requires invariant-loop decreases-loop
+solve_tight_requires : tie.Need-solve_tight-s-requires invariant-loop decreases-loop
 solve_tight_requires c κs =
     let t = c.before.before.before in
     let k = begun (raised t) in
-    (k.pre.1.0, k.args.rowpowers.now, 0, first_state t k.pre.1.0 k.pre.1.1 k.pre.1.2)
+    (k.requires.1.0, k.args.rowpowers.now, 0, first_state t k.requires.1.0 k.requires.1.1 k.requires.1.2)
 
-loop_holds : tie.Need-loop-init invariant-loop decreases-loop
+loop_holds : tie.Need-loop-s-init invariant-loop decreases-loop
 loop_holds c =
     let t = c.before.before.before.before in (
       refl,
-      search (rules, (raised t).first-heights.type-inv),
-      search (rules, t.tops.type-inv),
-      λ Q shown full. let d = first_state t Q shown full in (d, c.solve-tight.ensures Q _ 0 d),
+      search (rules, (raised t).first_heights-heights.type-inv),
+      search (rules, t.tops-levels.type-inv),
+      λ Q shown full. let d = first_state t Q shown full in (d, c.solve_tight-s.ensures Q _ 0 d),
     )
 
-slice_aggregate_turn : tie.Need-slice-aggregate-turn invariant-loop decreases-loop
+slice_aggregate_turn : tie.Need-slice_bounds-turn-end invariant-loop decreases-loop
 slice_aggregate_turn c = search rules
 
-slice_aggregate_turn_2 : tie.Need-slice-aggregate-turn-2 invariant-loop decreases-loop
+slice_aggregate_turn_2 : tie.Need-slice_bounds-turn-end-in-loop-s invariant-loop decreases-loop
 slice_aggregate_turn_2 c = search rules
 
 -- where the turn begins, seen from where its levels and heights are lent
-abbrev entered : tie.After-heights4 invariant-loop decreases-loop → tie.At-loop invariant-loop decreases-loop
+abbrev entered : tie.After-heights-in-loop-s-1 invariant-loop decreases-loop → tie.At-loop-s invariant-loop decreases-loop
 entered c = c.before.before.before.before.before
 
 -- the short set is small in every state of which the loop speaks
-turn_small : (c : tie.After-heights4 invariant-loop decreases-loop) → let m = entered c in let a = (start m).args in let l = m.loop in
+turn_small : (c : tie.After-heights-in-loop-s-1 invariant-loop decreases-loop) → let m = entered c in let a = (start m).args in let l = m.loop-s in
     (Q : ℕ → ℕ → (field_of a.p).F)
-    → Descending a.p a.n a.a a.b Q (row_numbers a.parameters.now) a.rowpowers.now a.columnpowers.now a.parameterpowers.now l.constants l.levels l.heights l.risen
-    → SolvedBy (tight_part a.p a.n a.a a.b Q (row_numbers a.parameters.now) a.rowpowers.now a.columnpowers.now a.parameterpowers.now l.constants l.levels l.heights) l.s
-    → sum (tight_part a.p a.n a.a a.b Q (row_numbers a.parameters.now) a.rowpowers.now a.columnpowers.now a.parameterpowers.now l.constants l.levels l.heights) (members (whole l.s.short)) < a.n
+    → Descending a.p a.n a.a a.b Q (row_numbers a.parameters.now) a.rowpowers.now a.columnpowers.now a.parameterpowers.now l.constants-1 l.levels-1 l.heights-1 l.risen
+    → SolvedBy (tight_part a.p a.n a.a a.b Q (row_numbers a.parameters.now) a.rowpowers.now a.columnpowers.now a.parameterpowers.now l.constants-1 l.levels-1 l.heights-1) l.s
+    → sum (tight_part a.p a.n a.a a.b Q (row_numbers a.parameters.now) a.rowpowers.now a.columnpowers.now a.parameterpowers.now l.constants-1 l.levels-1 l.heights-1) (members (whole l.s.short)) < a.n
 turn_small c Q d h =
     let m = entered c in
     let a = (start m).args in
-    let l = m.loop in
+    let l = m.loop-s in
     short_set_is_small (model_with a.p a.n a.a a.b Q (row_numbers a.parameters.now) a.rowpowers.now a.columnpowers.now a.parameterpowers.now) first_most l.risen
-    (tableau_of a.p a.n l.constants) (λ q. get_or l.levels q 0) (λ x. get_or l.heights x 0) d.after
-    l.s.rank (members (whole l.s.placed)) (members (whole l.s.constants)) (members (whole l.s.short)) l.s.rows h c.before.before.before.if1.true
+    (tableau_of a.p a.n l.constants-1) (λ q. get_or l.levels-1 q 0) (λ x. get_or l.heights-1 x 0) d.after
+    l.s.rank (members (whole l.s.placed)) (members (whole l.s.constants-1)) (members (whole l.s.short)) l.s.rows h c.before.before.before.loop-s-test.true
 
-turn_requires : tie.Need-turn-requires invariant-loop decreases-loop
+turn_requires : tie.Need-turn-rise-requires invariant-loop decreases-loop
 turn_requires c κs =
     let m = entered c in
     let k = start m in
     let w = now_state m in
-    (k.pre.1.0, k.args.rowpowers.now, m.loop.risen, w.0, turn_small c k.pre.1.0 w.0 w.1)
+    (k.requires.1.0, k.args.rowpowers.now, m.loop-s.risen, w.0, turn_small c k.requires.1.0 w.0 w.1)
 
-cast_risen : tie.Need-overflow-cast-risen invariant-loop decreases-loop
+cast_risen : tie.Need-overflow_cast-risen invariant-loop decreases-loop
 cast_risen c = search rules
 
 -- the turn, seen from where the state after it is known
-abbrev turned : tie.After-heights5 invariant-loop decreases-loop → tie.After-turn invariant-loop decreases-loop
+abbrev turned : tie.After-heights-in-loop-s-2-1 invariant-loop decreases-loop → tie.After-turn-rise invariant-loop decreases-loop
 turned c = c.before.before.before.before
 
-add_risen : tie.Need-overflow-add-risen invariant-loop decreases-loop
+add_risen : tie.Need-overflow_add-risen invariant-loop decreases-loop
 add_risen c =
     let m = entered (turned c).before in
     omega (arith, risen_small _ _ _ _ _ _ _ _ _ _ _ _ _ (now_state m).0)
 
-slice_aggregate_solve_tight_3 : tie.Need-slice-aggregate-solve-tight-3 invariant-loop decreases-loop
+slice_aggregate_solve_tight_3 : tie.Need-slice_bounds-solve_tight-end-in-loop-s invariant-loop decreases-loop
 slice_aggregate_solve_tight_3 c = search rules
 
-slice_aggregate_solve_tight_4 : tie.Need-slice-aggregate-solve-tight-4 invariant-loop decreases-loop
+slice_aggregate_solve_tight_4 : tie.Need-slice_bounds-solve_tight-end-in-loop-s-2 invariant-loop decreases-loop
 slice_aggregate_solve_tight_4 c = search rules
 
-solve_tight_requires_2 : tie.Need-solve-tight-requires-2 invariant-loop decreases-loop
+solve_tight_requires_2 : tie.Need-solve_tight-s-requires-in-loop-s invariant-loop decreases-loop
 solve_tight_requires_2 c κs =
     let t = turned c.before.before.before in
     let m = entered t.before in
     let k = start m in
     let w = now_state m in
-    (k.pre.1.0, k.args.rowpowers.now, m.loop.risen + t.turn.result, (t.turn.ensures k.pre.1.0 k.args.rowpowers.now m.loop.risen w.0 (turn_small t.before k.pre.1.0 w.0 w.1)).1)
+    (k.requires.1.0, k.args.rowpowers.now, m.loop-s.risen + t.turn-rise.result, (t.turn-rise.ensures k.requires.1.0 k.args.rowpowers.now m.loop-s.risen w.0 (turn_small t.before k.requires.1.0 w.0 w.1)).1)
 
-loop_less : tie.Need-loop-smaller invariant-loop decreases-loop
+loop_less : tie.Need-loop-s-smaller invariant-loop decreases-loop
 loop_less c =
     let t = turned c.before.before.before.before in
     let m = entered t.before in
     let k = start m in
     let w = now_state m in
-    omega (arith, risen_small _ _ _ _ _ _ _ _ _ _ _ _ _ w.0, (t.turn.ensures k.pre.1.0 k.args.rowpowers.now m.loop.risen w.0 (turn_small t.before k.pre.1.0 w.0 w.1)).0)
+    omega (arith, risen_small _ _ _ _ _ _ _ _ _ _ _ _ _ w.0, (t.turn-rise.ensures k.requires.1.0 k.args.rowpowers.now m.loop-s.risen w.0 (turn_small t.before k.requires.1.0 w.0 w.1)).0)
 
 -- a turn keeps the number of constants
-long : (c : tie.After-constants invariant-loop decreases-loop) → length c.before.turn.new.1.1.1.1.0 ≡ length (start (entered c.before.before)).args.constants.now
-long c = search (rules, (entered c.before.before).loop.inv.0, c.constants.given)
+long : (c : tie.After-constants-1 invariant-loop decreases-loop) → length c.before.turn-rise.new.1.1.1.1.0 ≡ length (start (entered c.before.before)).args.constants-1.now
+long c = search (rules, (entered c.before.before).loop-s.invariant.0, c.constants-1.given)
 
-loop_again : tie.Need-loop-preserved invariant-loop decreases-loop
+loop_again : tie.Need-loop-s-preserved invariant-loop decreases-loop
 loop_again c =
     let t = turned c.before.before.before.before in
     let m = entered t.before in
     let k = start m in
     let w = now_state m in
-    let next = (t.turn.ensures k.pre.1.0 k.args.rowpowers.now m.loop.risen w.0 (turn_small t.before k.pre.1.0 w.0 w.1)).1 in (
+    let next = (t.turn-rise.ensures k.requires.1.0 k.args.rowpowers.now m.loop-s.risen w.0 (turn_small t.before k.requires.1.0 w.0 w.1)).1 in (
       long c.before.before.before.before.before.before.before,
       next.height_count,
       next.level_count,
       λ Q shown full.
-          let v = m.loop.inv.3 Q shown full in
-          let d = (t.turn.ensures Q k.args.rowpowers.now m.loop.risen v.0 (turn_small t.before Q v.0 v.1)).1 in
-          (d, c.solve-tight2.ensures Q _ _ d),
+          let v = m.loop-s.invariant.3 Q shown full in
+          let d = (t.turn-rise.ensures Q k.args.rowpowers.now m.loop-s.risen v.0 (turn_small t.before Q v.0 v.1)).1 in
+          (d, c.solve_tight-s-in-loop-s.ensures Q _ _ d),
     )
 
-slice_aggregate_found : tie.Need-slice-aggregate-found invariant-loop decreases-loop
+slice_aggregate_found : tie.Need-slice_bounds-found-end invariant-loop decreases-loop
 slice_aggregate_found c = search rules
 
-slice_aggregate_found_2 : tie.Need-slice-aggregate-found-2 invariant-loop decreases-loop
+slice_aggregate_found_2 : tie.Need-slice_bounds-found-end-2 invariant-loop decreases-loop
 slice_aggregate_found_2 c = search rules
 
 -- the loop's end
-abbrev ended : tie.Else1 invariant-loop decreases-loop → tie.At-loop invariant-loop decreases-loop
+abbrev ended : tie.After-loop-s invariant-loop decreases-loop → tie.At-loop-s invariant-loop decreases-loop
 ended c = c.before.before
 
 found_requires : tie.Need-found-requires invariant-loop decreases-loop
@@ -236,11 +236,11 @@ found_requires c κs =
         heights_lent = omega (arith, d.height_count, d.ready.columns);
         heights_low = λ x l. omega (arith, heights_small _ _ _ _ _ _ _ _ _ _ _ _ _ d x l);
       },
-      (_, degree_small _ _ _ _ _ _ _ _ _ _ _ _ _ d m.loop.s w.1 e.if1.false, degree_by_levels _ _ _ _ _ _ _ _ _ _ _ _ _ d m.loop.s w.1 e.if1.false),
+      (_, degree_small _ _ _ _ _ _ _ _ _ _ _ _ _ d m.loop-s.s w.1 e.loop-s-test.false, degree_by_levels _ _ _ _ _ _ _ _ _ _ _ _ _ d m.loop-s.s w.1 e.loop-s-test.false),
     )
 
-same_length : tie.Need-same-length invariant-loop decreases-loop
-same_length c = search (rules, (ended c.before.before.before).loop.inv.0)
+same_length : tie.Need-shape_of-constants invariant-loop decreases-loop
+same_length c = search (rules, (ended c.before.before.before).loop-s.invariant.0)
 
 -- how many rows the answer has
 rows_long : (c : tie.After-found invariant-loop decreases-loop) → length c.found.result.rows ≡ most_rows
@@ -252,10 +252,10 @@ returns c =
     let m = ended e in
     let r = c.found.ensures in
     λ Q shown full.
-    let w = m.loop.inv.3 Q shown full in (
+    let w = m.loop-s.invariant.3 Q shown full in (
       r.0,
-      answer_found _ _ _ _ Q _ _ _ _ _ _ _ _ w.0 m.loop.s w.1 e.if1.false c.found.result (rows_long c)
-          (r.3 _ (degree_by_levels _ _ _ _ Q _ _ _ _ _ _ _ _ w.0 m.loop.s w.1 e.if1.false)) r.1 r.2,
+      answer_found _ _ _ _ Q _ _ _ _ _ _ _ _ w.0 m.loop-s.s w.1 e.loop-s-test.false c.found.result (rows_long c)
+          (r.3 _ (degree_by_levels _ _ _ _ Q _ _ _ _ _ _ _ _ w.0 m.loop-s.s w.1 e.loop-s-test.false)) r.1 r.2,
     )
 
 pub descend_spec : {M : Type 1} → statement M

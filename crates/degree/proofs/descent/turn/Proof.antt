@@ -16,55 +16,55 @@ use Rattle.degree.proofs.descent.turn.Tie as tie
 abbrev begun : tie.After-weights-arg → tie.Start
 begun c = c.before.before.before.before.before.before.before
 
-abbrev weighed : tie.After-reduce → tie.After-weights
+abbrev weighed : tie.After-reduce → tie.After-weights-weights
 weighed c = c.before.before.before.before
 
-abbrev reduction : tie.After-tops → tie.After-reduce
+abbrev reduction : tie.After-tops-tops → tie.After-reduce
 reduction c = c.before.before.before.before.before.before
 
-abbrev topped : tie.After-rise → tie.After-tops
+abbrev topped : tie.After-rise-rise → tie.After-tops-tops
 topped c = c.before.before.before
 
-abbrev start : tie.After-tops → tie.Start
+abbrev start : tie.After-tops-tops → tie.Start
 start c = begun (weighed (reduction c)).before
 
 -- the heights are small
-low : (k : tie.Start) → (x : ℕ) → x < k.args.n → get_or k.args.heights.now x 0 ≤ 60000
+low : (k : tie.Start) → (x : ℕ) → x < k.args.n → get_or k.args.heights-1.now x 0 ≤ 60000
 low k x l = omega (arith, heights_small _ _ _ _ _ _ _ _ _ _ _ _ _ k.requires.3 x l)
 
 -- how many weights and tops there are
-many_weights : (c : tie.After-weights) → length c.weights.result ≡ most_columns
-many_weights c = search (rules, c.weights.type-inv)
+many_weights : (c : tie.After-weights-weights) → length c.weights-weights.result ≡ most_columns
+many_weights c = search (rules, c.weights-weights.type-inv)
 
-many_tops : (c : tie.After-tops) → length c.tops.result ≡ most_columns
-many_tops c = search (rules, c.tops.type-inv)
+many_tops : (c : tie.After-tops-tops) → length c.tops-tops.result ≡ most_columns
+many_tops c = search (rules, c.tops-tops.type-inv)
 
 -- the rows are reduced
 rows_shown : (c : tie.After-reduce) → let a = (begun (weighed c).before).args in
-    RowsShown a.p a.n a.a (reduced (field_of a.p) a.n (λ x. get_or (weighed c).weights.result x 0) (λ h. get_or a.levels.now h 0) (tableau_of a.p a.n a.constants.now) a.a)
-    a.constants.now c.reduce.new.1.1.1.1.1.0
+    RowsShown a.p a.n a.a (reduced (field_of a.p) a.n (λ x. get_or (weighed c).weights-weights.result x 0) (λ h. get_or a.levels-1.now h 0) (tableau_of a.p a.n a.constants-1.now) a.a)
+    a.constants-1.now c.reduce.new.1.1.1.1.1.0
 rows_shown c =
     let k = begun (weighed c).before in
     let a = k.args in
-    c.reduce.ensures.if_valid (reduction_taken _ _ _ _ _ _ _ _ _ _ _ _ _ k.pre.3 (weighed c).weights.result (omega (arith, many_weights (weighed c), k.pre.3.ready.columns)))
+    c.reduce.ensures.if_valid (reduction_taken _ _ _ _ _ _ _ _ _ _ _ _ _ k.requires.3 (weighed c).weights-weights.result (omega (arith, many_weights (weighed c), k.requires.3.ready.columns)))
 
-weights_requires : tie.Need-weights-requires
+weights_requires : tie.Need-weights-weights-requires
 weights_requires c κs = let d = (begun c).requires.3 in (d.ready.columns, d.ready.column_powers_lent, omega (arith, d.height_count, d.ready.columns), low (begun c))
 
-slice_aggregate_reduce : tie.Need-slice-aggregate-reduce
+slice_aggregate_reduce : tie.Need-slice_bounds-reduce-end
 slice_aggregate_reduce c = search rules
 
 reduce_requires : tie.Need-reduce-requires
 reduce_requires c κs = search rules
 
-slice_aggregate_tops : tie.Need-slice-aggregate-tops
+slice_aggregate_tops : tie.Need-slice_bounds-tops-end
 slice_aggregate_tops c = search rules
 
-tops_requires : tie.Need-tops-requires
+tops_requires : tie.Need-tops-tops-requires
 tops_requires c κs =
     let r = c.before.before.before.before.before in
     let k = begun (weighed r).before in
-    let d = k.pre.3 in
+    let d = k.requires.3 in
     record {
       columns = d.ready.columns;
       lines = omega (arith, d.ready.square, d.ready.columns);
@@ -76,47 +76,47 @@ tops_requires c κs =
       heights_low = low k;
     }
 
-slice_aggregate_rise : tie.Need-slice-aggregate-rise
+slice_aggregate_rise : tie.Need-slice_bounds-rise-end
 slice_aggregate_rise c = search rules
 
-rise_requires : tie.Need-rise-requires
+rise_requires : tie.Need-rise-rise-requires
 rise_requires c κs = let t = c.before.before in let d = (start t).requires.3 in (omega (arith, d.level_count, d.ready.columns), omega (arith, many_tops t, d.ready.columns))
 
-slice_aggregate_raise_levels : tie.Need-slice-aggregate-raise-levels
+slice_aggregate_raise_levels : tie.Need-slice_bounds-raise_levels-end
 slice_aggregate_raise_levels c = search rules
 
-raise_levels_requires : tie.Need-raise-levels-requires
+raise_levels_requires : tie.Need-raise_levels-requires
 raise_levels_requires c κs =
     let r = c.before.before in
     let t = topped r in
     let k = start t in
-    let d = k.pre.3 in (
+    let d = k.requires.3 in (
       omega (arith, d.level_count, d.ready.columns),
       omega (arith, many_tops t, d.ready.columns),
-      (rise_fits _ _ _ _ _ _ _ _ _ _ _ _ _ d _ _ (weighed (reduction t)).weights.ensures k.pre.4 _ _ (rows_shown (reduction t)) t.tops.ensures _ r.rise.ensures).0,
+      (rise_fits _ _ _ _ _ _ _ _ _ _ _ _ _ d _ _ (weighed (reduction t)).weights-weights.ensures k.requires.4 _ _ (rows_shown (reduction t)) t.tops-tops.ensures _ r.rise-rise.ensures).0,
     )
 
-raise_heights_requires : tie.Need-raise-heights-requires
+raise_heights_requires : tie.Need-raise_heights-requires
 raise_heights_requires c κs =
     let r = c.before.before.before.before.before.before in
     let t = topped r in
     let k = start t in
-    let d = k.pre.3 in (
+    let d = k.requires.3 in (
       omega (arith, d.height_count, d.ready.columns),
-      (rise_fits _ _ _ _ _ _ _ _ _ _ _ _ _ d _ _ (weighed (reduction t)).weights.ensures k.pre.4 _ _ (rows_shown (reduction t)) t.tops.ensures _ r.rise.ensures).1,
+      (rise_fits _ _ _ _ _ _ _ _ _ _ _ _ _ d _ _ (weighed (reduction t)).weights-weights.ensures k.requires.4 _ _ (rows_shown (reduction t)) t.tops-tops.ensures _ r.rise-rise.ensures).1,
     )
 
 -- where the rise is known, seen from the end
-abbrev risen : tie.After-slice-known6 → tie.After-rise
+abbrev risen : tie.After-slice_known-6-1 → tie.After-rise-rise
 risen c = c.before.before.before.before.before.before.before.before.before
 
-same_length : tie.Need-same-length
+same_length : tie.Need-shape_of-constants
 same_length c = search rules
 
-same_length_2 : tie.Need-same-length-2
+same_length_2 : tie.Need-shape_of-levels
 same_length_2 c = search rules
 
-same_length_3 : tie.Need-same-length-3
+same_length_3 : tie.Need-shape_of-heights
 same_length_3 c = search rules
 
 returns : tie.Need-returns
@@ -126,8 +126,8 @@ returns c =
     let h = c.before.before in
     let l = h.before.before.before.before in
     λ Q rp k d small. (
-      r.rise.ensures.some,
-      round_done _ _ _ _ Q _ rp _ _ _ _ _ k d _ _ (weighed (reduction t)).weights.ensures small _ _ (rows_shown (reduction t)) t.tops.ensures _ r.rise.ensures _ _ l.raise-levels.ensures h.raise-heights.ensures,
+      r.rise-rise.ensures.some,
+      round_done _ _ _ _ Q _ rp _ _ _ _ _ k d _ _ (weighed (reduction t)).weights-weights.ensures small _ _ (rows_shown (reduction t)) t.tops-tops.ensures _ r.rise-rise.ensures _ _ l.raise_levels.ensures h.raise_heights.ensures,
     )
 
 pub turn_spec : {M : Type 1} → statement M

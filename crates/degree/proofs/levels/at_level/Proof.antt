@@ -16,95 +16,95 @@ use native.Mathlib.Omega.{arith}
 use Rattle.degree.proofs.levels.at_level.Statement.{statement}
 use Rattle.degree.proofs.levels.at_level.Tie as tie
 
-abbrev invariant-loop : tie.invariant-loop
+abbrev invariant-loop : tie.invariant-loop-rest
 invariant-loop powers from heights n level rest₀ kept₀ rest kept = Keeping from level powers heights (members (whole rest₀)) (members (whole rest)) (members (whole kept))
 
-abbrev decreases-loop : tie.decreases-loop
+abbrev decreases-loop : tie.decreases-loop-rest
 decreases-loop powers from heights n level rest₀ kept₀ rest kept = # width (members (whole rest))
 
 -- where a turn begins, seen from where its column is chosen; and where the call did
-abbrev turn : tie.After-first invariant-loop decreases-loop → tie.At-loop invariant-loop decreases-loop
+abbrev turn : tie.After-first-x invariant-loop decreases-loop → tie.At-loop-rest invariant-loop decreases-loop
 turn f = f.before.before.before
 
-abbrev begun : tie.At-loop invariant-loop decreases-loop → tie.Start invariant-loop decreases-loop
+abbrev begun : tie.At-loop-rest invariant-loop decreases-loop → tie.Start invariant-loop decreases-loop
 begun k = k.before.before.before
 
 -- the column of a turn is one of those that are left,
-there : (f : tie.After-first invariant-loop decreases-loop) → (f.first.result < width) × (f.first.result ∈ members (whole (turn f).loop.rest))
+there : (f : tie.After-first-x invariant-loop decreases-loop) → (f.first-x.result < width) × (f.first-x.result ∈ members (whole (turn f).loop-rest.rest))
 there f =
-    let some : # width (members (whole (turn f).loop.rest)) ≢ 0 = eqb-false _ 0 (sym f.before.before.is-empty.ensures ∙ not_in _ f.before.if1.true) in
+    let some : # width (members (whole (turn f).loop-rest.rest)) ≢ 0 = eqb-false _ 0 (sym f.before.before.is_empty.ensures ∙ not_in _ f.before.loop-rest-test.true-raw) in
     let t = least_there width _ some in
-    ((rw (sym f.first.ensures) at t).0, (rw (sym f.first.ensures) at t).1)
+    ((rw (sym f.first-x.ensures) at t).0, (rw (sym f.first-x.ensures) at t).1)
 
 -- and of the row's
-below : (f : tie.After-first invariant-loop decreases-loop) → f.first.result < (begun (turn f)).args.n
+below : (f : tie.After-first-x invariant-loop decreases-loop) → f.first-x.result < (begun (turn f)).args.n
 below f =
     let s = begun (turn f) in
-    (within_iff s.args.n (whole s.args.row)).0 s.pre.row_within f.first.result (there f).0 ((turn f).loop.invariant.inside f.first.result (there f).1)
+    (within_iff s.args.n (whole s.args.row)).0 s.requires.row_within f.first-x.result (there f).0 ((turn f).loop-rest.invariant.inside f.first-x.result (there f).1)
 
-loop_holds : tie.Need-loop-init invariant-loop decreases-loop
+loop_holds : tie.Need-loop-rest-init invariant-loop decreases-loop
 loop_holds c = keeping_start _ _ _ _ _
 
-is_empty_requires : tie.Need-is-empty-requires invariant-loop decreases-loop
+is_empty_requires : tie.Need-is_empty-requires invariant-loop decreases-loop
 is_empty_requires c κs = search rules
 
-first_requires : tie.Need-first-requires invariant-loop decreases-loop
+first_requires : tie.Need-first-x-requires invariant-loop decreases-loop
 first_requires c κs = search rules
 
-add_if2 : tie.Need-overflow-add-if2 invariant-loop decreases-loop
-add_if2 c = omega (arith, below c, (begun (turn c)).pre.powers_lent)
+add_if2 : tie.Need-overflow_add-from invariant-loop decreases-loop
+add_if2 c = omega (arith, below c, (begun (turn c)).requires.powers_lent)
 
-shared_slice_read_if2 : tie.Need-shared-slice-read-if2 invariant-loop decreases-loop
-shared_slice_read_if2 c = let f = c.before in omega (arith, below f, (begun (turn f)).pre.powers_lent)
+shared_slice_read_if2 : tie.Need-bounds-powers-from invariant-loop decreases-loop
+shared_slice_read_if2 c = let f = c.before in omega (arith, below f, (begun (turn f)).requires.powers_lent)
 
-cast_if2 : tie.Need-overflow-cast-if2 invariant-loop decreases-loop
+cast_if2 : tie.Need-overflow_cast-powers invariant-loop decreases-loop
 cast_if2 c =
     let f = c.before in
-    omega (arith, c.shared-slice-known3.given ((begun (turn f)).args.from + f.first.result))
+    omega (arith, c.shared_slice_known-in-loop-rest-1.given ((begun (turn f)).args.from + f.first-x.result))
 
-mul_if2 : tie.Need-overflow-mul-if2 invariant-loop decreases-loop
+mul_if2 : tie.Need-offset_bounds-heights-x invariant-loop decreases-loop
 mul_if2 c = omega (arith, (there c.before).0)
 
-shared_slice_read_if2_2 : tie.Need-shared-slice-read-if2-2 invariant-loop decreases-loop
-shared_slice_read_if2_2 c = let f = c.before.before in omega (arith, below f, (begun (turn f)).pre.heights_lent)
+shared_slice_read_if2_2 : tie.Need-bounds-heights-x invariant-loop decreases-loop
+shared_slice_read_if2_2 c = let f = c.before.before in omega (arith, below f, (begun (turn f)).requires.heights_lent)
 
-add_if2_2 : tie.Need-overflow-add-if2-2 invariant-loop decreases-loop
+add_if2_2 : tie.Need-overflow_add-powers invariant-loop decreases-loop
 add_if2_2 c =
     let f = c.before.before in
     let s = begun (turn f) in
-    let x = f.first.result in
-    omega (arith, c.before.shared-slice-known3.given (s.args.from + x), s.pre.heights_low x (below f))
+    let x = f.first-x.result in
+    omega (arith, c.before.shared_slice_known-in-loop-rest-1.given (s.args.from + x), s.requires.heights_low x (below f))
 
-without_requires : tie.Need-without-requires invariant-loop decreases-loop
+without_requires : tie.Need-without-kept-requires invariant-loop decreases-loop
 without_requires c κs = search rules
 
-without_requires_2 : tie.Need-without-requires-2 invariant-loop decreases-loop
+without_requires_2 : tie.Need-without-rest-requires invariant-loop decreases-loop
 without_requires_2 c κs = search rules
 
-loop_less : tie.Need-loop-smaller invariant-loop decreases-loop
-loop_less c = let w = there c.before.before.before.before in rw c.without2.ensures (removed_less width _ _ w.0 w.1)
+loop_less : tie.Need-loop-rest-smaller invariant-loop decreases-loop
+loop_less c = let w = there c.before.before.before.before in rw c.without-rest.ensures (removed_less width _ _ w.0 w.1)
 
-loop_again : tie.Need-loop-preserved invariant-loop decreases-loop
+loop_again : tie.Need-loop-rest-preserved invariant-loop decreases-loop
 loop_again c =
     let f = c.before.before.before.before in
-    let l = (turn f).loop in
+    let l = (turn f).loop-rest in
     let a = (begun (turn f)).args in
-    let x = f.first.result in
+    let x = f.first-x.result in
     let row = members (whole a.row) in
     let rest = members (whole l.rest) in
     let kept = members (whole l.kept) in
-    rw c.without2.ensures
+    rw c.without-rest.ensures
     (⊎_elim
     (λ w. rw (w.2, w.1.ensures) (keeping_goes a.from a.level a.powers.now a.heights.now row rest kept x w.0.taken l.inv))
     (λ w. rw w.1 (keeping_stays a.from a.level a.powers.now a.heights.now row rest kept x (there f).1 w.0.left l.inv))
-    c.before.if2.branch)
+    c.before.if-powers-from.branch)
 
 returns : tie.Need-returns invariant-loop decreases-loop
 returns c =
     let k = c.before.before in
-    let rest = members (whole k.loop.rest) in
-    let gone : # width rest ≡ 0 = eqb-true _ 0 (sym c.before.is-empty.ensures ∙ not-false _ c.if1.false) in
-    λ x l. k.loop.invariant.done x (not_true (rest x) (nothing_in width rest gone x (omega (arith, (begun k).requires.columns))))
+    let rest = members (whole k.loop-rest.rest) in
+    let gone : # width rest ≡ 0 = eqb-true _ 0 (sym c.before.is_empty.ensures ∙ not-false _ c.loop-rest-test.false-raw) in
+    λ x l. k.loop-rest.invariant.done x (not_true (rest x) (nothing_in width rest gone x (omega (arith, (begun k).requires.columns))))
 
 pub at_level_spec : {M : Type 1} → statement M
 at_level_spec =

@@ -10,40 +10,40 @@ use native.Mathlib.Omega.{arith}
 use Rattle.degree.proofs.levels.constant_top.Statement.{statement}
 use Rattle.degree.proofs.levels.constant_top.Tie as tie
 
-abbrev invariant-loop : tie.invariant-loop
+abbrev invariant-loop : tie.invariant-loop-x
 invariant-loop constants from weights n top₀ x₀ top x = (x ≤ n) × Top x (λ i. get_or constants (from + i) 0 ≢ 0) (λ i. get_or weights i 0) top
 
-abbrev decreases-loop : tie.decreases-loop
+abbrev decreases-loop : tie.decreases-loop-x
 decreases-loop constants from weights n top₀ x₀ top x = n - x
 
-loop_holds : tie.Need-loop-init invariant-loop decreases-loop
+loop_holds : tie.Need-loop-x-init invariant-loop decreases-loop
 loop_holds c = (omega arith, top_none _ _)
 
-mul_w : tie.Need-overflow-mul-w invariant-loop decreases-loop
+mul_w : tie.Need-offset_bounds-weights-x invariant-loop decreases-loop
 mul_w c = search rules
 
-shared_slice_read_w : tie.Need-shared-slice-read-w invariant-loop decreases-loop
+shared_slice_read_w : tie.Need-bounds-weights-x invariant-loop decreases-loop
 shared_slice_read_w c = search rules
 
-add_if1 : tie.Need-overflow-add-if1 invariant-loop decreases-loop
+add_if1 : tie.Need-overflow_add-from invariant-loop decreases-loop
 add_if1 c = search rules
 
-mul_if1 : tie.Need-overflow-mul-if1 invariant-loop decreases-loop
+mul_if1 : tie.Need-offset_bounds-constants-from invariant-loop decreases-loop
 mul_if1 c = search rules
 
-shared_slice_read_if1 : tie.Need-shared-slice-read-if1 invariant-loop decreases-loop
+shared_slice_read_if1 : tie.Need-bounds-constants-from invariant-loop decreases-loop
 shared_slice_read_if1 c = search rules
 
-add_x : tie.Need-overflow-add-x invariant-loop decreases-loop
+add_x : tie.Need-overflow_step-x invariant-loop decreases-loop
 add_x c = search rules
 
-loop_less : tie.Need-loop-smaller invariant-loop decreases-loop
+loop_less : tie.Need-loop-x-smaller invariant-loop decreases-loop
 loop_less c = search rules
 
-loop_again : tie.Need-loop-preserved invariant-loop decreases-loop
+loop_again : tie.Need-loop-x-preserved invariant-loop decreases-loop
 loop_again c =
     let k = c.before.before.before.before in
-    let l = k.loop in (
+    let l = k.loop-x in (
       omega arith,
       ⊎_elim
           (λ w. rw w.2 (top_more w.0.taken w.1.taken l.invariant.1))
@@ -51,13 +51,13 @@ loop_again c =
           (λ w. rw w.2 (top_same (λ e. w.1.left) l.invariant.1))
           (λ w. rw w.1 (top_same (λ e. absurd (e w.0.left)) l.invariant.1))
           z)
-          c.if1.branch,
+          c.if-constants-from-ne0.branch,
     )
 
 returns : tie.Need-returns invariant-loop decreases-loop
 returns c =
-    let done : c.before.loop.x ≡ c.before.before.args.n = omega arith in
-    rw done at c.before.loop.invariant.1
+    let done : c.before.loop-x.x ≡ c.before.before.args.n = omega arith in
+    rw done at c.before.loop-x.invariant.1
 
 pub constant_top_spec : {M : Type 1} → statement M
 constant_top_spec =

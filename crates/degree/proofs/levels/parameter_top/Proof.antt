@@ -18,81 +18,81 @@ use native.Mathlib.Omega.{arith}
 use Rattle.degree.proofs.levels.parameter_top.Statement.{statement}
 use Rattle.degree.proofs.levels.parameter_top.Tie as tie
 
-abbrev invariant-loop : tie.invariant-loop
+abbrev invariant-loop : tie.invariant-loop-rest
 invariant-loop powers from heights n top₀ rest₀ top rest = Seeking n (members (whole rest₀)) (members (whole rest)) (λ x. get_or powers (from + x) 0 + get_or heights x 0) top
 
-abbrev decreases-loop : tie.decreases-loop
+abbrev decreases-loop : tie.decreases-loop-rest
 decreases-loop powers from heights n top₀ rest₀ top rest = # width (members (whole rest))
 
 -- where a turn begins, seen from where its column is chosen; and where the call did
-abbrev turn : tie.After-first invariant-loop decreases-loop → tie.At-loop invariant-loop decreases-loop
+abbrev turn : tie.After-first-x invariant-loop decreases-loop → tie.At-loop-rest invariant-loop decreases-loop
 turn f = f.before.before.before
 
-abbrev begun : tie.At-loop invariant-loop decreases-loop → tie.Start invariant-loop decreases-loop
+abbrev begun : tie.At-loop-rest invariant-loop decreases-loop → tie.Start invariant-loop decreases-loop
 begun k = k.before.before.before
 
 -- the column of a turn is one of those that are left
-there : (f : tie.After-first invariant-loop decreases-loop) → (f.first.result < width) × (f.first.result ∈ members (whole (turn f).loop.rest))
+there : (f : tie.After-first-x invariant-loop decreases-loop) → (f.first-x.result < width) × (f.first-x.result ∈ members (whole (turn f).loop-rest.rest))
 there f =
-    let some : # width (members (whole (turn f).loop.rest)) ≢ 0 = eqb-false _ 0 (sym f.before.before.is-empty.ensures ∙ not_in _ f.before.if1.true) in
+    let some : # width (members (whole (turn f).loop-rest.rest)) ≢ 0 = eqb-false _ 0 (sym f.before.before.is_empty.ensures ∙ not_in _ f.before.loop-rest-test.true-raw) in
     let t = least_there width _ some in
-    ((rw (sym f.first.ensures) at t).0, (rw (sym f.first.ensures) at t).1)
+    ((rw (sym f.first-x.ensures) at t).0, (rw (sym f.first-x.ensures) at t).1)
 
 -- and below n
-low : (f : tie.After-first invariant-loop decreases-loop) → f.first.result < (begun (turn f)).args.n
-low f = let t = there f in (within_iff _ _).0 (begun (turn f)).pre.row_within f.first.result t.0 ((turn f).loop.invariant.inside f.first.result t.1)
+low : (f : tie.After-first-x invariant-loop decreases-loop) → f.first-x.result < (begun (turn f)).args.n
+low f = let t = there f in (within_iff _ _).0 (begun (turn f)).requires.row_within f.first-x.result t.0 ((turn f).loop-rest.invariant.inside f.first-x.result t.1)
 
-loop_holds : tie.Need-loop-init invariant-loop decreases-loop
+loop_holds : tie.Need-loop-rest-init invariant-loop decreases-loop
 loop_holds c = seeking_start _ _ _
 
-is_empty_requires : tie.Need-is-empty-requires invariant-loop decreases-loop
+is_empty_requires : tie.Need-is_empty-requires invariant-loop decreases-loop
 is_empty_requires c κs = search rules
 
-first_requires : tie.Need-first-requires invariant-loop decreases-loop
+first_requires : tie.Need-first-x-requires invariant-loop decreases-loop
 first_requires c κs = search rules
 
-add_w : tie.Need-overflow-add-w invariant-loop decreases-loop
-add_w c = omega (arith, low c, (begun (turn c)).pre.powers_lent)
+add_w : tie.Need-overflow_add-w invariant-loop decreases-loop
+add_w c = omega (arith, low c, (begun (turn c)).requires.powers_lent)
 
-shared_slice_read_w : tie.Need-shared-slice-read-w invariant-loop decreases-loop
-shared_slice_read_w c = omega (arith, low c.before, (begun (turn c.before)).pre.powers_lent)
+shared_slice_read_w : tie.Need-bounds-powers-from invariant-loop decreases-loop
+shared_slice_read_w c = omega (arith, low c.before, (begun (turn c.before)).requires.powers_lent)
 
-cast_w : tie.Need-overflow-cast-w invariant-loop decreases-loop
-cast_w c = omega (arith, c.shared-slice-known3.given ((begun (turn c.before)).args.from + c.before.first.result))
+cast_w : tie.Need-overflow_cast-w invariant-loop decreases-loop
+cast_w c = omega (arith, c.shared_slice_known-in-loop-rest-1.given ((begun (turn c.before)).args.from + c.before.first-x.result))
 
-mul_w : tie.Need-overflow-mul-w invariant-loop decreases-loop
+mul_w : tie.Need-offset_bounds-heights-x invariant-loop decreases-loop
 mul_w c = omega (arith, (there c.before).0)
 
-shared_slice_read_w_2 : tie.Need-shared-slice-read-w-2 invariant-loop decreases-loop
-shared_slice_read_w_2 c = omega (arith, low c.before.before, (begun (turn c.before.before)).pre.heights_lent)
+shared_slice_read_w_2 : tie.Need-bounds-heights-x invariant-loop decreases-loop
+shared_slice_read_w_2 c = omega (arith, low c.before.before, (begun (turn c.before.before)).requires.heights_lent)
 
-add_w_2 : tie.Need-overflow-add-w-2 invariant-loop decreases-loop
-add_w_2 c = let f = c.before.before in omega (arith, c.before.shared-slice-known3.given ((begun (turn f)).args.from + f.first.result), (begun (turn f)).pre.heights_low f.first.result (low f))
+add_w_2 : tie.Need-overflow_add-w-in-loop-rest invariant-loop decreases-loop
+add_w_2 c = let f = c.before.before in omega (arith, c.before.shared_slice_known-in-loop-rest-1.given ((begun (turn f)).args.from + f.first-x.result), (begun (turn f)).requires.heights_low f.first-x.result (low f))
 
-without_requires : tie.Need-without-requires invariant-loop decreases-loop
+without_requires : tie.Need-without-rest-requires invariant-loop decreases-loop
 without_requires c κs = search rules
 
-loop_less : tie.Need-loop-smaller invariant-loop decreases-loop
-loop_less c = let w = there c.before.before.before.before in rw c.without.ensures (removed_less width _ _ w.0 w.1)
+loop_less : tie.Need-loop-rest-smaller invariant-loop decreases-loop
+loop_less c = let w = there c.before.before.before.before in rw c.without-rest.ensures (removed_less width _ _ w.0 w.1)
 
-loop_again : tie.Need-loop-preserved invariant-loop decreases-loop
+loop_again : tie.Need-loop-rest-preserved invariant-loop decreases-loop
 loop_again c =
     let f = c.before.before.before.before in
-    let l = (turn f).loop in
-    let x = f.first.result in
-    rw c.without.ensures
+    let l = (turn f).loop-rest in
+    let x = f.first-x.result in
+    rw c.without-rest.ensures
     (⊎_elim
     (λ w. rw w.1 (seeking_more x (low f) (there f).1 w.0.taken l.inv))
     (λ w. rw w.1 (seeking_same x w.0.left l.inv))
-    c.before.if2.branch)
+    c.before.if-w-top.branch)
 
 returns : tie.Need-returns invariant-loop decreases-loop
 returns c =
     let k = c.before.before in
-    let l = k.loop in
+    let l = k.loop-rest in
     let a = (begun k).args in
     let rest = members (whole l.rest) in
-    let gone : # width rest ≡ 0 = eqb-true _ 0 (sym c.before.is-empty.ensures ∙ not-false _ c.if1.false) in
+    let gone : # width rest ≡ 0 = eqb-true _ 0 (sym c.before.is_empty.ensures ∙ not-false _ c.loop-rest-test.false-raw) in
     seeking_done (λ x e. nothing_in width rest gone x (columns_below a.row x (search rules) (l.invariant.inside x e)) e) l.invariant
 
 pub parameter_top_spec : {M : Type 1} → statement M

@@ -15,56 +15,56 @@ use Rattle.degree.proofs.levels.raise_heights.Tie as tie
 abbrev raised : (inside : Bool) (rise height : ℕ) → ℕ
 raised inside rise height = cond inside (height + rise) height
 
-abbrev invariant-loop : tie.invariant-loop
+abbrev invariant-loop : tie.invariant-loop-x
 invariant-loop heights₀ set rise n x₀ heights x = (x ≤ n) × Written x (λ i. raised (members (whole set) i) rise (get_or heights₀ i 0)) heights₀ heights
 
-abbrev decreases-loop : tie.decreases-loop
+abbrev decreases-loop : tie.decreases-loop-x
 decreases-loop heights₀ set rise n x₀ heights x = n - x
 
 -- where the call begins, seen from the loop
-abbrev begun : tie.At-loop invariant-loop decreases-loop → tie.Start invariant-loop decreases-loop
+abbrev begun : tie.At-loop-x invariant-loop decreases-loop → tie.Start invariant-loop decreases-loop
 begun k = k.before.before
 
-loop_holds : tie.Need-loop-init invariant-loop decreases-loop
+loop_holds : tie.Need-loop-x-init invariant-loop decreases-loop
 loop_holds c = (search rules, written_none _ _)
 
-mul_raised_height : tie.Need-overflow-mul-raised-height invariant-loop decreases-loop
+mul_raised_height : tie.Need-offset_bounds-heights-x invariant-loop decreases-loop
 mul_raised_height c = search rules
 
-slice_read_raised_height : tie.Need-slice-read-raised-height invariant-loop decreases-loop
-slice_read_raised_height c = omega (arith, c.before.before.loop.invariant.1.same_length)
+slice_read_raised_height : tie.Need-bounds-heights-x invariant-loop decreases-loop
+slice_read_raised_height c = omega (arith, c.before.before.loop-x.invariant.1.same_length)
 
-raised_height_requires : tie.Need-raised-height-requires invariant-loop decreases-loop
+raised_height_requires : tie.Need-raised_height-requires invariant-loop decreases-loop
 raised_height_requires c κs =
-    let l = c.before.before.loop in
-    omega (arith, l.invariant.1.left l.x (omega arith), (begun c.before.before).pre.1 l.x (omega arith))
+    let l = c.before.before.loop-x in
+    omega (arith, l.invariant.1.left l.x (omega arith), (begun c.before.before).requires.1 l.x (omega arith))
 
-mul_heights : tie.Need-overflow-mul-heights invariant-loop decreases-loop
+mul_heights : tie.Need-offset_bounds-heights-x-in-loop-x invariant-loop decreases-loop
 mul_heights c = search rules
 
-slice_write_heights : tie.Need-slice-write-heights invariant-loop decreases-loop
-slice_write_heights c = omega (arith, c.before.before.before.loop.invariant.1.same_length)
+slice_write_heights : tie.Need-bounds-heights-x-in-loop-x invariant-loop decreases-loop
+slice_write_heights c = omega (arith, c.before.before.before.loop-x.invariant.1.same_length)
 
-add_x : tie.Need-overflow-add-x invariant-loop decreases-loop
+add_x : tie.Need-overflow_step-x invariant-loop decreases-loop
 add_x c = search rules
 
-loop_less : tie.Need-loop-smaller invariant-loop decreases-loop
+loop_less : tie.Need-loop-x-smaller invariant-loop decreases-loop
 loop_less c = search rules
 
-loop_again : tie.Need-loop-preserved invariant-loop decreases-loop
+loop_again : tie.Need-loop-x-preserved invariant-loop decreases-loop
 loop_again c =
     let k = c.before.before.before in
-    let l = k.loop in
+    let l = k.loop-x in
     let a = (begun k).args in
-    let now : c.raised-height.result ≡ raised (members (whole a.set) l.x) a.rise (get_or a.heights.now l.x 0) =
-    rw (l.invariant.1.left l.x (omega arith)) at c.raised-height.ensures in
+    let now : c.raised_height.result ≡ raised (members (whole a.set) l.x) a.rise (get_or a.heights.now l.x 0) =
+    rw (l.invariant.1.left l.x (omega arith)) at c.raised_height.ensures in
     (search rules, written_more l.x _ a.heights.now l.heights _ (omega (arith, l.invariant.1.same_length)) now l.invariant.1)
 
-same_length : tie.Need-same-length invariant-loop decreases-loop
-same_length c = c.before.loop.invariant.1.same_length
+same_length : tie.Need-shape_of-heights invariant-loop decreases-loop
+same_length c = c.before.loop-x.invariant.1.same_length
 
 returns : tie.Need-returns invariant-loop decreases-loop
-returns c = let h = c.before.loop.invariant.1 in record { same_length = h.same_length; each = λ x l. h.done x (omega arith) }
+returns c = let h = c.before.loop-x.invariant.1 in record { same_length = h.same_length; each = λ x l. h.done x (omega arith) }
 
 pub raise_heights_spec : {M : Type 1} → statement M
 raise_heights_spec =

@@ -9,18 +9,18 @@ use Rattle.degree.proofs.levels.raised_height.Tie as tie
 contains_requires : tie.Need-contains-requires
 contains_requires c κs = search rules
 
-add_result : tie.Need-overflow-add-result
+add_result : tie.Need-overflow_add-result
 add_result c = search rules
 
-returns : tie.Need-returns
+returns : tie.Need-returns-then-contains
 returns c =
     let a = c.before.before.args in
-    sym (ap (λ (b : Bool). cond b (a.height + a.rise) a.height) (sym c.before.contains.ensures ∙ c.if1.true))
+    sym (ap (λ (b : Bool). cond b (a.height + a.rise) a.height) (sym c.before.contains.ensures ∙ c.if-contains.true))
 
-returns_2 : tie.Need-returns-2
+returns_2 : tie.Need-returns
 returns_2 c =
     let a = c.before.before.args in
-    sym (ap (λ (b : Bool). cond b (a.height + a.rise) a.height) (sym c.before.contains.ensures ∙ c.if1.false))
+    sym (ap (λ (b : Bool). cond b (a.height + a.rise) a.height) (sym c.before.contains.ensures ∙ c.if-contains.false))
 
 pub raised_height_spec : {M : Type 1} → statement M
 raised_height_spec = tie.close (tie.spec contains_requires add_result returns returns_2)

@@ -9,56 +9,56 @@ use native.Mathlib.Omega.{arith}
 use Rattle.degree.proofs.levels.rise.Statement.{statement}
 use Rattle.degree.proofs.levels.rise.Tie as tie
 
-abbrev invariant-loop : tie.invariant-loop
+abbrev invariant-loop : tie.invariant-loop-q
 invariant-loop levels tops lines least₀ q₀ least q = (q ≤ lines) × Rise q levels tops least
 
-abbrev decreases-loop : tie.decreases-loop
+abbrev decreases-loop : tie.decreases-loop-q
 decreases-loop levels tops lines least₀ q₀ least q = lines - q
 
-loop_holds : tie.Need-loop-init invariant-loop decreases-loop
+loop_holds : tie.Need-loop-q-init invariant-loop decreases-loop
 loop_holds c = (search rules, rise_none _ _ _ (omega arith))
 
-mul_room : tie.Need-overflow-mul-room invariant-loop decreases-loop
+mul_room : tie.Need-offset_bounds-levels-q invariant-loop decreases-loop
 mul_room c = search rules
 
-shared_slice_read_room : tie.Need-shared-slice-read-room invariant-loop decreases-loop
+shared_slice_read_room : tie.Need-bounds-levels-q invariant-loop decreases-loop
 shared_slice_read_room c = search rules
 
-mul_room_2 : tie.Need-overflow-mul-room-2 invariant-loop decreases-loop
+mul_room_2 : tie.Need-offset_bounds-tops-q invariant-loop decreases-loop
 mul_room_2 c = search rules
 
-shared_slice_read_room_2 : tie.Need-shared-slice-read-room-2 invariant-loop decreases-loop
+shared_slice_read_room_2 : tie.Need-bounds-tops-q invariant-loop decreases-loop
 shared_slice_read_room_2 c = search rules
 
-room_requires : tie.Need-room-requires invariant-loop decreases-loop
+room_requires : tie.Need-room-r-requires invariant-loop decreases-loop
 room_requires c κs = search rules
 
-add_q : tie.Need-overflow-add-q invariant-loop decreases-loop
+add_q : tie.Need-overflow_step-q invariant-loop decreases-loop
 add_q c = search rules
 
-loop_less : tie.Need-loop-smaller invariant-loop decreases-loop
+loop_less : tie.Need-loop-q-smaller invariant-loop decreases-loop
 loop_less c = search rules
 
-loop_again : tie.Need-loop-preserved invariant-loop decreases-loop
+loop_again : tie.Need-loop-q-preserved invariant-loop decreases-loop
 loop_again c =
     let r = c.before in
     let k = r.before.before.before.before in
-    let l = k.loop in
+    let l = k.loop-q in
     let a = k.before.before.before.args in
-    let s = r.room.result in
+    let s = r.room-r.result in
     let more = rise_more l.q a.levels.now a.tops.now l.least s in (
       search rules,
       ⊎_elim
-          (λ w. rw w.1 (more s (omega (arith, w.0.taken)) (omega arith) r.room.ensures.0 r.room.ensures.1 l.invariant.1))
-          (λ w. rw w.1 (more l.least (omega arith) (omega (arith, w.0.left)) l.invariant.1.some r.room.ensures.1 l.invariant.1))
-          c.if1.branch,
+          (λ w. rw w.1 (more s (omega (arith, w.0.taken)) (omega arith) r.room-r.ensures.0 r.room-r.ensures.1 l.invariant.1))
+          (λ w. rw w.1 (more l.least (omega arith) (omega (arith, w.0.left)) l.invariant.1.some r.room-r.ensures.1 l.invariant.1))
+          c.if-r-least.branch,
     )
 
 returns : tie.Need-returns invariant-loop decreases-loop
 returns c =
     let k = c.before in
-    let done : k.loop.q ≡ k.before.before.before.args.lines = omega arith in
-    rw done at k.loop.invariant.1
+    let done : k.loop-q.q ≡ k.before.before.before.args.lines = omega arith in
+    rw done at k.loop-q.invariant.1
 
 pub rise_spec : {M : Type 1} → statement M
 rise_spec =

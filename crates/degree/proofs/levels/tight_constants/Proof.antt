@@ -12,64 +12,64 @@ use native.Mathlib.Omega.{arith}
 use Rattle.degree.proofs.levels.tight_constants.Statement.{statement}
 use Rattle.degree.proofs.levels.tight_constants.Tie as tie
 
-abbrev invariant-loop : tie.invariant-loop
+abbrev invariant-loop : tie.invariant-loop-h
 invariant-loop constants weights levels n a out₀ h₀ out h = (h ≤ a) × (length out ≡ most_constants) × TightConstants n h constants weights levels out
 
-abbrev decreases-loop : tie.decreases-loop
+abbrev decreases-loop : tie.decreases-loop-h
 decreases-loop constants weights levels n a out₀ h₀ out h = a - h
 
 -- where the call begins, seen from the loop
-abbrev begun : tie.At-loop invariant-loop decreases-loop → tie.Start invariant-loop decreases-loop
+abbrev begun : tie.At-loop-h invariant-loop decreases-loop → tie.Start invariant-loop decreases-loop
 begun k = k.before.before.before.before
 
 -- the row of a turn ends where the area does, or before
-row_end : (k : tie.At-loop invariant-loop decreases-loop) → let a = (begun k).args in
-    k.loop.h < a.a → (k.loop.h * a.n + a.n ≤ a.a * a.n) × (k.loop.h * a.n + a.n ≤ most_constants)
+row_end : (k : tie.At-loop-h invariant-loop decreases-loop) → let a = (begun k).args in
+    k.loop-h.h < a.a → (k.loop-h.h * a.n + a.n ≤ a.a * a.n) × (k.loop-h.h * a.n + a.n ≤ most_constants)
 row_end k l =
     let s = begun k in
     let a = s.args in
-    let all : a.a * a.n ≤ most_rows * most_columns = mul-le-mul {n₂ = most_rows} {m₂ = most_columns} s.pre.1 s.pre.0 in
-    (row_within k.loop.h a.a a.n l, omega (arith, all, row_within k.loop.h a.a a.n l))
+    let all : a.a * a.n ≤ most_rows * most_columns = mul-le-mul {n₂ = most_rows} {m₂ = most_columns} s.requires.1 s.requires.0 in
+    (row_within k.loop-h.h a.a a.n l, omega (arith, all, row_within k.loop-h.h a.a a.n l))
 
-loop_holds : tie.Need-loop-init invariant-loop decreases-loop
+loop_holds : tie.Need-loop-h-init invariant-loop decreases-loop
 loop_holds c = (search rules, search rules, λ g x l. absurd (omega arith))
 
-slice_aggregate_tight_row : tie.Need-slice-aggregate-tight-row invariant-loop decreases-loop
+slice_aggregate_tight_row : tie.Need-slice_bounds-tight_row-end invariant-loop decreases-loop
 slice_aggregate_tight_row c = search rules
 
-mul_tight_row : tie.Need-overflow-mul-tight-row invariant-loop decreases-loop
+mul_tight_row : tie.Need-overflow_mul-h invariant-loop decreases-loop
 mul_tight_row c =
     let k = c.before.before in
     omega (arith, row_end k (omega arith))
 
-mul_tight_row_2 : tie.Need-overflow-mul-tight-row-2 invariant-loop decreases-loop
+mul_tight_row_2 : tie.Need-offset_bounds-levels-h invariant-loop decreases-loop
 mul_tight_row_2 c = search rules
 
-shared_slice_read_tight_row : tie.Need-shared-slice-read-tight-row invariant-loop decreases-loop
+shared_slice_read_tight_row : tie.Need-bounds-levels-h invariant-loop decreases-loop
 shared_slice_read_tight_row c = search rules
 
-tight_row_requires : tie.Need-tight-row-requires invariant-loop decreases-loop
+tight_row_requires : tie.Need-tight_row-requires invariant-loop decreases-loop
 tight_row_requires c κs =
     let k = c.before.before.before in
     let e = row_end k (omega arith) in
-    (omega (arith, e.1, k.loop.invariant.1), omega (arith, e.0, (begun k).requires.2), search rules)
+    (omega (arith, e.1, k.loop-h.invariant.1), omega (arith, e.0, (begun k).requires.2), search rules)
 
-add_h : tie.Need-overflow-add-h invariant-loop decreases-loop
+add_h : tie.Need-overflow_step-h invariant-loop decreases-loop
 add_h c = search rules
 
-loop_less : tie.Need-loop-smaller invariant-loop decreases-loop
+loop_less : tie.Need-loop-h-smaller invariant-loop decreases-loop
 loop_less c = search rules
 
-loop_again : tie.Need-loop-preserved invariant-loop decreases-loop
+loop_again : tie.Need-loop-h-preserved invariant-loop decreases-loop
 loop_again c =
     let k = c.before.before.before.before.before in
     let a = (begun k).args in
-    let t = c.before.tight-row.ensures in
-    let more = tight_constants_more a.n k.loop.h a.constants.now a.weights.now a.levels.now k.loop.out _ k.loop.invariant.2 t in
-    (search rules, t.same_length ∙ k.loop.invariant.1, more)
+    let t = c.before.tight_row.ensures in
+    let more = tight_constants_more a.n k.loop-h.h a.constants.now a.weights.now a.levels.now k.loop-h.out-1 _ k.loop-h.invariant.2 t in
+    (search rules, t.same_length ∙ k.loop-h.invariant.1, more)
 
 returns : tie.Need-returns invariant-loop decreases-loop
-returns c = λ h x l m. c.before.loop.invariant.2 h x (omega arith) m
+returns c = λ h x l m. c.before.loop-h.invariant.2 h x (omega arith) m
 
 pub tight_constants_spec : {M : Type 1} → statement M
 tight_constants_spec =

@@ -12,79 +12,79 @@ use native.Mathlib.Omega.{arith}
 use Rattle.degree.proofs.levels.tight_parameters.Statement.{statement}
 use Rattle.degree.proofs.levels.tight_parameters.Tie as tie
 
-abbrev invariant-loop : tie.invariant-loop
+abbrev invariant-loop : tie.invariant-loop-r
 invariant-loop parameters powers heights levels n a b out₀ r₀ out r =
     (r ≤ b) × (length out ≡ most_words) × TightParameters n a r (row_numbers parameters) powers heights levels (row_numbers out)
 
-abbrev decreases-loop : tie.decreases-loop
+abbrev decreases-loop : tie.decreases-loop-r
 decreases-loop parameters powers heights levels n a b out₀ r₀ out r = b - r
 
 -- where the call begins, seen from the loop
-abbrev begun : tie.At-loop invariant-loop decreases-loop → tie.Start invariant-loop decreases-loop
+abbrev begun : tie.At-loop-r invariant-loop decreases-loop → tie.Start invariant-loop decreases-loop
 begun k = k.before.before.before.before.before
 
-loop_holds : tie.Need-loop-init invariant-loop decreases-loop
+loop_holds : tie.Need-loop-r-init invariant-loop decreases-loop
 loop_holds c = (search rules, search rules, λ i x l. absurd (omega arith))
 
 row_requires : tie.Need-row-requires invariant-loop decreases-loop
 row_requires c κs = search rules
 
-mul_at_level : tie.Need-overflow-mul-at-level invariant-loop decreases-loop
+mul_at_level : tie.Need-overflow_mul-r invariant-loop decreases-loop
 mul_at_level c =
     let k = c.before.before in
     let a = (begun k).args in
-    omega (arith, row_within k.loop.r a.b a.n (omega arith), (begun k).requires.4)
+    omega (arith, row_within k.loop-r.r a.b a.n (omega arith), (begun k).requires.4)
 
-add_at_level : tie.Need-overflow-add-at-level invariant-loop decreases-loop
+add_at_level : tie.Need-overflow_add-a invariant-loop decreases-loop
 add_at_level c = search rules
 
-mul_at_level_2 : tie.Need-overflow-mul-at-level-2 invariant-loop decreases-loop
+mul_at_level_2 : tie.Need-offset_bounds-levels-a invariant-loop decreases-loop
 mul_at_level_2 c = search rules
 
-shared_slice_read_at_level : tie.Need-shared-slice-read-at-level invariant-loop decreases-loop
+shared_slice_read_at_level : tie.Need-bounds-levels-a invariant-loop decreases-loop
 shared_slice_read_at_level c = search rules
 
-at_level_requires : tie.Need-at-level-requires invariant-loop decreases-loop
+at_level_requires : tie.Need-at_level-row-requires invariant-loop decreases-loop
 at_level_requires c κs =
     let k = c.before.before.before in
     let s = begun k in
     record {
-      columns = s.pre.0;
-      row_within = rw c.before.row.ensures (s.pre.3 k.loop.r (omega arith));
-      powers_lent = omega (arith, row_within k.loop.r s.args.b s.args.n (omega arith), s.pre.4);
-      heights_lent = s.pre.5;
-      heights_low = s.pre.6;
+      columns = s.requires.0;
+      row_within = rw c.before.row.ensures (s.requires.3 k.loop-r.r (omega arith));
+      powers_lent = omega (arith, row_within k.loop-r.r s.args.b s.args.n (omega arith), s.requires.4);
+      heights_lent = s.requires.5;
+      heights_low = s.requires.6;
     }
 
-slice_aggregate_put_row : tie.Need-slice-aggregate-put-row invariant-loop decreases-loop
+slice_aggregate_put_row : tie.Need-slice_bounds-put_row-end invariant-loop decreases-loop
 slice_aggregate_put_row c = search rules
 
-put_row_requires : tie.Need-put-row-requires invariant-loop decreases-loop
+put_row_requires : tie.Need-put_row-requires invariant-loop decreases-loop
 put_row_requires c κs = search rules
 
-add_r : tie.Need-overflow-add-r invariant-loop decreases-loop
+add_r : tie.Need-overflow_step-r invariant-loop decreases-loop
 add_r c = search rules
 
-loop_less : tie.Need-loop-smaller invariant-loop decreases-loop
+loop_less : tie.Need-loop-r-smaller invariant-loop decreases-loop
 loop_less c = search rules
 
-loop_again : tie.Need-loop-preserved invariant-loop decreases-loop
+loop_again : tie.Need-loop-r-preserved invariant-loop decreases-loop
 loop_again c =
     let k = c.before.before.before.before.before.before.before in
     let a = (begun k).args in
-    let out = k.loop.out in
-    let put = c.before.put-row.ensures in
-    let row = c.before.before.before.at_level in
+    let out = k.loop-r.out-1 in
+    let put = c.before.put_row.ensures in
+    let row = c.before.before.before.at_level-row in
     let own = c.before.before.before.before.before.row.ensures in (
       search rules,
-      ap length put ∙ with_row_length out k.loop.r (whole row.result) ∙ k.loop.invariant.1,
+      ap length put ∙ with_row_length out k.loop-r.r (whole row.result) ∙ k.loop-r.invariant.1,
       rw put
-          (tight_parameters_more a.n a.a k.loop.r (row_numbers a.parameters.now) a.powers.now a.heights.now a.levels.now out
-          (whole row.result) (omega (arith, most_words_rows out k.loop.invariant.1, (begun k).requires.1)) k.loop.invariant.2 (rw own at row.ensures)),
+          (tight_parameters_more a.n a.a k.loop-r.r (row_numbers a.parameters.now) a.powers.now a.heights.now a.levels.now out
+          (whole row.result) (omega (arith, most_words_rows out k.loop-r.invariant.1, (begun k).requires.1)) k.loop-r.invariant.2 (rw own at row.ensures)),
     )
 
 returns : tie.Need-returns invariant-loop decreases-loop
-returns c = λ r x l m. c.before.loop.invariant.2 r x (omega arith) m
+returns c = λ r x l m. c.before.loop-r.invariant.2 r x (omega arith) m
 
 pub tight_parameters_spec : {M : Type 1} → statement M
 tight_parameters_spec =

@@ -14,64 +14,64 @@ use native.Mathlib.Omega.{arith}
 use Rattle.degree.proofs.levels.tight_row.Statement.{statement}
 use Rattle.degree.proofs.levels.tight_row.Tie as tie
 
-abbrev invariant-loop : tie.invariant-loop
+abbrev invariant-loop : tie.invariant-loop-x
 invariant-loop out₀ constants weights from n level x₀ out x = (x ≤ n) × TightRow x from level constants weights out₀ out
 
-abbrev decreases-loop : tie.decreases-loop
+abbrev decreases-loop : tie.decreases-loop-x
 decreases-loop out₀ constants weights from n level x₀ out x = n - x
 
-loop_holds : tie.Need-loop-init invariant-loop decreases-loop
+loop_holds : tie.Need-loop-x-init invariant-loop decreases-loop
 loop_holds c = (search rules, tight_row_none _ _ _ _ _)
 
-add_i : tie.Need-overflow-add-i invariant-loop decreases-loop
+add_i : tie.Need-overflow_add-i invariant-loop decreases-loop
 add_i c = search rules
 
-mul_v : tie.Need-overflow-mul-v invariant-loop decreases-loop
+mul_v : tie.Need-offset_bounds-constants-i invariant-loop decreases-loop
 mul_v c = search rules
 
-shared_slice_read_v : tie.Need-shared-slice-read-v invariant-loop decreases-loop
+shared_slice_read_v : tie.Need-bounds-constants-i invariant-loop decreases-loop
 shared_slice_read_v c = search rules
 
-mul_if1 : tie.Need-overflow-mul-if1 invariant-loop decreases-loop
+mul_if1 : tie.Need-offset_bounds-weights-x invariant-loop decreases-loop
 mul_if1 c = search rules
 
-shared_slice_read_if1 : tie.Need-shared-slice-read-if1 invariant-loop decreases-loop
+shared_slice_read_if1 : tie.Need-bounds-weights-x invariant-loop decreases-loop
 shared_slice_read_if1 c = search rules
 
-mul_out : tie.Need-overflow-mul-out invariant-loop decreases-loop
+mul_out : tie.Need-offset_bounds-out-i invariant-loop decreases-loop
 mul_out c = search rules
 
-slice_write_out : tie.Need-slice-write-out invariant-loop decreases-loop
-slice_write_out c = omega (arith, c.before.before.before.before.loop.invariant.1.same_length)
+slice_write_out : tie.Need-bounds-out-i invariant-loop decreases-loop
+slice_write_out c = omega (arith, c.before.before.before.before.loop-x.invariant.1.same_length)
 
-add_x : tie.Need-overflow-add-x invariant-loop decreases-loop
+add_x : tie.Need-overflow_step-x invariant-loop decreases-loop
 add_x c = search rules
 
-loop_less : tie.Need-loop-smaller invariant-loop decreases-loop
+loop_less : tie.Need-loop-x-smaller invariant-loop decreases-loop
 loop_less c = search rules
 
-loop_again : tie.Need-loop-preserved invariant-loop decreases-loop
+loop_again : tie.Need-loop-x-preserved invariant-loop decreases-loop
 loop_again c =
     let k = c.before.before.before.before in
-    let l = k.loop in
+    let l = k.loop-x in
     let a = k.before.args in
     let w = get_or a.weights.now l.x 0 in
     let v = get_or a.constants.now (a.from + l.x) 0 in
-    let kept : c.if1.out ≡ cond (eqb w a.level) v 0 =
+    let kept : c.if-weights-x.out ≡ cond (eqb w a.level) v 0 =
     ⊎_elim
     (λ z. z.1 ∙ sym (ap (λ (b : Bool). cond b v 0) (eq-eqb w a.level z.0.taken)))
     (λ z. z.1 ∙ sym (ap (λ (b : Bool). cond b v 0) (ne_eqb w a.level z.0.left)))
-    c.if1.branch in
+    c.if-weights-x.branch in
     let room : a.from + l.x < length l.out = omega (arith, l.invariant.1.same_length) in
     (search rules, tight_row_more l.x a.from a.level a.constants.now a.weights.now a.out.now l.out _ room kept l.invariant.1)
 
-same_length : tie.Need-same-length invariant-loop decreases-loop
-same_length c = c.before.loop.invariant.1.same_length
+same_length : tie.Need-shape_of-out invariant-loop decreases-loop
+same_length c = c.before.loop-x.invariant.1.same_length
 
 returns : tie.Need-returns invariant-loop decreases-loop
 returns c =
-    let done : c.before.loop.x ≡ c.before.before.args.n = omega arith in
-    rw done at c.before.loop.invariant.1
+    let done : c.before.loop-x.x ≡ c.before.before.args.n = omega arith in
+    rw done at c.before.loop-x.invariant.1
 
 pub tight_row_spec : {M : Type 1} → statement M
 tight_row_spec =

@@ -9,14 +9,14 @@ use Rattle.degree.proofs.levels.weight_at.Tie as tie
 contains_requires : tie.Need-contains-requires
 contains_requires c κs = search rules
 
-add_result : tie.Need-overflow-add-result
+add_result : tie.Need-overflow_add-result
 add_result c = search rules
 
-returns : tie.Need-returns
-returns c = let a = c.before.before.args in sym (ap (λ (b : Bool). cond b (a.power + a.height) 0) (sym c.before.contains.ensures ∙ c.if1.true))
+returns : tie.Need-returns-then-contains
+returns c = let a = c.before.before.args in sym (ap (λ (b : Bool). cond b (a.power + a.height) 0) (sym c.before.contains.ensures ∙ c.if-contains.true))
 
-returns_2 : tie.Need-returns-2
-returns_2 c = let a = c.before.before.args in sym (ap (λ (b : Bool). cond b (a.power + a.height) 0) (sym c.before.contains.ensures ∙ c.if1.false))
+returns_2 : tie.Need-returns
+returns_2 c = let a = c.before.before.args in sym (ap (λ (b : Bool). cond b (a.power + a.height) 0) (sym c.before.contains.ensures ∙ c.if-contains.false))
 
 pub weight_at_spec : {M : Type 1} → statement M
 weight_at_spec = tie.close (tie.spec contains_requires add_result returns returns_2)

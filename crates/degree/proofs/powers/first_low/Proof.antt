@@ -14,35 +14,35 @@ use native.Mathlib.Omega.{arith}
 use Rattle.degree.proofs.powers.first_low.Statement.{statement}
 use Rattle.degree.proofs.powers.first_low.Tie as tie
 
-abbrev invariant-loop : tie.invariant-loop
+abbrev invariant-loop : tie.invariant-loop-i
 invariant-loop powers k i₀ i = (i ≤ k) × ((j : ℕ) → j < i → leb (get_or powers j 0) most_power ≡ true)
 
-abbrev decreases-loop : tie.decreases-loop
+abbrev decreases-loop : tie.decreases-loop-i
 decreases-loop powers k i₀ i = k - i
 
-loop_holds : tie.Need-loop-init invariant-loop decreases-loop
+loop_holds : tie.Need-loop-i-init invariant-loop decreases-loop
 loop_holds c = (omega arith, λ j l. absurd (omega arith))
 
-shared_slice_read_if1 : tie.Need-shared-slice-read-if1 invariant-loop decreases-loop
+shared_slice_read_if1 : tie.Need-bounds-powers-i invariant-loop decreases-loop
 shared_slice_read_if1 c = search rules
 
-returns : tie.Need-returns invariant-loop decreases-loop
-returns c = let k = c.before.before.before in sym (all_fails _ _ k.loop.i (omega arith) (lt-leb _ _ c.if1.true))
+returns : tie.Need-returns-then-powers-i-gt-MOST_POWER invariant-loop decreases-loop
+returns c = let k = c.before.before.before in sym (all_fails _ _ k.loop-i.i (omega arith) (lt-leb _ _ c.if-powers-i-gt-MOST_POWER.true))
 
-add_i : tie.Need-overflow-add-i invariant-loop decreases-loop
+add_i : tie.Need-overflow_step-i invariant-loop decreases-loop
 add_i c = search rules
 
-loop_less : tie.Need-loop-smaller invariant-loop decreases-loop
+loop_less : tie.Need-loop-i-smaller invariant-loop decreases-loop
 loop_less c = search rules
 
-loop_again : tie.Need-loop-preserved invariant-loop decreases-loop
+loop_again : tie.Need-loop-i-preserved invariant-loop decreases-loop
 loop_again c =
     let k = c.before.before.before in
-    (omega arith, below_more (λ j. leb (get_or k.before.args.powers.now j 0) most_power ≡ true) k.loop.i k.loop.invariant.1 (le-leb _ _ c.if1.false))
+    (omega arith, below_more (λ j. leb (get_or k.before.args.powers.now j 0) most_power ≡ true) k.loop-i.i k.loop-i.invariant.1 (le-leb _ _ c.if-powers-i-gt-MOST_POWER.false))
 
-returns_2 : tie.Need-returns-2 invariant-loop decreases-loop
+returns_2 : tie.Need-returns invariant-loop decreases-loop
 returns_2 c =
-    let l = c.before.loop in
+    let l = c.before.loop-i in
     let done : l.i ≡ c.before.before.args.k = omega arith in
     sym ((all_iff _ _).1 (rw done at l.invariant.1))
 

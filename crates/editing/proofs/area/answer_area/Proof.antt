@@ -19,91 +19,91 @@ use Rattle.editing.proofs.area.answer_area.Statement.{statement}
 use Rattle.editing.proofs.area.answer_area.Tie as tie
 
 -- where the area is lent, seen from behind the reading of its file; and where that is read, seen from the test of the refusal
-abbrev lent : tie.After-read-rows → tie.After-shared-slice-known
+abbrev lent : tie.After-read_rows-sizes → tie.After-shared_slice_known-1
 lent c = c.before.before.before.before
 
-abbrev read : tie.After-struct-known → tie.After-read-rows
+abbrev read : tie.After-struct_known-1 → tie.After-read_rows-sizes
 read c = c.before.before.before
 
-abbrev area : tie.After-read-rows → List ℕ
+abbrev area : tie.After-read_rows-sizes → List ℕ
 area c = (lent c).before.args.area.now
 
-bytes : (c : tie.After-shared-slice-known) → AreBytes c.before.args.area.now
-bytes c i = search (rules, c.shared-slice-known.given i)
+bytes : (c : tie.After-shared_slice_known-1) → AreBytes c.before.args.area.now
+bytes c i = search (rules, c.shared_slice_known-1.given i)
 
 -- what was read is the area's file
-rows : (c : tie.After-read-rows)
-    → RowsReading (area_file (area c)) own_constants own_parameters c.read-rows.result c.read-rows.new.1.0 (row_numbers c.read-rows.new.1.1.0)
+rows : (c : tie.After-read_rows-sizes)
+    → RowsReading (area_file (area c)) own_constants own_parameters c.read_rows-sizes.result c.read_rows-sizes.new.1.0 (row_numbers c.read_rows-sizes.new.1.1.0)
 rows c =
-    subst (λ (s : List ℕ). RowsReading s own_constants own_parameters c.read-rows.result c.read-rows.new.1.0 (row_numbers c.read-rows.new.1.1.0))
-    c.before.before.before.file-in.ensures c.read-rows.ensures
+    subst (λ (s : List ℕ). RowsReading s own_constants own_parameters c.read_rows-sizes.result c.read_rows-sizes.new.1.0 (row_numbers c.read_rows-sizes.new.1.1.0))
+    c.before.before.before.file_in-file.ensures c.read_rows-sizes.ensures
 
-file_in_requires : tie.Need-file-in-requires
+file_in_requires : tie.Need-file_in-file-requires
 file_in_requires c κs = search rules
 
-slice_aggregate_read_rows : tie.Need-slice-aggregate-read-rows
+slice_aggregate_read_rows : tie.Need-slice_bounds-read_rows-end
 slice_aggregate_read_rows c = search rules
 
-slice_aggregate_read_rows_2 : tie.Need-slice-aggregate-read-rows-2
+slice_aggregate_read_rows_2 : tie.Need-slice_bounds-read_rows-end-2
 slice_aggregate_read_rows_2 c = search rules
 
-read_rows_requires : tie.Need-read-rows-requires
+read_rows_requires : tie.Need-read_rows-sizes-requires
 read_rows_requires c κs = search rules
 
-read_unnumbered_header_requires : tie.Need-read-unnumbered-header-requires
+read_unnumbered_header_requires : tie.Need-read_unnumbered_header-requires
 read_unnumbered_header_requires c κs = search rules
 
 refuse_requires : tie.Need-refuse-requires
 refuse_requires c κs = search rules
 
-returns : tie.Need-returns
+returns : tie.Need-returns-then-sizes-ne0
 returns c =
     let told = c.before in
     let at_read = read told.before.before in
     answer_refused (area at_read)
-    (ap (λ (h : Header). h.refusal) told.read-unnumbered-header.ensures ∙ unnumbered_header_refusal _ ∙ ap unnumbered_judge at_read.before.before.before.file-in.ensures)
-    (read_refused (area at_read) (bytes (lent at_read)) (rows at_read) told.before.if1.true) c.refuse.ensures
+    (ap (λ (h : Header). h.refusal) told.read_unnumbered_header.ensures ∙ unnumbered_header_refusal _ ∙ ap unnumbered_judge at_read.before.before.before.file_in-file.ensures)
+    (read_refused (area at_read) (bytes (lent at_read)) (rows at_read) told.before.if-sizes-ne0.true) c.refuse.ensures
 
-read_unnumbered_header_requires_2 : tie.Need-read-unnumbered-header-requires-2
+read_unnumbered_header_requires_2 : tie.Need-read_unnumbered_header-requires-then-sizes
 read_unnumbered_header_requires_2 c κs = search rules
 
-refuse_requires_2 : tie.Need-refuse-requires-2
+refuse_requires_2 : tie.Need-refuse-requires-then-sizes
 refuse_requires_2 c κs = search rules
 
-returns_2 : tie.Need-returns-2
+returns_2 : tie.Need-returns-then-sizes
 returns_2 c =
     let told = c.before in
     let accepted = told.before.before in
     let at_read = read accepted.before in
     answer_refused (area at_read)
-    (ap (λ (h : Header). h.refusal) told.read-unnumbered-header2.ensures ∙ unnumbered_header_refusal _ ∙ ap unnumbered_judge at_read.before.before.before.file-in.ensures)
-    (numbered_refused (area at_read) (bytes (lent at_read)) (rows at_read) accepted.if1.false told.before.if2.true) c.refuse2.ensures
+    (ap (λ (h : Header). h.refusal) told.read_unnumbered_header-then-sizes.ensures ∙ unnumbered_header_refusal _ ∙ ap unnumbered_judge at_read.before.before.before.file_in-file.ensures)
+    (numbered_refused (area at_read) (bytes (lent at_read)) (rows at_read) accepted.if-sizes-ne0.false told.before.if-sizes.true) c.refuse-then-sizes.ensures
 
-slice_aggregate_of_bytes : tie.Need-slice-aggregate-of-bytes
+slice_aggregate_of_bytes : tie.Need-slice_bounds-of_bytes-end
 slice_aggregate_of_bytes c =
     let accepted = c.before.before in
     let at_read = read accepted.before in
-    sym (length-take-le _ (area at_read) (omega (arith, area_long (area at_read) (bytes (lent at_read)) (read_accepted (area at_read) (bytes (lent at_read)) (rows at_read) accepted.if1.false c.before.if2.false))))
+    sym (length-take-le _ (area at_read) (omega (arith, area_long (area at_read) (bytes (lent at_read)) (read_accepted (area at_read) (bytes (lent at_read)) (rows at_read) accepted.if-sizes-ne0.false c.before.if-sizes.false))))
 
-of_bytes_requires : tie.Need-of-bytes-requires
+of_bytes_requires : tie.Need-of_bytes-present-requires
 of_bytes_requires c κs = search rules
 
-slice_aggregate_offered_rank : tie.Need-slice-aggregate-offered-rank
+slice_aggregate_offered_rank : tie.Need-slice_bounds-offered_rank-end
 slice_aggregate_offered_rank c = search rules
 
-slice_aggregate_offered_rank_2 : tie.Need-slice-aggregate-offered-rank-2
+slice_aggregate_offered_rank_2 : tie.Need-slice_bounds-offered_rank-end-2
 slice_aggregate_offered_rank_2 c = search rules
 
-offered_rank_requires : tie.Need-offered-rank-requires
+offered_rank_requires : tie.Need-offered_rank-requires
 offered_rank_requires c κs = search rules
 
-returns_3 : tie.Need-returns-3
+returns_3 : tie.Need-returns
 returns_3 c =
     let shown = c.before.before.before in
     let plain = shown.before.before in
     let accepted = plain.before in
     let at_read = read accepted.before in
-    answer_given (area at_read) (bytes (lent at_read)) (rows at_read) accepted.if1.false plain.if2.false shown.of-bytes.ensures.is_number c.offered-rank.ensures
+    answer_given (area at_read) (bytes (lent at_read)) (rows at_read) accepted.if-sizes-ne0.false plain.if-sizes.false shown.of_bytes-present.ensures.is_number c.offered_rank.ensures
 
 pub answer_area_spec : {M : Type 1} → statement M
 answer_area_spec =

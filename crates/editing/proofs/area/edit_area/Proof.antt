@@ -12,102 +12,102 @@ use Rattle.editing.proofs.area.edit_area.Statement.{statement}
 use Rattle.editing.proofs.area.edit_area.Tie as tie
 
 -- where the area is known, and where the call begins
-abbrev lent : tie.After-read-unnumbered-header → tie.After-slice-known
+abbrev lent : tie.After-read_unnumbered_header-header → tie.After-slice_known-1
 lent c = c.before.before.before.before
 
-abbrev start : tie.After-read-unnumbered-header → tie.Start
+abbrev start : tie.After-read_unnumbered_header-header → tie.Start
 start c = (lent c).before
 
 -- where the header is read, seen from the reading of the edit; and where that is read, seen from the reading of the columns present
-abbrev file_read : tie.After-read-edit → tie.After-read-unnumbered-header
+abbrev file_read : tie.After-read_edit-named → tie.After-read_unnumbered_header-header
 file_read c = c.before.before.before
 
-abbrev edit_read : tie.After-of-bytes → tie.After-read-edit
+abbrev edit_read : tie.After-of_bytes-present → tie.After-read_edit-named
 edit_read c = c.before.before.before.before.before
 
-bytes : (c : tie.After-slice-known) → AreBytes c.before.args.area.now
-bytes c i = search (rules, c.slice-known.given i)
+bytes : (c : tie.After-slice_known-1) → AreBytes c.before.args.area-1.now
+bytes c i = search (rules, c.slice_known-1.given i)
 
-said : (c : tie.After-read-unnumbered-header) → c.read-unnumbered-header.result ≡ unnumbered_header (area_file (start c).args.area.now)
-said c = c.read-unnumbered-header.ensures ∙ ap unnumbered_header c.before.file-in.ensures
+said : (c : tie.After-read_unnumbered_header-header) → c.read_unnumbered_header-header.result ≡ unnumbered_header (area_file (start c).args.area-1.now)
+said c = c.read_unnumbered_header-header.ensures ∙ ap unnumbered_header c.before.file_in.ensures
 
-file_in_requires : tie.Need-file-in-requires
+file_in_requires : tie.Need-file_in-requires
 file_in_requires c κs = search rules
 
-read_unnumbered_header_requires : tie.Need-read-unnumbered-header-requires
+read_unnumbered_header_requires : tie.Need-read_unnumbered_header-header-requires
 read_unnumbered_header_requires c κs = search rules
 
-same_length : tie.Need-same-length
+same_length : tie.Need-shape_of-area-then-header-ne0
 same_length c = search rules
 
-returns : tie.Need-returns
+returns : tie.Need-returns-then-header-ne0
 returns c =
     let read = c.before.before in
-    refused_file (start read).args.area.now (start read).args.bytes.now (said read) c.if1.true
+    refused_file (start read).args.area-1.now (start read).args.bytes.now (said read) c.if-header-ne0.true
 
-read_edit_requires : tie.Need-read-edit-requires
+read_edit_requires : tie.Need-read_edit-named-requires
 read_edit_requires c κs = search rules
 
-same_length_2 : tie.Need-same-length-2
+same_length_2 : tie.Need-shape_of-area-then-named-ne0
 same_length_2 c = search rules
 
-returns_2 : tie.Need-returns-2
+returns_2 : tie.Need-returns-then-named-ne0
 returns_2 c =
     let named = c.before.before in
     let read = file_read named in
-    refused_bytes (start read).args.area.now (start read).args.bytes.now (said read) named.before.if1.false named.read-edit.ensures c.if2.true
+    refused_bytes (start read).args.area-1.now (start read).args.bytes.now (said read) named.before.if-header-ne0.false named.read_edit-named.ensures c.if-named-ne0.true
 
-cast_n : tie.Need-overflow-cast-n
+cast_n : tie.Need-overflow_cast-n
 cast_n c = search rules
 
-slice_reshare_prefix_of_bytes : tie.Need-slice-reshare-prefix-of-bytes
+slice_reshare_prefix_of_bytes : tie.Need-slice_bounds-of_bytes-end
 slice_reshare_prefix_of_bytes c =
     let named = c.before.before.before in
     let read = file_read named in
     let a = (start read).args in
-    omega (arith, area_long a.area.now (bytes (lent read)) (file_accepted a.area.now a.bytes.now (said read) named.before.if1.false))
+    omega (arith, area_long a.area-1.now (bytes (lent read)) (file_accepted a.area-1.now a.bytes.now (said read) named.before.if-header-ne0.false))
 
-slice_aggregate_of_bytes : tie.Need-slice-aggregate-of-bytes
-slice_aggregate_of_bytes c = sym (length-take-le _ (start (file_read c.before.before.before.before)).args.area.now (slice_reshare_prefix_of_bytes c.before))
+slice_aggregate_of_bytes : tie.Need-slice_bounds-of_bytes-end-2
+slice_aggregate_of_bytes c = sym (length-take-le _ (start (file_read c.before.before.before.before)).args.area-1.now (slice_reshare_prefix_of_bytes c.before))
 
-of_bytes_requires : tie.Need-of-bytes-requires
+of_bytes_requires : tie.Need-of_bytes-present-requires
 of_bytes_requires c κs = search rules
 
-cast_judge_edit : tie.Need-overflow-cast-judge-edit
+cast_judge_edit : tie.Need-overflow_cast-header
 cast_judge_edit c = search rules
 
-judge_edit_requires : tie.Need-judge-edit-requires
+judge_edit_requires : tie.Need-judge_edit-own-requires
 judge_edit_requires c κs = search rules
 
-same_length_3 : tie.Need-same-length-3
+same_length_3 : tie.Need-shape_of-area-then-own-ne0
 same_length_3 c = search rules
 
-returns_3 : tie.Need-returns-3
+returns_3 : tie.Need-returns-then-own-ne0
 returns_3 c =
     let judged = c.before in
     let shown = judged.before.before in
     let named = edit_read shown in
     let read = file_read named in
-    refused_own (start read).args.area.now (start read).args.bytes.now (said read) named.before.if1.left named.read-edit.ensures shown.before.before.before.if2.false
-    shown.of-bytes.ensures.is_number judged.judge-edit.ensures c.if3.true
+    refused_own (start read).args.area-1.now (start read).args.bytes.now (said read) named.before.if-header-ne0.false named.read_edit-named.ensures shown.before.before.before.if-named-ne0.false
+    shown.of_bytes-present.ensures.is_number judged.judge_edit-own.ensures c.if-own-ne0.true
 
-cast_change_bytes : tie.Need-overflow-cast-change-bytes
+cast_change_bytes : tie.Need-overflow_cast-header-2
 cast_change_bytes c = search rules
 
-change_bytes_requires : tie.Need-change-bytes-requires
+change_bytes_requires : tie.Need-change_bytes-requires
 change_bytes_requires c κs =
     let passed = c.before.before in
     let judged = passed.before in
     let shown = judged.before.before in
     let named = edit_read shown in
     let read = file_read named in
-    edit_room (start read).args.area.now (start read).args.bytes.now (said read) named.before.if1.left named.read-edit.ensures shown.before.before.before.if2.false
-    shown.of-bytes.ensures.is_number judged.judge-edit.ensures (bytes (lent read)) passed.if3.false
+    edit_room (start read).args.area-1.now (start read).args.bytes.now (said read) named.before.if-header-ne0.false named.read_edit-named.ensures shown.before.before.before.if-named-ne0.false
+    shown.of_bytes-present.ensures.is_number judged.judge_edit-own.ensures (bytes (lent read)) passed.if-own-ne0.false
 
-same_length_4 : tie.Need-same-length-4
+same_length_4 : tie.Need-shape_of-area
 same_length_4 c = search rules
 
-returns_4 : tie.Need-returns-4
+returns_4 : tie.Need-returns
 returns_4 c =
     let made = c.before.before in
     let passed = made.before.before.before in
@@ -115,8 +115,8 @@ returns_4 c =
     let shown = judged.before.before in
     let named = edit_read shown in
     let read = file_read named in
-    edit_made (start read).args.area.now (start read).args.bytes.now (said read) named.before.if1.left named.read-edit.ensures shown.before.before.before.if2.false
-    shown.of-bytes.ensures.is_number judged.judge-edit.ensures (bytes (lent read)) passed.if3.false made.change-bytes.ensures
+    edit_made (start read).args.area-1.now (start read).args.bytes.now (said read) named.before.if-header-ne0.false named.read_edit-named.ensures shown.before.before.before.if-named-ne0.false
+    shown.of_bytes-present.ensures.is_number judged.judge_edit-own.ensures (bytes (lent read)) passed.if-own-ne0.false made.change_bytes.ensures
 
 pub edit_area_spec : {M : Type 1} → statement M
 edit_area_spec =

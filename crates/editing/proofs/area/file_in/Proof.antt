@@ -10,31 +10,31 @@ use Rattle.editing.specs.Areas.{area_file}
 use Rattle.editing.proofs.area.file_in.Statement.{statement}
 use Rattle.editing.proofs.area.file_in.Tie as tie
 
-sub_result : tie.Need-overflow-sub-result
+sub_result : tie.Need-slice_bounds-result-count
 sub_result c = search rules
 
-part_result_start : tie.Need-slice-bounds-result-start
+part_result_start : tie.Need-slice_bounds-result-start
 part_result_start c = search rules
 
-part_result_end : tie.Need-slice-bounds-result-end
+part_result_end : tie.Need-slice_bounds-result-end
 part_result_end c = search rules
 
-returns : tie.Need-returns
+returns : tie.Need-returns-then-end-lt-SET_BYTES
 unfolding area_file
 returns c =
     let area = c.before.before.args.area.now in
-    tail_part (length area) area ∙ drop-length area ∙ sym (drop_of_length-le area {i = set_bytes} (omega (arith, c.before.if1.true)))
+    tail_part (length area) area ∙ drop-length area ∙ sym (drop_of_length-le area {i = set_bytes} (omega (arith, c.before.if-end-lt-SET_BYTES.true)))
 
-sub_result_2 : tie.Need-overflow-sub-result-2
+sub_result_2 : tie.Need-slice_bounds-result-count-2
 sub_result_2 c = search rules
 
-part_result_start_2 : tie.Need-slice-bounds-result-start-2
+part_result_start_2 : tie.Need-slice_bounds-result-start-2
 part_result_start_2 c = search rules
 
-part_result_end_2 : tie.Need-slice-bounds-result-end-2
+part_result_end_2 : tie.Need-slice_bounds-result-end-2
 part_result_end_2 c = search rules
 
-returns_2 : tie.Need-returns-2
+returns_2 : tie.Need-returns
 unfolding area_file
 returns_2 c = tail_part set_bytes c.before.before.args.area.now
 

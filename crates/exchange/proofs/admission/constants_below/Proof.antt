@@ -7,7 +7,7 @@ use Rattle.exchange.proofs.admission.constants_below.Tie as tie
 largest_requires : tie.Need-largest-requires
 largest_requires c κs = search rules
 
-cast_result : tie.Need-overflow-cast-result
+cast_result : tie.Need-overflow_cast-result
 cast_result c = search rules
 
 returns : tie.Need-returns

@@ -23,46 +23,46 @@ largest_same cs k top l h = record {
   one = ⊎_elim (λ z. inl z) (λ w. inr (w.0, omega (arith, w.1), w.2)) h.one;
 }
 
-abbrev invariant-loop : tie.invariant-loop
+abbrev invariant-loop : tie.invariant-loop-i
 invariant-loop constants k top₀ i₀ top i = (i ≤ k) × Largest constants i top
 
-abbrev decreases-loop : tie.decreases-loop
+abbrev decreases-loop : tie.decreases-loop-i
 decreases-loop constants k top₀ i₀ top i = k - i
 
 -- where a turn begins
-abbrev turn : tie.Joined1 invariant-loop decreases-loop → tie.At-loop invariant-loop decreases-loop
+abbrev turn : tie.Joined-v-top invariant-loop decreases-loop → tie.At-loop-i invariant-loop decreases-loop
 turn c = c.before.before.before
 
-loop_holds : tie.Need-loop-init invariant-loop decreases-loop
+loop_holds : tie.Need-loop-i-init invariant-loop decreases-loop
 loop_holds c = (search rules, record { most = λ j l. absurd (omega arith); one = inl refl })
 
-mul_v : tie.Need-overflow-mul-v invariant-loop decreases-loop
+mul_v : tie.Need-offset_bounds-constants-i invariant-loop decreases-loop
 mul_v c = search rules
 
-shared_slice_read_v : tie.Need-shared-slice-read-v invariant-loop decreases-loop
+shared_slice_read_v : tie.Need-bounds-constants-i invariant-loop decreases-loop
 shared_slice_read_v c = search rules
 
-add_i : tie.Need-overflow-add-i invariant-loop decreases-loop
+add_i : tie.Need-overflow_step-i invariant-loop decreases-loop
 add_i c = search rules
 
-loop_less : tie.Need-loop-smaller invariant-loop decreases-loop
+loop_less : tie.Need-loop-i-smaller invariant-loop decreases-loop
 loop_less c = search rules
 
-loop_again : tie.Need-loop-preserved invariant-loop decreases-loop
+loop_again : tie.Need-loop-i-preserved invariant-loop decreases-loop
 loop_again c =
-    let l = (turn c).loop in
+    let l = (turn c).loop-i in
     let cs = (turn c).before.args.constants.now in (
       omega arith,
       ⊎_elim
           (λ w. rw w.1 (largest_more cs l.i l.top w.0.taken l.inv.1))
           (λ w. rw w.1 (largest_same cs l.i l.top w.0.left l.inv.1))
-          c.if1.branch,
+          c.if-v-top.branch,
     )
 
 returns : tie.Need-returns invariant-loop decreases-loop
 returns c =
-    let done : c.before.loop.i ≡ c.before.before.args.k = omega arith in
-    rw done at c.before.loop.invariant.1
+    let done : c.before.loop-i.i ≡ c.before.before.args.k = omega arith in
+    rw done at c.before.loop-i.invariant.1
 
 pub largest_spec : {M : Type 1} → statement M
 largest_spec =

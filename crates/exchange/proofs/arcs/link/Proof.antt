@@ -17,79 +17,79 @@ use native.Mathlib.Omega.{arith}
 use Rattle.exchange.proofs.arcs.link.Statement.{statement}
 use Rattle.exchange.proofs.arcs.link.Tie as tie
 
-abbrev invariant-loop : tie.invariant-loop
+abbrev invariant-loop : tie.invariant-loop-q
 invariant-loop t owner parameters n a rows offered into₀ ends₀ q₀ into ends q = (q ≤ rows) × Linked n (touched a t (row_numbers parameters)) (owner_at owner) (members (whole offered)) q into₀ into (members (whole ends))
 
-abbrev decreases-loop : tie.decreases-loop
+abbrev decreases-loop : tie.decreases-loop-q
 decreases-loop t owner parameters n a rows offered into₀ ends₀ q₀ into ends q = rows - q
 
 -- the places of a turn: where its row has been read, and where it begins; and where the call did
-abbrev read : tie.After-note invariant-loop decreases-loop → tie.After-intersection invariant-loop decreases-loop
+abbrev read : tie.After-note-ends invariant-loop decreases-loop → tie.After-intersection-touching invariant-loop decreases-loop
 read c = c.before.before
 
-abbrev turn : tie.After-intersection invariant-loop decreases-loop → tie.At-loop invariant-loop decreases-loop
+abbrev turn : tie.After-intersection-touching invariant-loop decreases-loop → tie.At-loop-q invariant-loop decreases-loop
 turn c = c.before.before.before.before.before
 
-abbrev begun : tie.At-loop invariant-loop decreases-loop → tie.Start invariant-loop decreases-loop
+abbrev begun : tie.At-loop-q invariant-loop decreases-loop → tie.Start invariant-loop decreases-loop
 begun k = k.before.before.before.before
 
-empty_requires : tie.Need-empty-requires invariant-loop decreases-loop
+empty_requires : tie.Need-empty-ends-requires invariant-loop decreases-loop
 empty_requires c κs = search rules
 
-loop_holds : tie.Need-loop-init invariant-loop decreases-loop
-loop_holds c = let a = c.before.before.before.args in (search rules, rw (empty_none c.empty.ensures) (linked_none a.n (touched a.a a.t.now (row_numbers a.parameters.now)) (owner_at a.owner.now) (members (whole a.offered)) a.into.now))
+loop_holds : tie.Need-loop-q-init invariant-loop decreases-loop
+loop_holds c = let a = c.before.before.before.args in (search rules, rw (empty_none c.empty-ends.ensures) (linked_none a.n (touched a.a a.t.now (row_numbers a.parameters.now)) (owner_at a.owner.now) (members (whole a.offered)) a.into-1.now))
 
-element_copy_out_widened : tie.Need-element-copy-out-widened invariant-loop decreases-loop
+element_copy_out_widened : tie.Need-bounds-owner-q invariant-loop decreases-loop
 element_copy_out_widened c = search rules
 
-widened_requires : tie.Need-widened-requires invariant-loop decreases-loop
+widened_requires : tie.Need-widened-y-requires invariant-loop decreases-loop
 widened_requires c κs = search rules
 
-row_touches_requires : tie.Need-row-touches-requires invariant-loop decreases-loop
+row_touches_requires : tie.Need-row_touches-requires invariant-loop decreases-loop
 row_touches_requires c κs = search rules
 
-intersection_requires : tie.Need-intersection-requires invariant-loop decreases-loop
+intersection_requires : tie.Need-intersection-touching-requires invariant-loop decreases-loop
 intersection_requires c κs = search rules
 
-note_requires : tie.Need-note-requires invariant-loop decreases-loop
+note_requires : tie.Need-note-ends-requires invariant-loop decreases-loop
 note_requires c κs = search rules
 
-add_q : tie.Need-overflow-add-q invariant-loop decreases-loop
+add_q : tie.Need-overflow_step-q invariant-loop decreases-loop
 add_q c = search rules
 
-loop_less : tie.Need-loop-smaller invariant-loop decreases-loop
+loop_less : tie.Need-loop-q-smaller invariant-loop decreases-loop
 loop_less c = search rules
 
-loop_again : tie.Need-loop-preserved invariant-loop decreases-loop
+loop_again : tie.Need-loop-q-preserved invariant-loop decreases-loop
 loop_again c =
     let put = c.before.before in
     let r = read put in
-    let l = (turn r).loop in
+    let l = (turn r).loop-q in
     let k = begun (turn r) in
     let a = k.args in
     let tch = touched a.a a.t.now (row_numbers a.parameters.now) in
     let offered = members (whole a.offered) in
-    let touching = members (whole r.intersection.result) in
-    let below : (x : ℕ) → x ∈ offered → x < a.n = λ x e. (within_iff a.n (whole a.offered)).0 k.pre.1 x (columns_below a.offered x (search (rules, k.good.1.1.1.1.1.1.0)) e) e in
-    let is_own : r.before.before.widened.result ≡ owner_at a.owner.now l.q = r.before.before.widened.ensures.0 in
-    let row = members (whole r.before.row-touches.result) in
-    let at : (x : ℕ) → touching x ≡ (row x && offered x) = λ x. ap (λ (S : Set). S x) r.intersection.ensures in
+    let touching = members (whole r.intersection-touching.result) in
+    let below : (x : ℕ) → x ∈ offered → x < a.n = λ x e. (within_iff a.n (whole a.offered)).0 k.requires.1 x (columns_below a.offered x (search (rules, k.good.1.1.1.1.1.1.0)) e) e in
+    let is_own : r.before.before.widened-y.result ≡ owner_at a.owner.now l.q = r.before.before.widened-y.ensures.0 in
+    let row = members (whole r.before.row_touches.result) in
+    let at : (x : ℕ) → touching x ≡ (row x && offered x) = λ x. ap (λ (S : Set). S x) r.intersection-touching.ensures in
     let same : (x : ℕ) → (x ∈ touching) ↔ ((x ∈ offered) × (tch l.q x ≡ true)) = λ x. (
-      (λ e. let w : (row x && offered x) ≡ true = sym (at x) ∙ e in let o : x ∈ offered = and_right (row x) (offered x) w in (o, sym (r.before.row-touches.ensures x (below x o)) ∙ and_left (row x) (offered x) w)),
-      λ w. at x ∙ and_in (r.before.row-touches.ensures x (below x w.0) ∙ w.1) w.0,
+      (λ e. let w : (row x && offered x) ≡ true = sym (at x) ∙ e in let o : x ∈ offered = and_right (row x) (offered x) w in (o, sym (r.before.row_touches.ensures x (below x o)) ∙ and_left (row x) (offered x) w)),
+      λ w. at x ∙ and_in (r.before.row_touches.ensures x (below x w.0) ∙ w.1) w.0,
     ) in (
       search rules,
-      linked_more a.n tch (owner_at a.owner.now) offered l.q a.into.now l.into put.note.new.0 (members (whole l.ends)) (members (whole put.note.result)) touching l.inv.1 same
-          (rw is_own at put.note.ensures),
+      linked_more a.n tch (owner_at a.owner.now) offered l.q a.into-1.now l.into-1 put.note-ends.new.0 (members (whole l.ends)) (members (whole put.note-ends.result)) touching l.inv.1 same
+          (rw is_own at put.note-ends.ensures),
     )
 
-same_length : tie.Need-same-length invariant-loop decreases-loop
-same_length c = c.before.loop.invariant.1.same_length
+same_length : tie.Need-shape_of-into invariant-loop decreases-loop
+same_length c = c.before.loop-q.invariant.1.same_length
 
 returns : tie.Need-returns invariant-loop decreases-loop
 returns c =
-    let done : c.before.loop.q ≡ (begun c.before).args.rows = omega arith in
-    rw done at c.before.loop.invariant.1
+    let done : c.before.loop-q.q ≡ (begun c.before).args.rows = omega arith in
+    rw done at c.before.loop-q.invariant.1
 
 pub link_spec : {M : Type 1} → statement M
 link_spec =

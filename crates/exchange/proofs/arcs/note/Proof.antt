@@ -15,29 +15,29 @@ row_requires c κs = search rules
 union_requires : tie.Need-union-requires
 union_requires c κs = search rules
 
-put_row_requires : tie.Need-put-row-requires
+put_row_requires : tie.Need-put_row-requires
 put_row_requires c κs = search rules
 
-same_length : tie.Need-same-length
+same_length : tie.Need-shape_of-into-then-y-n
 same_length c = search rules
 
-returns : tie.Need-returns
+returns : tie.Need-returns-then-y-n
 returns c =
     let put = c.before.before in
     let u = put.before in
     let own = u.before.before.before.before in
     let a = own.before.before.args in
-    rw put.put-row.ensures
-    (noted_owned a.n a.y (members (whole a.touching)) a.into.now (members (whole a.ends)) (whole u.union.result) own.if1.true
+    rw put.put_row.ensures
+    (noted_owned a.n a.y (members (whole a.touching)) a.into-1.now (members (whole a.ends)) (whole u.union.result) own.if-y-n.true
     (u.union.ensures ∙ ap (λ (w : ℕ). members w ∪ members (whole a.touching)) u.before.row.ensures))
 
 union_requires_2 : tie.Need-union-requires-2
 union_requires_2 c κs = search rules
 
-returns_2 : tie.Need-returns-2
+returns_2 : tie.Need-returns
 returns_2 c =
     let a = c.before.before.before.args in
-    rw c.union2.ensures (noted_free a.n a.y (members (whole a.touching)) a.into.now (members (whole a.ends)) c.before.if1.false)
+    rw c.union-2.ensures (noted_free a.n a.y (members (whole a.touching)) a.into-1.now (members (whole a.ends)) c.before.if-y-n.false)
 
 pub note_spec : {M : Type 1} → statement M
 note_spec =

@@ -11,54 +11,54 @@ use native.Mathlib.Omega.{arith}
 use Rattle.exchange.proofs.arcs.support.Statement.{statement}
 use Rattle.exchange.proofs.arcs.support.Tie as tie
 
-abbrev invariant-loop : tie.invariant-loop
+abbrev invariant-loop : tie.invariant-loop-x
 invariant-loop t n q set₀ x₀ set x = (x ≤ n) × Support t q x (members (whole set))
 
-abbrev decreases-loop : tie.decreases-loop
+abbrev decreases-loop : tie.decreases-loop-x
 decreases-loop t n q set₀ x₀ set x = n - x
 
-empty_requires : tie.Need-empty-requires invariant-loop decreases-loop
+empty_requires : tie.Need-empty-set-requires invariant-loop decreases-loop
 empty_requires c κs = search rules
 
-loop_holds : tie.Need-loop-init invariant-loop decreases-loop
-loop_holds c = (search rules, rw (empty_none c.empty.ensures) (support_none c.before.args.t.now c.before.args.q))
+loop_holds : tie.Need-loop-x-init invariant-loop decreases-loop
+loop_holds c = (search rules, rw (empty_none c.empty-set.ensures) (support_none c.before.args.t.now c.before.args.q))
 
-mul_i : tie.Need-overflow-mul-i invariant-loop decreases-loop
+mul_i : tie.Need-overflow_mul-i invariant-loop decreases-loop
 mul_i c = search rules
 
-add_i : tie.Need-overflow-add-i invariant-loop decreases-loop
+add_i : tie.Need-overflow_add-i invariant-loop decreases-loop
 add_i c = search rules
 
-mul_if1 : tie.Need-overflow-mul-if1 invariant-loop decreases-loop
+mul_if1 : tie.Need-offset_bounds-t-i invariant-loop decreases-loop
 mul_if1 c = search rules
 
-element_copy_out_if1 : tie.Need-element-copy-out-if1 invariant-loop decreases-loop
+element_copy_out_if1 : tie.Need-bounds-t-i invariant-loop decreases-loop
 element_copy_out_if1 c = search rules
 
-with_requires : tie.Need-with-requires invariant-loop decreases-loop
+with_requires : tie.Need-with-set-requires invariant-loop decreases-loop
 with_requires c κs = search rules
 
-add_x : tie.Need-overflow-add-x invariant-loop decreases-loop
+add_x : tie.Need-overflow_step-x invariant-loop decreases-loop
 add_x c = search rules
 
-loop_less : tie.Need-loop-smaller invariant-loop decreases-loop
+loop_less : tie.Need-loop-x-smaller invariant-loop decreases-loop
 loop_less c = search rules
 
-loop_again : tie.Need-loop-preserved invariant-loop decreases-loop
+loop_again : tie.Need-loop-x-preserved invariant-loop decreases-loop
 loop_again c =
-    let l = c.before.before.before.loop in
+    let l = c.before.before.before.loop-x in
     let a = c.before.before.before.before.before.args in (
       search rules,
       ⊎_elim
           (λ w. rw (w.2, w.1.ensures) (support_more a.t.now a.q l.x (members (whole l.set)) l.invariant.1 (omega arith) w.0.taken))
           (λ w. rw w.1 (support_skip a.t.now a.q l.x (members (whole l.set)) l.invariant.1 w.0.left))
-          c.if1.branch,
+          c.if-t-i-ne0.branch,
     )
 
 returns : tie.Need-returns invariant-loop decreases-loop
 returns c =
-    let done : c.before.loop.x ≡ c.before.before.before.args.n = omega arith in
-    rw done at c.before.loop.invariant.1
+    let done : c.before.loop-x.x ≡ c.before.before.before.args.n = omega arith in
+    rw done at c.before.loop-x.invariant.1
 
 pub support_spec : {M : Type 1} → statement M
 support_spec =

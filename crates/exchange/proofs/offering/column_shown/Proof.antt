@@ -9,12 +9,12 @@ use Rattle.exchange.proofs.offering.column_shown.Tie as tie
 widened_requires : tie.Need-widened-requires
 widened_requires c κs = search rules
 
-returns : tie.Need-returns
+returns : tie.Need-returns-then-widened-n
 returns c =
     let a = c.before.before.args in
     sym (shown_low a.n a.y (omega (arith, c.before.widened.ensures.0)))
 
-returns_2 : tie.Need-returns-2
+returns_2 : tie.Need-returns
 returns_2 c =
     let a = c.before.before.args in
     sym (shown_high a.n a.y (omega (arith, c.before.widened.ensures.0)))

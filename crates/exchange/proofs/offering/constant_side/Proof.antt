@@ -13,54 +13,54 @@ use native.Mathlib.Omega.{arith}
 use Rattle.exchange.proofs.offering.constant_side.Statement.{statement}
 use Rattle.exchange.proofs.offering.constant_side.Tie as tie
 
-abbrev invariant-loop : tie.invariant-loop
+abbrev invariant-loop : tie.invariant-loop-q
 invariant-loop owner n a side₀ q₀ side q = (q ≤ a) × Side n q owner (members (whole side))
 
-abbrev decreases-loop : tie.decreases-loop
+abbrev decreases-loop : tie.decreases-loop-q
 decreases-loop owner n a side₀ q₀ side q = a - q
 
 -- where a turn begins
-abbrev turn : tie.After-widened invariant-loop decreases-loop → tie.At-loop invariant-loop decreases-loop
+abbrev turn : tie.After-widened-y invariant-loop decreases-loop → tie.At-loop-q invariant-loop decreases-loop
 turn c = c.before.before.before
 
-empty_requires : tie.Need-empty-requires invariant-loop decreases-loop
+empty_requires : tie.Need-empty-side-requires invariant-loop decreases-loop
 empty_requires c κs = search rules
 
-loop_holds : tie.Need-loop-init invariant-loop decreases-loop
-loop_holds c = (search rules, rw (empty_none c.empty.ensures) (side_none _ c.before.args.owner.now))
+loop_holds : tie.Need-loop-q-init invariant-loop decreases-loop
+loop_holds c = (search rules, rw (empty_none c.empty-side.ensures) (side_none _ c.before.args.owner.now))
 
-element_copy_out_widened : tie.Need-element-copy-out-widened invariant-loop decreases-loop
+element_copy_out_widened : tie.Need-bounds-owner-q invariant-loop decreases-loop
 element_copy_out_widened c = search rules
 
-widened_requires : tie.Need-widened-requires invariant-loop decreases-loop
+widened_requires : tie.Need-widened-y-requires invariant-loop decreases-loop
 widened_requires c κs = search rules
 
-with_requires : tie.Need-with-requires invariant-loop decreases-loop
+with_requires : tie.Need-with-side-requires invariant-loop decreases-loop
 with_requires c κs = search rules
 
-add_q : tie.Need-overflow-add-q invariant-loop decreases-loop
+add_q : tie.Need-overflow_step-q invariant-loop decreases-loop
 add_q c = search rules
 
-loop_less : tie.Need-loop-smaller invariant-loop decreases-loop
+loop_less : tie.Need-loop-q-smaller invariant-loop decreases-loop
 loop_less c = search rules
 
-loop_again : tie.Need-loop-preserved invariant-loop decreases-loop
+loop_again : tie.Need-loop-q-preserved invariant-loop decreases-loop
 loop_again c =
-    let l = (turn c.before).loop in
+    let l = (turn c.before).loop-q in
     let a = (turn c.before).before.before.args in
-    let y = c.before.widened.result in
-    let ey : y ≡ owner_at a.owner.now l.q = c.before.widened.ensures.0 in (
+    let y = c.before.widened-y.result in
+    let ey : y ≡ owner_at a.owner.now l.q = c.before.widened-y.ensures.0 in (
       search rules,
       ⊎_elim
           (λ w. rw (w.2, w.1.ensures ∙ ap (inserted (members (whole l.side))) ey) (side_more a.n l.q a.owner.now (members (whole l.side)) l.inv.1 (omega arith) (rw ey at w.0.taken)))
           (λ w. rw w.1 (side_skip a.n l.q a.owner.now (members (whole l.side)) l.inv.1 (rw ey at w.0.left)))
-          c.if1.branch,
+          c.if-y-n.branch,
     )
 
 returns : tie.Need-returns invariant-loop decreases-loop
 returns c =
-    let done : c.before.loop.q ≡ c.before.before.before.args.a = omega arith in
-    rw done at c.before.loop.invariant.1
+    let done : c.before.loop-q.q ≡ c.before.before.before.args.a = omega arith in
+    rw done at c.before.loop-q.invariant.1
 
 pub constant_side_spec : {M : Type 1} → statement M
 constant_side_spec =

@@ -10,67 +10,67 @@ use native.Mathlib.Omega.{arith}
 use Rattle.exchange.proofs.reading.entries_by_owner.Statement.{statement}
 use Rattle.exchange.proofs.reading.entries_by_owner.Tie as tie
 
-abbrev invariant-loop : tie.invariant-loop
+abbrev invariant-loop : tie.invariant-loop-q
 invariant-loop t owner n a x entries₀ q₀ entries q = (q ≤ a) × EntriesByOwner n q x t owner entries
 
-abbrev decreases-loop : tie.decreases-loop
+abbrev decreases-loop : tie.decreases-loop-q
 decreases-loop t owner n a x entries₀ q₀ entries q = a - q
 
 -- where a turn begins
-abbrev turn : tie.After-widened invariant-loop decreases-loop → tie.At-loop invariant-loop decreases-loop
+abbrev turn : tie.After-widened-y invariant-loop decreases-loop → tie.At-loop-q invariant-loop decreases-loop
 turn c = c.before.before.before
 
-loop_holds : tie.Need-loop-init invariant-loop decreases-loop
+loop_holds : tie.Need-loop-q-init invariant-loop decreases-loop
 loop_holds c = (search rules, entries_none _ _ _ _)
 
-element_copy_out_widened : tie.Need-element-copy-out-widened invariant-loop decreases-loop
+element_copy_out_widened : tie.Need-bounds-owner-q invariant-loop decreases-loop
 element_copy_out_widened c = search rules
 
-widened_requires : tie.Need-widened-requires invariant-loop decreases-loop
+widened_requires : tie.Need-widened-y-requires invariant-loop decreases-loop
 widened_requires c κs = search rules
 
-mul_i : tie.Need-overflow-mul-i invariant-loop decreases-loop
+mul_i : tie.Need-overflow_mul-i invariant-loop decreases-loop
 mul_i c = search rules
 
-add_i : tie.Need-overflow-add-i invariant-loop decreases-loop
+add_i : tie.Need-overflow_add-i invariant-loop decreases-loop
 add_i c = search rules
 
-mul_entries : tie.Need-overflow-mul-entries invariant-loop decreases-loop
+mul_entries : tie.Need-offset_bounds-t-i invariant-loop decreases-loop
 mul_entries c = search rules
 
-element_copy_out_entries : tie.Need-element-copy-out-entries invariant-loop decreases-loop
+element_copy_out_entries : tie.Need-bounds-t-i invariant-loop decreases-loop
 element_copy_out_entries c = search rules
 
-mul_entries_2 : tie.Need-overflow-mul-entries-2 invariant-loop decreases-loop
+mul_entries_2 : tie.Need-offset_bounds-entries-y invariant-loop decreases-loop
 mul_entries_2 c = search rules
 
-array_write_entries : tie.Need-array-write-entries invariant-loop decreases-loop
+array_write_entries : tie.Need-bounds-entries-y invariant-loop decreases-loop
 array_write_entries c = search rules
 
-add_q : tie.Need-overflow-add-q invariant-loop decreases-loop
+add_q : tie.Need-overflow_step-q invariant-loop decreases-loop
 add_q c = search rules
 
-loop_less : tie.Need-loop-smaller invariant-loop decreases-loop
+loop_less : tie.Need-loop-q-smaller invariant-loop decreases-loop
 loop_less c = search rules
 
-loop_again : tie.Need-loop-preserved invariant-loop decreases-loop
+loop_again : tie.Need-loop-q-preserved invariant-loop decreases-loop
 loop_again c =
-    let l = (turn c.before).loop in
+    let l = (turn c.before).loop-q in
     let k = (turn c.before).before in
     let a = k.args in
-    let y = c.before.widened.result in
-    let ey : y ≡ owner_at a.owner.now l.q = c.before.widened.ensures.0 in (
+    let y = c.before.widened-y.result in
+    let ey : y ≡ owner_at a.owner.now l.q = c.before.widened-y.ensures.0 in (
       search rules,
       ⊎_elim
-          (λ w. rw w.2 (entries_more a.n a.x a.t.now a.owner.now l.q l.entries l.inv.1 y ey k.pre.0.columns w.0.taken))
-          (λ w. rw w.1 (entries_skip a.n a.x a.t.now a.owner.now l.q l.entries l.inv.1 (rw ey at w.0.left)))
-          c.if1.branch,
+          (λ w. rw w.2 (entries_more a.n a.x a.t.now a.owner.now l.q l.entries-1 l.inv.1 y ey k.requires.0.columns w.0.taken))
+          (λ w. rw w.1 (entries_skip a.n a.x a.t.now a.owner.now l.q l.entries-1 l.inv.1 (rw ey at w.0.left)))
+          c.if-y-n.branch,
     )
 
 returns : tie.Need-returns invariant-loop decreases-loop
 returns c =
-    let done : c.before.loop.q ≡ c.before.before.args.a = omega arith in
-    rw done at c.before.loop.invariant.1
+    let done : c.before.loop-q.q ≡ c.before.before.args.a = omega arith in
+    rw done at c.before.loop-q.invariant.1
 
 pub entries_by_owner_spec : {M : Type 1} → statement M
 entries_by_owner_spec =

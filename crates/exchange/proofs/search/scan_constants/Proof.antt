@@ -21,10 +21,10 @@ use native.Mathlib.Omega.{arith}
 use Rattle.exchange.proofs.search.scan_constants.Statement.{statement}
 use Rattle.exchange.proofs.search.scan_constants.Tie as tie
 
-abbrev invariant-loop : tie.invariant-loop
+abbrev invariant-loop : tie.invariant-loop-rest
 invariant-loop t owner n a rows front next₀ column₀ row₀ q rest₀ next column row rest = (row ≡ rows) × (members (whole rest) ⊆ members (whole front)) × (members (whole next₀) ⊆ members (whole next)) × ((ws : List ℕ) (x : ℕ) → x ∈ members (whole front) → (x ∈ members (whole rest)) ⊎ RowRead n rows (touched a t ws) (owner_at owner) (members (whole next)) x q) × ((ws : List ℕ) → Owners n rows (touched a t ws) (owner_at owner) (members (whole front)) (members (whole next)))
 
-abbrev decreases-loop : tie.decreases-loop
+abbrev decreases-loop : tie.decreases-loop-rest
 decreases-loop t owner n a rows front next₀ column₀ row₀ q rest₀ next column row rest = # width (members (whole rest))
 
 abbrev invariant-search : tie.invariant-search
@@ -34,45 +34,45 @@ abbrev decreases-search : tie.decreases-search
 decreases-search t owner n a rows front next₀ column₀ row₀ q₀ next column row q = q
 
 -- where a column is chosen, where its turn begins, where that of its row does, and where the call does
-abbrev chosen : tie.After-widened invariant-loop decreases-loop invariant-search decreases-search → tie.After-first invariant-loop decreases-loop invariant-search decreases-search
+abbrev chosen : tie.After-widened-y invariant-loop decreases-loop invariant-search decreases-search → tie.After-first-x invariant-loop decreases-loop invariant-search decreases-search
 chosen c = c.before.before.before.before
 
-abbrev turn : tie.After-first invariant-loop decreases-loop invariant-search decreases-search → tie.At-loop invariant-loop decreases-loop invariant-search decreases-search
+abbrev turn : tie.After-first-x invariant-loop decreases-loop invariant-search decreases-search → tie.At-loop-rest invariant-loop decreases-loop invariant-search decreases-search
 turn c = c.before.before.before
 
-abbrev row_turn : tie.At-loop invariant-loop decreases-loop invariant-search decreases-search → tie.At-search invariant-loop decreases-loop invariant-search decreases-search
+abbrev row_turn : tie.At-loop-rest invariant-loop decreases-loop invariant-search decreases-search → tie.At-search invariant-loop decreases-loop invariant-search decreases-search
 row_turn l = l.before.before
 
 abbrev begun : tie.At-search invariant-loop decreases-loop invariant-search decreases-search → tie.Start invariant-loop decreases-loop invariant-search decreases-search
 begun k = k.before.before
 
 -- the column of a turn is the least of what is left
-there : (c : tie.After-first invariant-loop decreases-loop invariant-search decreases-search) → (c.first.result < width) × (c.first.result ∈ members (whole (turn c).loop.rest))
+there : (c : tie.After-first-x invariant-loop decreases-loop invariant-search decreases-search) → (c.first-x.result < width) × (c.first-x.result ∈ members (whole (turn c).loop-rest.rest))
 there c =
-    let some : # width (members (whole (turn c).loop.rest)) ≢ 0 = eqb-false _ 0 (sym c.before.before.is-empty.ensures ∙ not_in _ c.before.if1.true) in
-    chosen_in (members (whole (turn c).loop.rest)) c.first.result c.first.ensures some
+    let some : # width (members (whole (turn c).loop-rest.rest)) ≢ 0 = eqb-false _ 0 (sym c.before.before.is_empty.ensures ∙ not_in _ c.before.loop-rest-test.true-raw) in
+    chosen_in (members (whole (turn c).loop-rest.rest)) c.first-x.result c.first-x.ensures some
   where
     chosen_in : (S : Set) (x : ℕ) → x ≡ least width S → # width S ≢ 0 → (x < width) × (x ∈ S)
     chosen_in S x e h = rw e (least_there width S h)
 
-in_front : (c : tie.After-first invariant-loop decreases-loop invariant-search decreases-search) → c.first.result ∈ members (whole (begun (row_turn (turn c))).args.front)
-in_front c = (turn c).loop.invariant.1 _ (there c).1
+in_front : (c : tie.After-first-x invariant-loop decreases-loop invariant-search decreases-search) → c.first-x.result ∈ members (whole (begun (row_turn (turn c))).args.front)
+in_front c = (turn c).loop-rest.invariant.1 _ (there c).1
 
-empty_requires : tie.Need-empty-requires invariant-loop decreases-loop invariant-search decreases-search
+empty_requires : tie.Need-empty-next-requires invariant-loop decreases-loop invariant-search decreases-search
 empty_requires c κs = search rules
 
 search_holds : tie.Need-search-init invariant-loop decreases-loop invariant-search decreases-search
 search_holds c =
     let a = c.before.args in
-    (search rules, refl, (λ ws x e k l m. absurd (omega arith)), λ ws. rw (empty_none c.empty.ensures) (owners_none a.n a.rows _ _ (members (whole a.front))))
+    (search rules, refl, (λ ws x e k l m. absurd (omega arith)), λ ws. rw (empty_none c.empty-next.ensures) (owners_none a.n a.rows _ _ (members (whole a.front))))
 
-sub_q : tie.Need-overflow-sub-q invariant-loop decreases-loop invariant-search decreases-search
+sub_q : tie.Need-overflow_sub-q invariant-loop decreases-loop invariant-search decreases-search
 sub_q c = search rules
 
-loop_holds : tie.Need-loop-init invariant-loop decreases-loop invariant-search decreases-search
+loop_holds : tie.Need-loop-rest-init invariant-loop decreases-loop invariant-search decreases-search
 loop_holds c = let k = c.before.search in (k.invariant.1, (λ x e. e), (λ x e. e), (λ ws x e. inl e), k.invariant.3)
 
-is_empty_requires : tie.Need-is-empty-requires invariant-loop decreases-loop invariant-search decreases-search
+is_empty_requires : tie.Need-is_empty-requires invariant-loop decreases-loop invariant-search decreases-search
 is_empty_requires c κs = search rules
 
 search_less : tie.Need-search-smaller invariant-loop decreases-loop invariant-search decreases-search
@@ -80,13 +80,13 @@ search_less c = search rules
 
 search_again : tie.Need-search-preserved invariant-loop decreases-loop invariant-search decreases-search
 search_again c =
-    let l = c.before.before.loop in
+    let l = c.before.before.loop-rest in
     let k = (row_turn c.before.before).search in
     let a = (begun (row_turn c.before.before)).args in
     let o = owner_at a.owner.now in
     let q = k.q - 1 in
     let up : q + 1 ≡ k.q = omega arith in
-    let gone : # width (members (whole l.rest)) ≡ 0 = eqb-true _ 0 (sym c.before.is-empty.ensures ∙ not-false _ c.if1.false) in (
+    let gone : # width (members (whole l.rest)) ≡ 0 = eqb-true _ 0 (sym c.before.is_empty.ensures ∙ not-false _ c.loop-rest-test.false-raw) in (
       search rules,
       l.invariant.0,
       (λ ws x e. rows_down a.n a.rows (touched a.a a.t.now ws) o (members (whole l.next)) x q a.a
@@ -95,88 +95,88 @@ search_again c =
       l.invariant.4,
     )
 
-first_requires : tie.Need-first-requires invariant-loop decreases-loop invariant-search decreases-search
+first_requires : tie.Need-first-x-requires invariant-loop decreases-loop invariant-search decreases-search
 first_requires c κs = search rules
 
-mul_i : tie.Need-overflow-mul-i invariant-loop decreases-loop invariant-search decreases-search
+mul_i : tie.Need-overflow_mul-i invariant-loop decreases-loop invariant-search decreases-search
 mul_i c = search rules
 
-add_i : tie.Need-overflow-add-i invariant-loop decreases-loop invariant-search decreases-search
+add_i : tie.Need-overflow_add-i invariant-loop decreases-loop invariant-search decreases-search
 add_i c = omega (arith, (there c).0)
 
-mul_if2 : tie.Need-overflow-mul-if2 invariant-loop decreases-loop invariant-search decreases-search
+mul_if2 : tie.Need-offset_bounds-t-i invariant-loop decreases-loop invariant-search decreases-search
 mul_if2 c = omega (arith, (there c).0)
 
-element_copy_out_if2 : tie.Need-element-copy-out-if2 invariant-loop decreases-loop invariant-search decreases-search
+element_copy_out_if2 : tie.Need-bounds-t-i invariant-loop decreases-loop invariant-search decreases-search
 element_copy_out_if2 c = omega (arith, (there c).0)
 
-element_copy_out_widened : tie.Need-element-copy-out-widened invariant-loop decreases-loop invariant-search decreases-search
+element_copy_out_widened : tie.Need-bounds-owner-q invariant-loop decreases-loop invariant-search decreases-search
 element_copy_out_widened c = search rules
 
-widened_requires : tie.Need-widened-requires invariant-loop decreases-loop invariant-search decreases-search
+widened_requires : tie.Need-widened-y-requires invariant-loop decreases-loop invariant-search decreases-search
 widened_requires c κs = search rules
 
-with_requires : tie.Need-with-requires invariant-loop decreases-loop invariant-search decreases-search
+with_requires : tie.Need-with-next-requires invariant-loop decreases-loop invariant-search decreases-search
 with_requires c κs = search rules
 
-empty_requires_2 : tie.Need-empty-requires-2 invariant-loop decreases-loop invariant-search decreases-search
+empty_requires_2 : tie.Need-empty-rest-requires invariant-loop decreases-loop invariant-search decreases-search
 empty_requires_2 c κs = search rules
 
-loop_less : tie.Need-loop-smaller invariant-loop decreases-loop invariant-search decreases-search
+loop_less : tie.Need-loop-rest-smaller-then-t-i-ne0 invariant-loop decreases-loop invariant-search decreases-search
 loop_less c =
     let s = chosen c.before.before.before in
     let w = there s in
-    rw (empty_none c.empty2.ensures) (omega (arith, #-none width, removed_less width (members (whole (turn s).loop.rest)) s.first.result w.0 w.1))
+    rw (empty_none c.empty-rest.ensures) (omega (arith, #-none width, removed_less width (members (whole (turn s).loop-rest.rest)) s.first-x.result w.0 w.1))
 
-loop_again : tie.Need-loop-preserved invariant-loop decreases-loop invariant-search decreases-search
+loop_again : tie.Need-loop-rest-preserved-then-t-i-ne0 invariant-loop decreases-loop invariant-search decreases-search
 loop_again c =
     let read = c.before.before.before in
     let s = chosen read in
-    let l = (turn s).loop in
+    let l = (turn s).loop-rest in
     let a = (begun (row_turn (turn s))).args in
     let o = owner_at a.owner.now in
     let q = (row_turn (turn s)).search.q - 1 in
     let old = members (whole l.next) in
-    let lo : o q < a.n = omega (arith, read.widened.ensures.0) in
-    let e : members (whole c.before.with.result) ≡ inserted old (o q) = c.before.with.ensures ∙ ap (inserted old) read.widened.ensures.0 in
+    let lo : o q < a.n = omega (arith, read.widened-y.ensures.0) in
+    let e : members (whole c.before.with-next.result) ≡ inserted old (o q) = c.before.with-next.ensures ∙ ap (inserted old) read.widened-y.ensures.0 in
     rw e (
       l.inv.0,
-      rw (empty_none c.empty2.ensures) (λ x d. absurd (false≢true d)),
+      rw (empty_none c.empty-rest.ensures) (λ x d. absurd (false≢true d)),
       (λ x h. inserted_old old (o q) x (l.inv.2 x h)),
       (λ ws x h. inr (λ d. (lo, inserted_same old (o q) (omega arith)))),
-      λ ws. owners_more a.n a.rows (touched a.a a.t.now ws) o (members (whole a.front)) old s.first.result q (l.inv.4 ws) (in_front s) (omega arith)
-          (touched_nonzero a.a a.t.now ws q s.first.result (omega arith) read.before.before.if2.true) lo,
+      λ ws. owners_more a.n a.rows (touched a.a a.t.now ws) o (members (whole a.front)) old s.first-x.result q (l.inv.4 ws) (in_front s) (omega arith)
+          (touched_nonzero a.a a.t.now ws q s.first-x.result (omega arith) read.before.before.if-t-i-ne0.true) lo,
     )
 
-without_requires : tie.Need-without-requires invariant-loop decreases-loop invariant-search decreases-search
+without_requires : tie.Need-without-rest-requires invariant-loop decreases-loop invariant-search decreases-search
 without_requires c κs = search rules
 
-loop_less_2 : tie.Need-loop-smaller-2 invariant-loop decreases-loop invariant-search decreases-search
+loop_less_2 : tie.Need-loop-rest-smaller invariant-loop decreases-loop invariant-search decreases-search
 loop_less_2 c =
     let s = c.before.before.before in
     let w = there s in
-    rw c.without.ensures (removed_less width (members (whole (turn s).loop.rest)) s.first.result w.0 w.1)
+    rw c.without-rest.ensures (removed_less width (members (whole (turn s).loop-rest.rest)) s.first-x.result w.0 w.1)
 
-loop_again_2 : tie.Need-loop-preserved-2 invariant-loop decreases-loop invariant-search decreases-search
+loop_again_2 : tie.Need-loop-rest-preserved invariant-loop decreases-loop invariant-search decreases-search
 loop_again_2 c =
     let s = c.before.before.before in
-    let l = (turn s).loop in
+    let l = (turn s).loop-rest in
     let a = (begun (row_turn (turn s))).args in
     let q = (row_turn (turn s)).search.q - 1 in
-    let x = s.first.result in
+    let x = s.first-x.result in
     let R = members (whole l.rest) in
-    rw c.without.ensures (
+    rw c.without-rest.ensures (
       l.inv.0,
       (λ y e. l.inv.1 y (removed_old R x y e)),
       l.inv.2,
       (λ ws y e. ⊎_elim
-          (λ left. elim (ℕ_discrete y x) [ yes d ↦ inr (λ t. absurd (not_touched_zero a.a a.t.now ws q x (omega arith) c.before.if2.false (rw d at t))) | no nd ↦ inl (removed_other R x y left nd) ])
+          (λ left. elim (ℕ_discrete y x) [ yes d ↦ inr (λ t. absurd (not_touched_zero a.a a.t.now ws q x (omega arith) c.before.if-t-i-ne0.false (rw d at t))) | no nd ↦ inl (removed_other R x y left nd) ])
           (λ read. inr read)
           (l.inv.3 ws y e)),
       l.inv.4,
     )
 
-returns : tie.Need-returns invariant-loop decreases-loop invariant-search decreases-search
+returns : tie.Need-returns-after-search invariant-loop decreases-loop invariant-search decreases-search
 returns c =
     let k = c.before.search in
     λ ws. record {
@@ -185,14 +185,14 @@ returns c =
       from = k.invariant.3 ws;
     }
 
-returns_2 : tie.Need-returns-2 invariant-loop decreases-loop invariant-search decreases-search
+returns_2 : tie.Need-returns-then-y-n invariant-loop decreases-loop invariant-search decreases-search
 returns_2 c =
     let s = chosen c.before in
-    let l = (turn s).loop in
+    let l = (turn s).loop-rest in
     let a = (begun (row_turn (turn s))).args in
     let q = (row_turn (turn s)).search.q - 1 in
     λ ws. record {
-      at_end = λ h. (in_front s, touched_nonzero a.a a.t.now ws q s.first.result (omega arith) c.before.before.before.if2.true, omega (arith, c.before.widened.ensures.0));
+      at_end = λ h. (in_front s, touched_nonzero a.a a.t.now ws q s.first-x.result (omega arith) c.before.before.before.if-t-i-ne0.true, omega (arith, c.before.widened-y.ensures.0));
       all_read = λ h. absurd (omega arith);
       from = l.inv.4 ws;
     }

@@ -18,75 +18,75 @@ use native.Mathlib.Omega.{arith}
 use Rattle.exchange.proofs.search.search.Statement.{statement}
 use Rattle.exchange.proofs.search.search.Tie as tie
 
-abbrev invariant-loop : tie.invariant-loop
+abbrev invariant-loop : tie.invariant-loop-reached
 invariant-loop t owner parameters n a rows reached₀ front₀ depth₀ reached front depth = (depth ≤ # width (members (whole reached))) × ((E : Set) (s : State n rows) → Shows E s (touched a t (row_numbers parameters)) (owner_at owner) → ((x : ℕ) → x ∈ members (whole reached₀) → (x < n) × (x ∈ E)) → Reaching s (members (whole reached₀)) E (members (whole reached)) (members (whole front)) depth)
 
-abbrev decreases-loop : tie.decreases-loop
+abbrev decreases-loop : tie.decreases-loop-reached
 decreases-loop t owner parameters n a rows reached₀ front₀ depth₀ reached front depth = width - # width (members (whole reached))
 
 -- where a turn has read its layer, and where it begins
-abbrev read : tie.After-difference invariant-loop decreases-loop → tie.After-scan invariant-loop decreases-loop
+abbrev read : tie.After-difference-front invariant-loop decreases-loop → tie.After-scan-m invariant-loop decreases-loop
 read d = d.before.before.before
 
-abbrev turn : tie.After-scan invariant-loop decreases-loop → tie.At-loop invariant-loop decreases-loop
+abbrev turn : tie.After-scan-m invariant-loop decreases-loop → tie.At-loop-reached invariant-loop decreases-loop
 turn r = r.before
 
 -- where the new columns are known
-abbrev brought : tie.After-union invariant-loop decreases-loop → tie.After-difference invariant-loop decreases-loop
+abbrev brought : tie.After-union-reached invariant-loop decreases-loop → tie.After-difference-front invariant-loop decreases-loop
 brought c = c.before.before.before
 
 -- the columns that a turn brings
-grown : (c : tie.After-union invariant-loop decreases-loop) → # width (members (whole (turn (read (brought c))).loop.reached)) < # width (members (whole c.union.result))
+grown : (c : tie.After-union-reached invariant-loop decreases-loop) → # width (members (whole (turn (read (brought c))).loop-reached.reached)) < # width (members (whole c.union-reached.result))
 grown c =
-    let r = members (whole (turn (read (brought c))).loop.reached) in
-    let m = members (whole (read (brought c)).scan.result.next) in
-    let d = members (whole (brought c).difference.result) in
-    let some : # width d ≢ 0 = eqb-false (# width d) 0 (sym c.before.before.is-empty.ensures ∙ c.before.if2.false) in
-    let new : # width (m ∩ ∁ r) ≢ 0 = λ z. some (ap (# width) (brought c).difference.ensures ∙ z) in
-    rw c.union.ensures (union_more width r m new)
+    let r = members (whole (turn (read (brought c))).loop-reached.reached) in
+    let m = members (whole (read (brought c)).scan-m.result.next) in
+    let d = members (whole (brought c).difference-front.result) in
+    let some : # width d ≢ 0 = eqb-false (# width d) 0 (sym c.before.before.is_empty.ensures ∙ c.before.if-is_empty.false) in
+    let new : # width (m ∩ ∁ r) ≢ 0 = λ z. some (ap (# width) (brought c).difference-front.ensures ∙ z) in
+    rw c.union-reached.ensures (union_more width r m new)
 
-loop_holds : tie.Need-loop-init invariant-loop decreases-loop
+loop_holds : tie.Need-loop-reached-init invariant-loop decreases-loop
 loop_holds c = (search rules, λ E s h b. reaching_start s (members (whole c.before.args.start)) E b)
 
-scan_requires : tie.Need-scan-requires invariant-loop decreases-loop
+scan_requires : tie.Need-scan-m-requires invariant-loop decreases-loop
 scan_requires c κs = search rules
 
-returns : tie.Need-returns invariant-loop decreases-loop
+returns : tie.Need-returns-then-m-rows invariant-loop decreases-loop
 returns c = λ E s h b. (
-  (λ l. ended s _ E h _ _ _ _ _ _ (c.before.before.before.loop.invariant.1 E s h b) c.before.before.scan.ensures c.if1.true),
+  (λ l. ended s _ E h _ _ _ _ _ _ (c.before.before.before.loop-reached.invariant.1 E s h b) c.before.before.scan-m.ensures c.if-m-rows.true),
   λ l. absurd (omega arith),
 )
 
-difference_requires : tie.Need-difference-requires invariant-loop decreases-loop
+difference_requires : tie.Need-difference-front-requires invariant-loop decreases-loop
 difference_requires c κs = search rules
 
-is_empty_requires : tie.Need-is-empty-requires invariant-loop decreases-loop
+is_empty_requires : tie.Need-is_empty-requires invariant-loop decreases-loop
 is_empty_requires c κs = search rules
 
-returns_2 : tie.Need-returns-2 invariant-loop decreases-loop
+returns_2 : tie.Need-returns-then-is_empty invariant-loop decreases-loop
 returns_2 c =
     let r = read c.before.before in
-    let none_new : # width (members (whole c.before.before.difference.result)) ≡ 0 = eqb-true _ 0 (sym c.before.is-empty.ensures ∙ c.if2.true) in
+    let none_new : # width (members (whole c.before.before.difference-front.result)) ≡ 0 = eqb-true _ 0 (sym c.before.is_empty.ensures ∙ c.if-is_empty.true) in
     λ E s h b. (
       (λ k. absurd (omega arith)),
-      λ k. final s _ E h _ _ _ _ _ _ ((turn r).loop.inv.1 E s h b) r.scan.ensures c.before.before.before.if1.false (omega arith) (rw c.before.before.difference.ensures at none_new),
+      λ k. final s _ E h _ _ _ _ _ _ ((turn r).loop-reached.invariant.1 E s h b) r.scan-m.ensures c.before.before.before.if-m-rows.false (omega arith) (rw c.before.before.difference-front.ensures at none_new),
     )
 
-union_requires : tie.Need-union-requires invariant-loop decreases-loop
+union_requires : tie.Need-union-reached-requires invariant-loop decreases-loop
 union_requires c κs = search rules
 
-add_depth : tie.Need-overflow-add-depth invariant-loop decreases-loop
-add_depth c = omega (arith, grown c, #-le width (members (whole c.union.result)))
+add_depth : tie.Need-overflow_add-depth invariant-loop decreases-loop
+add_depth c = omega (arith, grown c, #-le width (members (whole c.union-reached.result)))
 
-loop_less : tie.Need-loop-smaller invariant-loop decreases-loop
-loop_less c = omega (arith, grown c, #-le width (members (whole c.union.result)))
+loop_less : tie.Need-loop-reached-smaller invariant-loop decreases-loop
+loop_less c = omega (arith, grown c, #-le width (members (whole c.union-reached.result)))
 
-loop_again : tie.Need-loop-preserved invariant-loop decreases-loop
+loop_again : tie.Need-loop-reached-preserved invariant-loop decreases-loop
 loop_again c =
     let d = brought c in (
       omega (arith, grown c),
-      λ E s h b. rw (c.union.ensures, d.difference.ensures)
-          (reaching_more s _ E h _ _ _ _ _ _ ((turn (read d)).loop.inv.1 E s h b) (read d).scan.ensures d.before.if1.left),
+      λ E s h b. rw (c.union-reached.ensures, d.difference-front.ensures)
+          (reaching_more s _ E h _ _ _ _ _ _ ((turn (read d)).loop-reached.invariant.1 E s h b) (read d).scan-m.ensures d.before.if-m-rows.false),
     )
 
 pub search_spec : {M : Type 1} → statement M

@@ -6,7 +6,7 @@ use Rattle.exchange.proofs.seating.seat.Tie as tie
 vacate_requires : tie.Need-vacate-requires
 vacate_requires c κs = search rules
 
-take_row_requires : tie.Need-take-row-requires
+take_row_requires : tie.Need-take_row-requires
 take_row_requires c κs =
     let given = c.before.before.before.before.before.requires in
     let l = given.0 in

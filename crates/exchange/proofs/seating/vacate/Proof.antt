@@ -31,41 +31,41 @@ more {x} {n} {q} {o₀} {o} v lq e full h = record {
   rest = λ r l. get_or-set_other o q r v 0 (λ d. omega arith) ∙ h.rest r (omega arith);
 }
 
-abbrev invariant-loop : tie.invariant-loop
+abbrev invariant-loop : tie.invariant-loop-q
 invariant-loop owner₀ n rows x q₀ owner q = (q ≤ rows) × VacatedBelow x n q owner₀ owner
 
-abbrev decreases-loop : tie.decreases-loop
+abbrev decreases-loop : tie.decreases-loop-q
 decreases-loop owner₀ n rows x q₀ owner q = rows - q
 
-loop_holds : tie.Need-loop-init invariant-loop decreases-loop
+loop_holds : tie.Need-loop-q-init invariant-loop decreases-loop
 loop_holds c = (search rules, record { full = search rules; done = λ r l. absurd (omega arith); rest = λ r l. refl })
 
-element_copy_out_vacated : tie.Need-element-copy-out-vacated invariant-loop decreases-loop
+element_copy_out_vacated : tie.Need-bounds-owner-q invariant-loop decreases-loop
 element_copy_out_vacated c = search rules
 
-cast_vacated : tie.Need-overflow-cast-vacated invariant-loop decreases-loop
+cast_vacated : tie.Need-overflow_cast-x invariant-loop decreases-loop
 cast_vacated c = search rules
 
-cast_vacated_2 : tie.Need-overflow-cast-vacated-2 invariant-loop decreases-loop
+cast_vacated_2 : tie.Need-overflow_cast-n invariant-loop decreases-loop
 cast_vacated_2 c = search rules
 
 vacated_requires : tie.Need-vacated-requires invariant-loop decreases-loop
 vacated_requires c κs = search rules
 
-element_write_owner : tie.Need-element-write-owner invariant-loop decreases-loop
+element_write_owner : tie.Need-bounds-owner-q-in-loop-q invariant-loop decreases-loop
 element_write_owner c = search rules
 
-add_q : tie.Need-overflow-add-q invariant-loop decreases-loop
+add_q : tie.Need-overflow_step-q invariant-loop decreases-loop
 add_q c = search rules
 
-loop_less : tie.Need-loop-smaller invariant-loop decreases-loop
+loop_less : tie.Need-loop-q-smaller invariant-loop decreases-loop
 loop_less c = search rules
 
-loop_again : tie.Need-loop-preserved invariant-loop decreases-loop
-loop_again c = (search rules, more c.vacated.result (omega arith) c.vacated.ensures (search rules) c.before.before.before.loop.invariant.1)
+loop_again : tie.Need-loop-q-preserved invariant-loop decreases-loop
+loop_again c = (search rules, more c.vacated.result (omega arith) c.vacated.ensures (search rules) c.before.before.before.loop-q.invariant.1)
 
 returns : tie.Need-returns invariant-loop decreases-loop
-returns c = let l = c.before.loop.invariant in (l.1.full, λ r h. l.1.done r (omega arith))
+returns c = let l = c.before.loop-q.invariant in (l.1.full, λ r h. l.1.done r (omega arith))
 
 pub vacate_spec : {M : Type 1} → statement M
 vacate_spec =

@@ -4,11 +4,11 @@ use Rattle.exchange.proofs.HeldLaws.{vacated_same, vacated_other}
 use Rattle.exchange.proofs.seating.vacated.Statement.{statement}
 use Rattle.exchange.proofs.seating.vacated.Tie as tie
 
-returns : tie.Need-returns
-returns c = let a = c.before.args in sym (vacated_same a.x a.n a.y c.if1.true)
+returns : tie.Need-returns-then-y-x
+returns c = let a = c.before.args in sym (vacated_same a.x a.n a.y c.if-y-x.true)
 
-returns_2 : tie.Need-returns-2
-returns_2 c = let a = c.before.args in sym (vacated_other a.x a.n a.y c.if1.false)
+returns_2 : tie.Need-returns-else-y-x
+returns_2 c = let a = c.before.args in sym (vacated_other a.x a.n a.y c.if-y-x.false)
 
 pub vacated_spec : {M : Type 1} → statement M
 vacated_spec = tie.close (tie.spec returns returns_2)

@@ -3,38 +3,38 @@ use Rattle.std.proofs.Common.{◌≡◌, ◌-◌, ◌≤◌, length, arith, leng
 use Rattle.file_run.proofs.longest.fill_constants.Statement.{statement}
 use Rattle.file_run.proofs.longest.fill_constants.Tie as tie
 
-abbrev invariant-loop : tie.invariant-loop
+abbrev invariant-loop : tie.invariant-loop-i
 invariant-loop constants₀ i₀ constants i = (i ≤ length constants) × (length constants ≡ length constants₀)
 
-abbrev decreases-loop : tie.decreases-loop
+abbrev decreases-loop : tie.decreases-loop-i
 decreases-loop constants₀ i₀ constants i = length constants - i
 
-loop_holds : tie.Need-loop-init invariant-loop decreases-loop
+loop_holds : tie.Need-loop-i-init invariant-loop decreases-loop
 loop_holds c = search rules
 
-mul_constants : tie.Need-overflow-mul-constants invariant-loop decreases-loop
+mul_constants : tie.Need-overflow_mul-constants invariant-loop decreases-loop
 mul_constants c = search rules
 
-cast_constants : tie.Need-overflow-cast-constants invariant-loop decreases-loop
+cast_constants : tie.Need-overflow_cast-constants invariant-loop decreases-loop
 cast_constants c = search rules
 
-mul_constants_2 : tie.Need-overflow-mul-constants-2 invariant-loop decreases-loop
+mul_constants_2 : tie.Need-offset_bounds-constants-i invariant-loop decreases-loop
 mul_constants_2 c = search rules
 
-slice_write_constants : tie.Need-slice-write-constants invariant-loop decreases-loop
+slice_write_constants : tie.Need-bounds-constants-i invariant-loop decreases-loop
 slice_write_constants c = search rules
 
-add_i : tie.Need-overflow-add-i invariant-loop decreases-loop
+add_i : tie.Need-overflow_add-i invariant-loop decreases-loop
 add_i c = search rules
 
-loop_less : tie.Need-loop-smaller invariant-loop decreases-loop
+loop_less : tie.Need-loop-i-smaller invariant-loop decreases-loop
 loop_less c = simp length-set (omega arith)
 
-loop_again : tie.Need-loop-preserved invariant-loop decreases-loop
-loop_again c = simp length-set (omega arith, c.before.loop.invariant.1)
+loop_again : tie.Need-loop-i-preserved invariant-loop decreases-loop
+loop_again c = simp length-set (omega arith, c.before.loop-i.invariant.1)
 
-same_length : tie.Need-same-length invariant-loop decreases-loop
-same_length c = c.before.loop.invariant.1
+same_length : tie.Need-shape_of-constants invariant-loop decreases-loop
+same_length c = c.before.loop-i.invariant.1
 
 returns : tie.Need-returns invariant-loop decreases-loop
 returns c = search rules

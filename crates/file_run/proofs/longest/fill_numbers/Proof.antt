@@ -3,38 +3,38 @@ use Rattle.std.proofs.Common.{◌≡◌, ◌-◌, ◌≤◌, length, arith, leng
 use Rattle.file_run.proofs.longest.fill_numbers.Statement.{statement}
 use Rattle.file_run.proofs.longest.fill_numbers.Tie as tie
 
-abbrev invariant-loop : tie.invariant-loop
+abbrev invariant-loop : tie.invariant-loop-i
 invariant-loop numbers₀ i₀ numbers i = (i ≤ length numbers) × (length numbers ≡ length numbers₀)
 
-abbrev decreases-loop : tie.decreases-loop
+abbrev decreases-loop : tie.decreases-loop-i
 decreases-loop numbers₀ i₀ numbers i = length numbers - i
 
-loop_holds : tie.Need-loop-init invariant-loop decreases-loop
+loop_holds : tie.Need-loop-i-init invariant-loop decreases-loop
 loop_holds c = search rules
 
-mul_numbers : tie.Need-overflow-mul-numbers invariant-loop decreases-loop
+mul_numbers : tie.Need-overflow_mul-numbers invariant-loop decreases-loop
 mul_numbers c = search rules
 
-cast_numbers : tie.Need-overflow-cast-numbers invariant-loop decreases-loop
+cast_numbers : tie.Need-overflow_cast-numbers invariant-loop decreases-loop
 cast_numbers c = search rules
 
-mul_numbers_2 : tie.Need-overflow-mul-numbers-2 invariant-loop decreases-loop
+mul_numbers_2 : tie.Need-offset_bounds-numbers-i invariant-loop decreases-loop
 mul_numbers_2 c = search rules
 
-slice_write_numbers : tie.Need-slice-write-numbers invariant-loop decreases-loop
+slice_write_numbers : tie.Need-bounds-numbers-i invariant-loop decreases-loop
 slice_write_numbers c = search rules
 
-add_i : tie.Need-overflow-add-i invariant-loop decreases-loop
+add_i : tie.Need-overflow_add-i invariant-loop decreases-loop
 add_i c = search rules
 
-loop_less : tie.Need-loop-smaller invariant-loop decreases-loop
+loop_less : tie.Need-loop-i-smaller invariant-loop decreases-loop
 loop_less c = simp length-set (omega arith)
 
-loop_again : tie.Need-loop-preserved invariant-loop decreases-loop
-loop_again c = simp length-set (omega arith, c.before.loop.invariant.1)
+loop_again : tie.Need-loop-i-preserved invariant-loop decreases-loop
+loop_again c = simp length-set (omega arith, c.before.loop-i.invariant.1)
 
-same_length : tie.Need-same-length invariant-loop decreases-loop
-same_length c = c.before.loop.invariant.1
+same_length : tie.Need-shape_of-numbers invariant-loop decreases-loop
+same_length c = c.before.loop-i.invariant.1
 
 returns : tie.Need-returns invariant-loop decreases-loop
 returns c = search rules

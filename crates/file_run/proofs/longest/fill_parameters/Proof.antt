@@ -3,38 +3,38 @@ use Rattle.std.proofs.Common.{◌≡◌, ◌-◌, ◌≤◌, length, arith, leng
 use Rattle.file_run.proofs.longest.fill_parameters.Statement.{statement}
 use Rattle.file_run.proofs.longest.fill_parameters.Tie as tie
 
-abbrev invariant-loop : tie.invariant-loop
+abbrev invariant-loop : tie.invariant-loop-i
 invariant-loop parameters₀ i₀ set₀ parameters i set = (i ≤ length parameters) × (length parameters ≡ length parameters₀)
 
-abbrev decreases-loop : tie.decreases-loop
+abbrev decreases-loop : tie.decreases-loop-i
 decreases-loop parameters₀ i₀ set₀ parameters i set = length parameters - i
 
-loop_holds : tie.Need-loop-init invariant-loop decreases-loop
+loop_holds : tie.Need-loop-i-init invariant-loop decreases-loop
 loop_holds c = search rules
 
-mul_parameters : tie.Need-overflow-mul-parameters invariant-loop decreases-loop
+mul_parameters : tie.Need-offset_bounds-parameters-i invariant-loop decreases-loop
 mul_parameters c = search rules
 
-slice_write_parameters : tie.Need-slice-write-parameters invariant-loop decreases-loop
+slice_write_parameters : tie.Need-bounds-parameters-i invariant-loop decreases-loop
 slice_write_parameters c = search rules
 
-mul_set : tie.Need-overflow-mul-set invariant-loop decreases-loop
+mul_set : tie.Need-overflow_mul-set invariant-loop decreases-loop
 mul_set c = search rules
 
-add_set : tie.Need-overflow-add-set invariant-loop decreases-loop
+add_set : tie.Need-overflow_add-set invariant-loop decreases-loop
 add_set c = search rules
 
-add_i : tie.Need-overflow-add-i invariant-loop decreases-loop
+add_i : tie.Need-overflow_add-i invariant-loop decreases-loop
 add_i c = search rules
 
-loop_less : tie.Need-loop-smaller invariant-loop decreases-loop
+loop_less : tie.Need-loop-i-smaller invariant-loop decreases-loop
 loop_less c = simp length-set (omega arith)
 
-loop_again : tie.Need-loop-preserved invariant-loop decreases-loop
-loop_again c = simp length-set (omega arith, c.before.loop.invariant.1)
+loop_again : tie.Need-loop-i-preserved invariant-loop decreases-loop
+loop_again c = simp length-set (omega arith, c.before.loop-i.invariant.1)
 
-same_length : tie.Need-same-length invariant-loop decreases-loop
-same_length c = c.before.loop.invariant.1
+same_length : tie.Need-shape_of-parameters invariant-loop decreases-loop
+same_length c = c.before.loop-i.invariant.1
 
 returns : tie.Need-returns invariant-loop decreases-loop
 returns c = search rules

@@ -3,34 +3,34 @@ use Rattle.std.proofs.Common.{◌≡◌, ◌-◌, ◌≤◌, length, arith, rule
 use Rattle.file_run.proofs.numbered.put.Statement.{statement}
 use Rattle.file_run.proofs.numbered.put.Tie as tie
 
-abbrev invariant-loop : tie.invariant-loop
+abbrev invariant-loop : tie.invariant-loop-i
 invariant-loop out₀ at bytes i₀ out i = (i ≤ length bytes) × (length out ≡ length out₀)
 
-abbrev decreases-loop : tie.decreases-loop
+abbrev decreases-loop : tie.decreases-loop-i
 decreases-loop out₀ at bytes i₀ out i = length bytes - i
 
-loop_holds : tie.Need-loop-init invariant-loop decreases-loop
+loop_holds : tie.Need-loop-i-init invariant-loop decreases-loop
 loop_holds c = search rules
 
-wrapping_add_usize_requires : tie.Need-wrapping-add-usize-requires invariant-loop decreases-loop
+wrapping_add_usize_requires : tie.Need-wrapping_add_usize-requires invariant-loop decreases-loop
 wrapping_add_usize_requires c κs = search rules
 
-shared_slice_read_put_byte : tie.Need-shared-slice-read-put-byte invariant-loop decreases-loop
+shared_slice_read_put_byte : tie.Need-bounds-bytes-i invariant-loop decreases-loop
 shared_slice_read_put_byte c = search rules
 
-put_byte_requires : tie.Need-put-byte-requires invariant-loop decreases-loop
+put_byte_requires : tie.Need-put_byte-requires invariant-loop decreases-loop
 put_byte_requires c κs = search rules
 
-add_i : tie.Need-overflow-add-i invariant-loop decreases-loop
+add_i : tie.Need-overflow_add-i invariant-loop decreases-loop
 add_i c = search rules
 
-loop_less : tie.Need-loop-smaller invariant-loop decreases-loop
+loop_less : tie.Need-loop-i-smaller invariant-loop decreases-loop
 loop_less c = search rules
 
-loop_again : tie.Need-loop-preserved invariant-loop decreases-loop
+loop_again : tie.Need-loop-i-preserved invariant-loop decreases-loop
 loop_again c = (omega arith, omega arith)
 
-same_length : tie.Need-same-length invariant-loop decreases-loop
+same_length : tie.Need-shape_of-out invariant-loop decreases-loop
 same_length c = omega arith
 
 returns : tie.Need-returns invariant-loop decreases-loop

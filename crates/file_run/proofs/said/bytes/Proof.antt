@@ -3,16 +3,16 @@ use Rattle.std.proofs.Common.{◌-◌, ◌≤◌, length, rules}
 use Rattle.file_run.proofs.said.bytes.Statement.{statement}
 use Rattle.file_run.proofs.said.bytes.Tie as tie
 
-abbrev invariant-loop : tie.invariant-loop
+abbrev invariant-loop : tie.invariant-loop-i
 invariant-loop xs i₀ i = i ≤ length xs
 
-abbrev decreases-loop : tie.decreases-loop
+abbrev decreases-loop : tie.decreases-loop-i
 decreases-loop xs i₀ i = length xs - i
 
-loop_holds : tie.Need-loop-init invariant-loop decreases-loop
+loop_holds : tie.Need-loop-i-init invariant-loop decreases-loop
 loop_holds c = search rules
 
-shared_slice_read_widened : tie.Need-shared-slice-read-widened invariant-loop decreases-loop
+shared_slice_read_widened : tie.Need-bounds-xs-i invariant-loop decreases-loop
 shared_slice_read_widened c = search rules
 
 widened_requires : tie.Need-widened-requires invariant-loop decreases-loop
@@ -21,13 +21,13 @@ widened_requires c κs = search rules
 number_requires : tie.Need-number-requires invariant-loop decreases-loop
 number_requires c κs = search rules
 
-add_i : tie.Need-overflow-add-i invariant-loop decreases-loop
+add_i : tie.Need-overflow_add-i invariant-loop decreases-loop
 add_i c = search rules
 
-loop_less : tie.Need-loop-smaller invariant-loop decreases-loop
+loop_less : tie.Need-loop-i-smaller invariant-loop decreases-loop
 loop_less c = search rules
 
-loop_again : tie.Need-loop-preserved invariant-loop decreases-loop
+loop_again : tie.Need-loop-i-preserved invariant-loop decreases-loop
 loop_again c = search rules
 
 returns : tie.Need-returns invariant-loop decreases-loop

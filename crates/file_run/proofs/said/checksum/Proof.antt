@@ -3,34 +3,34 @@ use Rattle.std.proofs.Common.{◌-◌, ◌<◌, ◌≤◌, length, arith, rules}
 use Rattle.file_run.proofs.said.checksum.Statement.{statement}
 use Rattle.file_run.proofs.said.checksum.Tie as tie
 
-abbrev invariant-loop : tie.invariant-loop
+abbrev invariant-loop : tie.invariant-loop-i
 invariant-loop xs sum₀ i₀ sum i = (i ≤ length xs) × (sum < 65521)
 
-abbrev decreases-loop : tie.decreases-loop
+abbrev decreases-loop : tie.decreases-loop-i
 decreases-loop xs sum₀ i₀ sum i = length xs - i
 
-loop_holds : tie.Need-loop-init invariant-loop decreases-loop
+loop_holds : tie.Need-loop-i-init invariant-loop decreases-loop
 loop_holds c = search rules
 
-mul_sum : tie.Need-overflow-mul-sum invariant-loop decreases-loop
+mul_sum : tie.Need-overflow_mul-sum invariant-loop decreases-loop
 mul_sum c = search rules
 
-shared_slice_read_widened : tie.Need-shared-slice-read-widened invariant-loop decreases-loop
+shared_slice_read_widened : tie.Need-bounds-xs-i invariant-loop decreases-loop
 shared_slice_read_widened c = search rules
 
 widened_requires : tie.Need-widened-requires invariant-loop decreases-loop
 widened_requires c κs = search rules
 
-add_sum : tie.Need-overflow-add-sum invariant-loop decreases-loop
+add_sum : tie.Need-overflow_add-sum invariant-loop decreases-loop
 add_sum c = omega arith
 
-add_i : tie.Need-overflow-add-i invariant-loop decreases-loop
+add_i : tie.Need-overflow_add-i invariant-loop decreases-loop
 add_i c = search rules
 
-loop_less : tie.Need-loop-smaller invariant-loop decreases-loop
+loop_less : tie.Need-loop-i-smaller invariant-loop decreases-loop
 loop_less c = search rules
 
-loop_again : tie.Need-loop-preserved invariant-loop decreases-loop
+loop_again : tie.Need-loop-i-preserved invariant-loop decreases-loop
 loop_again c = omega arith
 
 returns : tie.Need-returns invariant-loop decreases-loop

@@ -3,34 +3,34 @@ use Rattle.std.proofs.Common.{◌-◌, ◌≤◌, length, rules}
 use Rattle.file_run.proofs.said.constants.Statement.{statement}
 use Rattle.file_run.proofs.said.constants.Tie as tie
 
-abbrev invariant-loop : tie.invariant-loop
+abbrev invariant-loop : tie.invariant-loop-i
 invariant-loop xs i₀ i = i ≤ length xs
 
-abbrev decreases-loop : tie.decreases-loop
+abbrev decreases-loop : tie.decreases-loop-i
 decreases-loop xs i₀ i = length xs - i
 
-loop_holds : tie.Need-loop-init invariant-loop decreases-loop
+loop_holds : tie.Need-loop-i-init invariant-loop decreases-loop
 loop_holds c = search rules
 
-mul_widened_constant : tie.Need-overflow-mul-widened-constant invariant-loop decreases-loop
+mul_widened_constant : tie.Need-offset_bounds-xs-i invariant-loop decreases-loop
 mul_widened_constant c = search rules
 
-shared_slice_read_widened_constant : tie.Need-shared-slice-read-widened-constant invariant-loop decreases-loop
+shared_slice_read_widened_constant : tie.Need-bounds-xs-i invariant-loop decreases-loop
 shared_slice_read_widened_constant c = search rules
 
-widened_constant_requires : tie.Need-widened-constant-requires invariant-loop decreases-loop
+widened_constant_requires : tie.Need-widened_constant-requires invariant-loop decreases-loop
 widened_constant_requires c κs = search rules
 
 number_requires : tie.Need-number-requires invariant-loop decreases-loop
 number_requires c κs = search rules
 
-add_i : tie.Need-overflow-add-i invariant-loop decreases-loop
+add_i : tie.Need-overflow_add-i invariant-loop decreases-loop
 add_i c = search rules
 
-loop_less : tie.Need-loop-smaller invariant-loop decreases-loop
+loop_less : tie.Need-loop-i-smaller invariant-loop decreases-loop
 loop_less c = search rules
 
-loop_again : tie.Need-loop-preserved invariant-loop decreases-loop
+loop_again : tie.Need-loop-i-preserved invariant-loop decreases-loop
 loop_again c = search rules
 
 returns : tie.Need-returns invariant-loop decreases-loop

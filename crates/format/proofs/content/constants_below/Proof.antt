@@ -12,60 +12,60 @@ use Rattle.format.proofs.Passing.{Passing, passing_all, passing_fails, passing_n
 use Rattle.format.proofs.content.constants_below.Statement.{statement}
 use Rattle.format.proofs.content.constants_below.Tie as tie
 
-abbrev invariant-loop : tie.invariant-loop
+abbrev invariant-loop : tie.invariant-loop-rest
 invariant-loop constants p rest₀ rest = Passing (λ x. ltb x p) constants rest
 
-abbrev decreases-loop : tie.decreases-loop
+abbrev decreases-loop : tie.decreases-loop-rest
 decreases-loop constants p rest₀ rest = length rest
 
 -- the turn in which a constant is read
-abbrev turn : tie.After-widened invariant-loop decreases-loop → tie.In-loop invariant-loop decreases-loop
+abbrev turn : tie.After-widened invariant-loop decreases-loop → tie.In-loop-rest invariant-loop decreases-loop
 turn c = c.before.before
 
 -- the p of the call
-abbrev bound : tie.At-loop invariant-loop decreases-loop → ℕ
+abbrev bound : tie.At-loop-rest invariant-loop decreases-loop → ℕ
 bound k = k.before.before.args.p
 
-loop_holds : tie.Need-loop-init invariant-loop decreases-loop
+loop_holds : tie.Need-loop-rest-init invariant-loop decreases-loop
 loop_holds c = passing_all
 
-shared_slice_read_widened : tie.Need-shared-slice-read-widened invariant-loop decreases-loop
+shared_slice_read_widened : tie.Need-bounds-rest-0 invariant-loop decreases-loop
 shared_slice_read_widened c = search rules
 
 widened_requires : tie.Need-widened-requires invariant-loop decreases-loop
 widened_requires c κs = search rules
 
-returns : tie.Need-returns invariant-loop decreases-loop
+returns : tie.Need-returns-then-widened-p invariant-loop decreases-loop
 unfolding constant_test
 returns c =
     let k = turn c.before in
-    let l = k.before.loop in
-    let r = l.rest.now in
-    passing_fails l.inv (first_rest r k.loop-test.taken) (le-ltb (get_or r 0 0) (bound k.before) (omega (arith, c.before.widened.ensures)))
+    let l = k.before.loop-rest in
+    let r = l.rest-1.now in
+    passing_fails l.inv (first_rest r k.loop-rest-test.true) (le-ltb (get_or r 0 0) (bound k.before) (omega (arith, c.before.widened.ensures)))
 
-sub_rest : tie.Need-overflow-sub-rest invariant-loop decreases-loop
+sub_rest : tie.Need-slice_bounds-rest-count invariant-loop decreases-loop
 sub_rest c = search rules
 
-part_rest_start : tie.Need-slice-bounds-rest-start invariant-loop decreases-loop
+part_rest_start : tie.Need-slice_bounds-rest-start invariant-loop decreases-loop
 part_rest_start c = search rules
 
-part_rest_end : tie.Need-slice-bounds-rest-end invariant-loop decreases-loop
+part_rest_end : tie.Need-slice_bounds-rest-end invariant-loop decreases-loop
 part_rest_end c = search rules
 
-loop_less : tie.Need-loop-smaller invariant-loop decreases-loop
+loop_less : tie.Need-loop-rest-smaller invariant-loop decreases-loop
 loop_less c = simp (length-take, length-drop) (omega arith)
 
-loop_again : tie.Need-loop-preserved invariant-loop decreases-loop
+loop_again : tie.Need-loop-rest-preserved invariant-loop decreases-loop
 loop_again c =
     let d = c.before.before in
     let k = turn d in
-    let l = k.before.loop in
-    let r = l.rest.now in
-    passing_next l.inv (first_rest r k.loop-test.taken) (lt-ltb (get_or r 0 0) (bound k.before) (omega (arith, d.widened.ensures))) (tail_part 1 r)
+    let l = k.before.loop-rest in
+    let r = l.rest-1.now in
+    passing_next l.inv (first_rest r k.loop-rest-test.true) (lt-ltb (get_or r 0 0) (bound k.before) (omega (arith, d.widened.ensures))) (tail_part 1 r)
 
-returns_2 : tie.Need-returns-2 invariant-loop decreases-loop
+returns_2 : tie.Need-returns invariant-loop decreases-loop
 unfolding constant_test
-returns_2 c = passing_done c.before.loop.invariant (nothing _ c.loop-test.false)
+returns_2 c = passing_done c.before.loop-rest.invariant (nothing _ c.loop-rest-test.false)
 
 pub constants_below_spec : {M : Type 1} → statement M
 constants_below_spec =

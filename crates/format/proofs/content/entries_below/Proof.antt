@@ -15,63 +15,63 @@ use Rattle.format.proofs.Passing.{Passing, passing_all, passing_fails, passing_n
 use Rattle.format.proofs.content.entries_below.Statement.{statement}
 use Rattle.format.proofs.content.entries_below.Tie as tie
 
-abbrev invariant-loop : tie.invariant-loop
+abbrev invariant-loop : tie.invariant-loop-rest
 invariant-loop body p rest₀ rest = Passing (λ x. ltb x p) (entries body) (entries rest)
 
-abbrev decreases-loop : tie.decreases-loop
+abbrev decreases-loop : tie.decreases-loop-rest
 decreases-loop body p rest₀ rest = length rest
 
 -- the turn in which an entry is read
-abbrev turn : tie.After-two invariant-loop decreases-loop → tie.In-loop invariant-loop decreases-loop
+abbrev turn : tie.After-two invariant-loop decreases-loop → tie.In-loop-rest invariant-loop decreases-loop
 turn c = c.before.before.before
 
 -- the p of the call
-abbrev bound : tie.At-loop invariant-loop decreases-loop → ℕ
+abbrev bound : tie.At-loop-rest invariant-loop decreases-loop → ℕ
 bound k = k.before.before.args.p
 
-loop_holds : tie.Need-loop-init invariant-loop decreases-loop
+loop_holds : tie.Need-loop-rest-init invariant-loop decreases-loop
 loop_holds c = passing_all
 
-shared_slice_read_two : tie.Need-shared-slice-read-two invariant-loop decreases-loop
+shared_slice_read_two : tie.Need-bounds-rest-0 invariant-loop decreases-loop
 shared_slice_read_two c = search rules
 
-shared_slice_read_two_2 : tie.Need-shared-slice-read-two-2 invariant-loop decreases-loop
+shared_slice_read_two_2 : tie.Need-bounds-rest-1 invariant-loop decreases-loop
 shared_slice_read_two_2 c = search rules
 
 two_requires : tie.Need-two-requires invariant-loop decreases-loop
 two_requires c κs = search rules
 
-returns : tie.Need-returns invariant-loop decreases-loop
+returns : tie.Need-returns-then-two-p invariant-loop decreases-loop
 unfolding constant_test
 returns c =
     let k = turn c.before in
-    let l = k.before.loop in
-    let r = l.rest.now in
-    passing_fails l.inv (entries_next r k.loop-test.taken) (le-ltb (get_or r 0 0 + 256 * get_or r 1 0) (bound k.before) (omega (arith, c.before.two.ensures)))
+    let l = k.before.loop-rest in
+    let r = l.rest-1.now in
+    passing_fails l.inv (entries_next r k.loop-rest-test.true) (le-ltb (get_or r 0 0 + 256 * get_or r 1 0) (bound k.before) (omega (arith, c.before.two.ensures)))
 
-sub_rest : tie.Need-overflow-sub-rest invariant-loop decreases-loop
+sub_rest : tie.Need-slice_bounds-rest-count invariant-loop decreases-loop
 sub_rest c = search rules
 
-part_rest_start : tie.Need-slice-bounds-rest-start invariant-loop decreases-loop
+part_rest_start : tie.Need-slice_bounds-rest-start invariant-loop decreases-loop
 part_rest_start c = search rules
 
-part_rest_end : tie.Need-slice-bounds-rest-end invariant-loop decreases-loop
+part_rest_end : tie.Need-slice_bounds-rest-end invariant-loop decreases-loop
 part_rest_end c = search rules
 
-loop_less : tie.Need-loop-smaller invariant-loop decreases-loop
+loop_less : tie.Need-loop-rest-smaller invariant-loop decreases-loop
 loop_less c = simp (length-take, length-drop) (omega arith)
 
-loop_again : tie.Need-loop-preserved invariant-loop decreases-loop
+loop_again : tie.Need-loop-rest-preserved invariant-loop decreases-loop
 loop_again c =
     let d = c.before.before in
     let k = turn d in
-    let l = k.before.loop in
-    let r = l.rest.now in
-    passing_next l.inv (entries_next r k.loop-test.taken) (lt-ltb (get_or r 0 0 + 256 * get_or r 1 0) (bound k.before) (omega (arith, d.two.ensures))) (ap entries (tail_part 2 r))
+    let l = k.before.loop-rest in
+    let r = l.rest-1.now in
+    passing_next l.inv (entries_next r k.loop-rest-test.true) (lt-ltb (get_or r 0 0 + 256 * get_or r 1 0) (bound k.before) (omega (arith, d.two.ensures))) (ap entries (tail_part 2 r))
 
-returns_2 : tie.Need-returns-2 invariant-loop decreases-loop
+returns_2 : tie.Need-returns invariant-loop decreases-loop
 unfolding constant_test
-returns_2 c = passing_done c.before.loop.invariant (entries_done _ c.loop-test.false)
+returns_2 c = passing_done c.before.loop-rest.invariant (entries_done _ c.loop-rest-test.false)
 
 pub entries_below_spec : {M : Type 1} → statement M
 entries_below_spec =

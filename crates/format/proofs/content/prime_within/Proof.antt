@@ -7,16 +7,16 @@ use Rattle.format.specs.Refusals.{prime_test}
 use Rattle.format.proofs.content.prime_within.Statement.{statement}
 use Rattle.format.proofs.content.prime_within.Tie as tie
 
-returns : tie.Need-returns
+returns : tie.Need-returns-then-p-gt-LARGEST_PRIME
 unfolding prime_test
 returns c = simp (lt-leb c.before.args.p largest_prime (omega arith))
 
-is_prime_requires : tie.Need-is-prime-requires
+is_prime_requires : tie.Need-is_prime-requires
 is_prime_requires c κs = search rules
 
-returns_2 : tie.Need-returns-2
+returns_2 : tie.Need-returns
 unfolding prime_test
-returns_2 c = simp (le-leb c.before.before.args.p largest_prime (omega arith)) c.is-prime.ensures
+returns_2 c = simp (le-leb c.before.before.args.p largest_prime (omega arith)) c.is_prime.ensures
 
 pub prime_within_spec : {M : Type 1} → statement M
 prime_within_spec = tie.close (tie.spec returns is_prime_requires returns_2)

@@ -6,21 +6,21 @@ use Rattle.format.specs.Refusals.{size_test}
 use Rattle.format.proofs.content.sizes_within.Statement.{statement}
 use Rattle.format.proofs.content.sizes_within.Tie as tie
 
-returns : tie.Need-returns
+returns : tie.Need-returns-then-n-lt1
 unfolding size_test
-returns c = simp (lt-leb _ _ c.if1.true)
+returns c = simp (lt-leb _ _ c.if-n-lt1.true)
 
-returns_2 : tie.Need-returns-2
+returns_2 : tie.Need-returns-then-n-gt-MOST_COLUMNS
 unfolding size_test
-returns_2 c = simp (le-leb _ _ c.before.if1.false, lt-leb c.before.before.args.n most_columns (omega (arith, c.if2.true)))
+returns_2 c = simp (le-leb _ _ c.before.if-n-lt1.false, lt-leb c.before.before.args.n most_columns (omega (arith, c.if-n-gt-MOST_COLUMNS.true)))
 
-returns_3 : tie.Need-returns-3
+returns_3 : tie.Need-returns-then-a-gt-MOST_ROWS
 unfolding size_test
-returns_3 c = simp (le-leb _ _ c.before.before.if1.false, le-leb c.before.before.before.args.n most_columns (omega (arith, c.before.if2.false)), lt-leb _ _ c.if3.true)
+returns_3 c = simp (le-leb _ _ c.before.before.if-n-lt1.false, le-leb c.before.before.before.args.n most_columns (omega (arith, c.before.if-n-gt-MOST_COLUMNS.false)), lt-leb _ _ c.if-a-gt-MOST_ROWS.true)
 
-returns_4 : tie.Need-returns-4
+returns_4 : tie.Need-returns
 unfolding size_test
-returns_4 c = simp (le-leb _ _ c.before.before.if1.false, le-leb c.before.before.before.args.n most_columns (omega (arith, c.before.if2.false)), le-leb _ _ c.if3.false)
+returns_4 c = simp (le-leb _ _ c.before.before.if-n-lt1.false, le-leb c.before.before.before.args.n most_columns (omega (arith, c.before.if-n-gt-MOST_COLUMNS.false)), le-leb _ _ c.if-a-gt-MOST_ROWS.false)
 
 pub sizes_within_spec : {M : Type 1} → statement M
 sizes_within_spec = tie.close (tie.spec returns returns_2 returns_3 returns_4)

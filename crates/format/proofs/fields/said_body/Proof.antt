@@ -8,27 +8,27 @@ use Rattle.format.proofs.Parts.{part_front}
 use Rattle.format.proofs.fields.said_body.Statement.{statement}
 use Rattle.format.proofs.fields.said_body.Tie as tie
 
-past_head_requires : tie.Need-past-head-requires
+past_head_requires : tie.Need-past_head-body-requires
 past_head_requires c κs = search rules
 
-said_length_requires : tie.Need-said-length-requires
+said_length_requires : tie.Need-said_length-size-requires
 said_length_requires c κs = search rules
 
-returns : tie.Need-returns
+returns : tie.Need-returns-then-body-size
 unfolding said_body
 returns c =
-    let m = c.before.before.past_head in
-    let size = c.before.said-length in
+    let m = c.before.before.past_head-body in
+    let size = c.before.said_length-size in
     part_front m.ensures (sym (take_all size.result m.result.now (omega arith)) ∙ cc (m.ensures.bytes_are, size.ensures.0)) refl refl
 
-slice_aggregate_result : tie.Need-slice-aggregate-result
+slice_aggregate_result : tie.Need-slice_bounds-result-end
 slice_aggregate_result c = sym (length-take-le _ _ (omega arith))
 
-returns_2 : tie.Need-returns-2
+returns_2 : tie.Need-returns
 unfolding said_body
 returns_2 c =
-    let m = c.before.before.before.past_head in
-    part_front m.ensures (cc (m.ensures.bytes_are, c.before.before.said-length.ensures.0)) refl refl
+    let m = c.before.before.before.past_head-body in
+    part_front m.ensures (cc (m.ensures.bytes_are, c.before.before.said_length-size.ensures.0)) refl refl
 
 pub said_body_spec : {M : Type 1} → statement M
 said_body_spec =

@@ -11,19 +11,19 @@ use native.Mathlib.Omega.{arith}
 use Rattle.format.proofs.handed_over.numbers_held.Statement.{statement}
 use Rattle.format.proofs.handed_over.numbers_held.Tie as tie
 
-returns : tie.Need-returns
+returns : tie.Need-returns-then-not-numbered
 unfolding lent numbers_room
-returns c = let a = c.before.args in ap (λ (t : Bool). numbers_room (a.b * a.n) (lent t a.numbers.now)) (sym (not-true a.numbered c.if1.true))
+returns c = let a = c.before.args in ap (λ (t : Bool). numbers_room (a.b * a.n) (lent t a.numbers.now)) (sym (not-true a.numbered c.if-not-numbered.true-raw))
 
-mul_result : tie.Need-overflow-mul-result
+mul_result : tie.Need-overflow_mul-result
 mul_result c =
     let s = c.before in
     let h : s.args.b * s.args.n ≤ most_rows * most_columns = mul-le-mul {n₂ = most_rows} {m₂ = most_columns} s.requires.1 s.requires.0 in
     omega arith
 
-returns_2 : tie.Need-returns-2
+returns_2 : tie.Need-returns
 unfolding lent numbers_room area_test
-returns_2 c = let a = c.before.args in ap (λ (t : Bool). numbers_room (a.b * a.n) (lent t a.numbers.now)) (sym (not-false a.numbered c.if1.false))
+returns_2 c = let a = c.before.args in ap (λ (t : Bool). numbers_room (a.b * a.n) (lent t a.numbers.now)) (sym (not-false a.numbered c.if-not-numbered.false-raw))
 
 pub numbers_held_spec : {M : Type 1} → statement M
 numbers_held_spec = tie.close (tie.spec returns mul_result returns_2)

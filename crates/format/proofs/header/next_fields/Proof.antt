@@ -7,32 +7,32 @@ use Rattle.format.proofs.header.next_fields.Tie as tie
 
 -- the places before n is tested: where p was found to be said, and where nothing was found to be refused
 
-abbrev prime_said : tie.After-struct-known3 → tie.Else2
+abbrev prime_said : tie.After-struct_known-3-1 → tie.Else-before-eq0
 prime_said c = c.before
 
-abbrev not_refused : tie.After-struct-known3 → tie.Else1
+abbrev not_refused : tie.After-struct_known-3-1 → tie.Else-before-ne0
 not_refused c = (prime_said c).before.before
 
-returns : tie.Need-returns
-returns c = next_handed _ _ c.if1.true
+returns : tie.Need-returns-then-before-ne0
+returns c = next_handed _ _ c.if-before-ne0.true
 
-prime_field_requires : tie.Need-prime-field-requires
+prime_field_requires : tie.Need-prime_field-requires
 prime_field_requires c κs = search rules
 
-returns_2 : tie.Need-returns-2
-returns_2 c = c.prime-field.ensures ∙ next_prime _ _ c.before.before.before.if1.false c.before.if2.true
+returns_2 : tie.Need-returns-then-before-eq0
+returns_2 c = c.prime_field.ensures ∙ next_prime _ _ c.before.before.before.if-before-ne0.false c.before.if-before-eq0.true
 
-sizes_field_requires : tie.Need-sizes-field-requires
+sizes_field_requires : tie.Need-sizes_field-requires
 sizes_field_requires c κs = search rules
 
-returns_3 : tie.Need-returns-3
-returns_3 c = let d = c.before.before in c.sizes-field.ensures ∙ next_sizes _ _ (not_refused d).if1.false (prime_said d).if2.false c.before.if3.true
+returns_3 : tie.Need-returns-then-before-eq0-2
+returns_3 c = let d = c.before.before in c.sizes_field.ensures ∙ next_sizes _ _ (not_refused d).if-before-ne0.false (prime_said d).if-before-eq0.false c.before.if-before-eq0-2.true
 
-row_fields_requires : tie.Need-row-fields-requires
+row_fields_requires : tie.Need-row_fields-requires
 row_fields_requires c κs = search rules
 
-returns_4 : tie.Need-returns-4
-returns_4 c = let d = c.before.before in c.row-fields.ensures ∙ next_rows _ _ (not_refused d).if1.false (prime_said d).if2.false c.before.if3.false
+returns_4 : tie.Need-returns
+returns_4 c = let d = c.before.before in c.row_fields.ensures ∙ next_rows _ _ (not_refused d).if-before-ne0.false (prime_said d).if-before-eq0.false c.before.if-before-eq0-2.false
 
 pub next_fields_spec : {M : Type 1} → statement M
 next_fields_spec =

@@ -6,19 +6,19 @@ use Rattle.format.proofs.Headers.{said_refused, said_passed}
 use Rattle.format.proofs.header.row_fields.Statement.{statement}
 use Rattle.format.proofs.header.row_fields.Tie as tie
 
-judge_row_fields_requires : tie.Need-judge-row-fields-requires
+judge_row_fields_requires : tie.Need-judge_row_fields-r-requires
 judge_row_fields_requires c κs = search rules
 
 refused_requires : tie.Need-refused-requires
 refused_requires c κs = search rules
 
-returns : tie.Need-returns
+returns : tie.Need-returns-then-r-ne0
 unfolding rows_said
-returns c = c.refused.ensures ∙ said_refused _ _ c.before.before.judge-row-fields.ensures c.before.if1.true
+returns c = c.refused.ensures ∙ said_refused _ _ c.before.before.judge_row_fields-r.ensures c.before.if-r-ne0.true
 
-returns_2 : tie.Need-returns-2
+returns_2 : tie.Need-returns
 unfolding rows_said
-returns_2 c = said_passed _ _ c.before.judge-row-fields.ensures c.if1.false
+returns_2 c = said_passed _ _ c.before.judge_row_fields-r.ensures c.if-r-ne0.false
 
 pub row_fields_spec : {M : Type 1} → statement M
 row_fields_spec =

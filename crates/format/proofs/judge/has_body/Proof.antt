@@ -5,7 +5,7 @@ use Rattle.format.specs.Refusals.{body_test}
 use Rattle.format.proofs.judge.has_body.Statement.{statement}
 use Rattle.format.proofs.judge.has_body.Tie as tie
 
-sub_result : tie.Need-overflow-sub-result
+sub_result : tie.Need-overflow_sub-result
 sub_result c = search rules
 
 returns : tie.Need-returns

@@ -13,32 +13,32 @@ use Rattle.format.proofs.judge.judge_end.Statement.{statement}
 use Rattle.format.proofs.judge.judge_end.Tie as tie
 
 -- where the head is judged
-abbrev judged : tie.Else1 → tie.After-judge-head
+abbrev judged : tie.Else-head-ne0 → tie.After-judge_head-head
 judged c = c.before.before
 
-judge_head_requires : tie.Need-judge-head-requires
+judge_head_requires : tie.Need-judge_head-head-requires
 judge_head_requires c κs = search rules
 
-returns : tie.Need-returns
+returns : tie.Need-returns-then-head-ne0
 unfolding closed end_field
-returns c = then_refused _ _ _ (then_refused _ _ _ c.before.before.judge-head.ensures.refusal_is c.if1.true) c.if1.true
+returns c = then_refused _ _ _ (then_refused _ _ _ c.before.before.judge_head-head.ensures.refusal_is c.if-head-ne0.true) c.if-head-ne0.true
 
-returns_2 : tie.Need-returns-2
+returns_2 : tie.Need-returns-then-head-ne0-2
 unfolding closed end_field end_test
 returns_2 c =
     let d = c.before.before in
-    let j = (judged d).judge-head.ensures in
-    let z = d.if1.false in
-    let more : length (drop 0 (drop head_bytes (judged d).before.before.args.rest.now)) ≢ 0 = λ e. c.if2.true (accepted_left j z ∙ e) in
+    let j = (judged d).judge_head-head.ensures in
+    let z = d.if-head-ne0.false in
+    let more : length (drop 0 (drop head_bytes (judged d).before.before.args.rest.now)) ≢ 0 = λ e. c.if-head-ne0-2.true (accepted_left j z ∙ e) in
     then_passed _ _ _ (zero_then _ _ (accepted j z) (sym first_none)) (first_fails _ _ _ (ne_eqb _ _ more))
 
-returns_3 : tie.Need-returns-3
+returns_3 : tie.Need-returns
 unfolding closed end_field end_test
 returns_3 c =
     let d = c.before.before in
-    let j = (judged d).judge-head.ensures in
-    let z = d.if1.false in
-    then_passed _ _ _ (zero_then _ _ (accepted j z) (sym first_none)) (first_passes _ _ _ _ (eq-eqb _ _ (sym (accepted_left j z) ∙ c.if2.false)) first_none)
+    let j = (judged d).judge_head-head.ensures in
+    let z = d.if-head-ne0.false in
+    then_passed _ _ _ (zero_then _ _ (accepted j z) (sym first_none)) (first_passes _ _ _ _ (eq-eqb _ _ (sym (accepted_left j z) ∙ c.if-head-ne0-2.false)) first_none)
 
 pub judge_end_spec : {M : Type 1} → statement M
 judge_end_spec = tie.close (tie.spec judge_head_requires returns returns_2 returns_3)

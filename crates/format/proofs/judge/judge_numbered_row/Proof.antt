@@ -27,87 +27,87 @@ use Rattle.format.proofs.judge.judge_numbered_row.Tie as tie
 
 -- the places: where the call began, where the row is judged, where it is found not to be refused, and where its set is read
 
-abbrev entry : tie.After-judge-parameter-row → tie.Start
+abbrev entry : tie.After-judge_parameter_row-row → tie.Start
 entry c = c.before.before.before
 
-abbrev judged : tie.After-of-bytes → tie.After-judge-parameter-row
+abbrev judged : tie.After-of_bytes-set → tie.After-judge_parameter_row-row
 judged c = c.before.before.before.before
 
-abbrev set_read : tie.After-judge-numbers → tie.After-of-bytes
+abbrev set_read : tie.After-judge_numbers → tie.After-of_bytes-set
 set_read c = c.before.before.before.before.before
 
-passed : (c : tie.After-of-bytes) → let a = (entry (judged c)).args in first_refusal ((parameter_row a.n).tests a.rest.now) ≡ 0
-passed c = accepted (judged c).judge-parameter-row.ensures c.before.before.if1.false
+passed : (c : tie.After-of_bytes-set) → let a = (entry (judged c)).args in first_refusal ((parameter_row a.n).tests a.rest.now) ≡ 0
+passed c = accepted (judged c).judge_parameter_row-row.ensures c.before.before.if-row-ne0.false
 
 -- what follows the row
-ends : (c : tie.After-of-bytes) → let a = (entry (judged c)).args in Ends ((parameter_row a.n).rest a.rest.now) a.rest.now
+ends : (c : tie.After-of_bytes-set) → let a = (entry (judged c)).args in Ends ((parameter_row a.n).rest a.rest.now) a.rest.now
 unfolding parameter_row
 ends c = let a = (entry (judged c)).args in field_ends parameter_tag (parameter_body a.n) a.rest.now
 
 -- the set that was read is the row's, and so is the count
-set : (c : tie.After-of-bytes) → let a = (entry (judged c)).args in whole c.of-bytes.result ≡ (parameter_row a.n).dec a.rest.now
+set : (c : tie.After-of_bytes-set) → let a = (entry (judged c)).args in whole c.of_bytes-set.result ≡ (parameter_row a.n).dec a.rest.now
 set c =
     let a = (entry (judged c)).args in
-    c.of-bytes.ensures.is_number ∙ ap (λ (t : List ℕ). number (take room_bytes t)) c.before.said-body.ensures.bytes_are ∙ row_set a.n a.rest.now (passed c)
+    c.of_bytes-set.ensures.is_number ∙ ap (λ (t : List ℕ). number (take room_bytes t)) c.before.said_body.ensures.bytes_are ∙ row_set a.n a.rest.now (passed c)
 
 inside : (n : ℕ) (s : List ℕ) → first_refusal ((parameter_row n).tests s) ≡ 0 → within n ((parameter_row n).dec s) ≡ true
 unfolding parameter_row
 inside n s e = unless_zero _ _ (then_zero (head_tests parameter_tag (parameter_size n) s) _ e).1
 
-count : (c : tie.After-of-bytes) → let a = (entry (judged c)).args in # width (members (whole c.of-bytes.result)) ≡ parameter_count a.n ((parameter_row a.n).dec a.rest.now)
+count : (c : tie.After-of_bytes-set) → let a = (entry (judged c)).args in # width (members (whole c.of_bytes-set.result)) ≡ parameter_count a.n ((parameter_row a.n).dec a.rest.now)
 count c =
     let a = (entry (judged c)).args in
-    let fits : Fits c.of-bytes.result = search (rules, c.of-bytes.type-inv) in
-    count_within a.n (whole c.of-bytes.result) (whole_below _ fits) (ap (within a.n) (set c) ∙ inside a.n a.rest.now (passed c)) ∙ ap (parameter_count a.n) (set c)
+    let fits : Fits c.of_bytes-set.result = search (rules, c.of_bytes-set.type-inv) in
+    count_within a.n (whole c.of_bytes-set.result) (whole_below _ fits) (ap (within a.n) (set c) ∙ inside a.n a.rest.now (passed c)) ∙ ap (parameter_count a.n) (set c)
 
-judge_parameter_row_requires : tie.Need-judge-parameter-row-requires
+judge_parameter_row_requires : tie.Need-judge_parameter_row-row-requires
 judge_parameter_row_requires c κs = search rules
 
-returns : tie.Need-returns
+returns : tie.Need-returns-then-row-ne0
 returns c =
     record {
       same_length = refl;
-      judged = λ before h. handed_on _ c.before.before.judge-parameter-row.ensures c.if1.true;
-      kept = λ before h e. absurd (c.if1.true e);
+      judged = λ before h. handed_on _ c.before.before.judge_parameter_row-row.ensures c.if-row-ne0.true;
+      kept = λ before h e. absurd (c.if-row-ne0.true e);
     }
 
-said_body_requires : tie.Need-said-body-requires
+said_body_requires : tie.Need-said_body-requires
 said_body_requires c κs = search rules
 
-of_bytes_requires : tie.Need-of-bytes-requires
+of_bytes_requires : tie.Need-of_bytes-set-requires
 of_bytes_requires c κs = search rules
 
-sub_at : tie.Need-overflow-sub-at
-sub_at c = let d = c.before in left_within (judged d).judge-parameter-row.ensures d.before.before.if1.false (ends d)
+sub_at : tie.Need-overflow_sub-at
+sub_at c = let d = c.before in left_within (judged d).judge_parameter_row-row.ensures d.before.before.if-row-ne0.false (ends d)
 
-sub_judge_numbers : tie.Need-overflow-sub-judge-numbers
+sub_judge_numbers : tie.Need-slice_bounds-judge_numbers-count
 sub_judge_numbers c = search rules
 
-part_judge_numbers_start : tie.Need-slice-bounds-judge-numbers-start
+part_judge_numbers_start : tie.Need-slice_bounds-judge_numbers-start
 part_judge_numbers_start c = search rules
 
-part_judge_numbers_end : tie.Need-slice-bounds-judge-numbers-end
+part_judge_numbers_end : tie.Need-slice_bounds-judge_numbers-end
 part_judge_numbers_end c = search rules
 
 size_requires : tie.Need-size-requires
 size_requires c κs = search rules
 
-judge_numbers_requires : tie.Need-judge-numbers-requires
-judge_numbers_requires c κs = let e = c.before.before.before.before in (omega (arith, c.before.size.ensures, #-le width (members (whole e.of-bytes.result))), (entry (judged e)).requires)
+judge_numbers_requires : tie.Need-judge_numbers-requires
+judge_numbers_requires c κs = let e = c.before.before.before.before in (omega (arith, c.before.size.ensures, #-le width (members (whole e.of_bytes-set.result))), (entry (judged e)).requires)
 
-same_length : tie.Need-same-length
+same_length : tie.Need-shape_of-table
 same_length c = search rules
 
-returns_2 : tie.Need-returns-2
+returns_2 : tie.Need-returns
 returns_2 c =
     let d = c.before.before in
     let e = set_read d in
     let j = judged e in
     let a = (entry j).args in
-    let t = next_part j.judge-parameter-row.ensures e.before.before.if1.left (ends e) in
-    let own = subst (λ (u : List ℕ). NumbersJudged (number_field d.before.before.size.result) (λ before ks. before ++ ks) u a.table.now d.judge-numbers.new.1.1.0 d.judge-numbers.result) t d.judge-numbers.ensures in
+    let t = next_part j.judge_parameter_row-row.ensures e.before.before.if-row-ne0.false (ends e) in
+    let own = subst (λ (u : List ℕ). NumbersJudged (number_field d.before.before.size.result) (λ before ks. before ++ ks) u a.table-1.now d.judge_numbers.new.1.1.0 d.judge_numbers.result) t d.judge_numbers.ensures in
     let counted = d.before.before.size.ensures ∙ count e in
-    let mine = subst (λ (k : ℕ). NumbersJudged (number_field k) (λ before ks. before ++ ks) ((parameter_row a.n).rest a.rest.now) a.table.now d.judge-numbers.new.1.1.0 d.judge-numbers.result) counted own in
+    let mine = subst (λ (k : ℕ). NumbersJudged (number_field k) (λ before ks. before ++ ks) ((parameter_row a.n).rest a.rest.now) a.table-1.now d.judge_numbers.new.1.1.0 d.judge_numbers.result) counted own in
     record {
       same_length = mine.same_length;
       judged = λ before h. after_passed ((parameter_row a.n).tests a.rest.now) (passed e) (mine.judged before h);

@@ -15,72 +15,72 @@ use native.Mathlib.Omega.{arith}
 use Rattle.format.proofs.judge.judge_numbered_rows.Statement.{statement}
 use Rattle.format.proofs.judge.judge_numbered_rows.Tie as tie
 
-abbrev invariant-loop : tie.invariant-loop
+abbrev invariant-loop : tie.invariant-loop-todo
 invariant-loop file n b table₀ rest₀ todo₀ table rest todo =
     (before : List ℕ) × Keeps before table × ChainTodo (numbered_row n) and_its_numbers b [] file todo before rest × (length table ≡ 1024)
 
-abbrev decreases-loop : tie.decreases-loop
+abbrev decreases-loop : tie.decreases-loop-todo
 decreases-loop file n b table₀ rest₀ todo₀ table rest todo = todo
 
 -- the places of a turn: where its row is judged, and where it began
 
-abbrev judged : tie.After-struct-known2 invariant-loop decreases-loop → tie.After-judge-numbered-row invariant-loop decreases-loop
+abbrev judged : tie.After-struct_known-in-loop-todo-1 invariant-loop decreases-loop → tie.After-judge_numbered_row-row invariant-loop decreases-loop
 judged c = c.before.before.before.before
 
-abbrev turn : tie.After-judge-numbered-row invariant-loop decreases-loop → tie.In-loop invariant-loop decreases-loop
+abbrev turn : tie.After-judge_numbered_row-row invariant-loop decreases-loop → tie.In-loop-todo invariant-loop decreases-loop
 turn c = c.before.before
 
 -- the row is judged after the numbers that the table keeps
-row : (c : tie.After-judge-numbered-row invariant-loop decreases-loop) → let l = (turn c).before.loop in let a = (turn c).before.before.before.args in
-    Judgement ((numbered_row a.n l.inv.0).tests l.rest.now) ((numbered_row a.n l.inv.0).rest l.rest.now) c.judge-numbered-row.result
-row c = let l = (turn c).before.loop in c.judge-numbered-row.ensures.judged l.inv.0 l.inv.1
+row : (c : tie.After-judge_numbered_row-row invariant-loop decreases-loop) → let l = (turn c).before.loop-todo in let a = (turn c).before.before.before.args in
+    Judgement ((numbered_row a.n l.inv.0).tests l.rest-1.now) ((numbered_row a.n l.inv.0).rest-1 l.rest-1.now) c.judge_numbered_row-row.result
+row c = let l = (turn c).before.loop-todo in c.judge_numbered_row-row.ensures.judged l.inv.0 l.inv.1
 
-loop_holds : tie.Need-loop-init invariant-loop decreases-loop
+loop_holds : tie.Need-loop-todo-init invariant-loop decreases-loop
 loop_holds c = ([], keeps_none _ (λ i. zeros 1024 i), chain_all, refl)
 
-slice_aggregate_judge_numbered_row : tie.Need-slice-aggregate-judge-numbered-row invariant-loop decreases-loop
+slice_aggregate_judge_numbered_row : tie.Need-slice_bounds-judge_numbered_row-end invariant-loop decreases-loop
 slice_aggregate_judge_numbered_row c = search rules
 
-judge_numbered_row_requires : tie.Need-judge-numbered-row-requires invariant-loop decreases-loop
-judge_numbered_row_requires c κs = c.before.before.loop.invariant.3
+judge_numbered_row_requires : tie.Need-judge_numbered_row-row-requires invariant-loop decreases-loop
+judge_numbered_row_requires c κs = c.before.before.loop-todo.invariant.3
 
-returns : tie.Need-returns invariant-loop decreases-loop
+returns : tie.Need-returns-then-row-ne0 invariant-loop decreases-loop
 unfolding numbered_rows
 returns c =
     let d = c.before.before.before in
-    chain_refused (turn d).before.loop.invariant.2 (turn d).loop-test.true (row d) c.if1.true
+    chain_refused (turn d).before.loop-todo.invariant.2 (turn d).loop-todo-test.true (row d) c.if-row-ne0.true
 
-sub_at : tie.Need-overflow-sub-at invariant-loop decreases-loop
-sub_at c = let d = judged c in left_within (row d) c.before.if1.false (numbered_ends _ _ _)
+sub_at : tie.Need-overflow_sub-at invariant-loop decreases-loop
+sub_at c = let d = judged c in left_within (row d) c.before.if-row-ne0.false (numbered_ends _ _ _)
 
-sub_rest : tie.Need-overflow-sub-rest invariant-loop decreases-loop
+sub_rest : tie.Need-slice_bounds-rest-count invariant-loop decreases-loop
 sub_rest c = omega arith
 
-part_rest_start : tie.Need-slice-bounds-rest-start invariant-loop decreases-loop
+part_rest_start : tie.Need-slice_bounds-rest-start invariant-loop decreases-loop
 part_rest_start c = omega arith
 
-part_rest_end : tie.Need-slice-bounds-rest-end invariant-loop decreases-loop
+part_rest_end : tie.Need-slice_bounds-rest-end invariant-loop decreases-loop
 part_rest_end c = omega arith
 
-sub_todo : tie.Need-overflow-sub-todo invariant-loop decreases-loop
+sub_todo : tie.Need-overflow_sub-todo invariant-loop decreases-loop
 sub_todo c = omega arith
 
-loop_less : tie.Need-loop-smaller invariant-loop decreases-loop
+loop_less : tie.Need-loop-todo-smaller invariant-loop decreases-loop
 loop_less c = omega arith
 
-loop_again : tie.Need-loop-preserved invariant-loop decreases-loop
+loop_again : tie.Need-loop-todo-preserved invariant-loop decreases-loop
 loop_again c =
     let k = c.before in
     let d = judged k in
-    let l = (turn d).before.loop in
-    let z = k.before.if1.false in
+    let l = (turn d).before.loop-todo in
+    let z = k.before.if-row-ne0.false in
     let j = row d in
-    let e = d.judge-numbered-row.ensures in
-    (_, e.kept l.inv.0 l.inv.1 z, chain_next l.inv.2 (turn d).loop-test.taken _ (accepted j z) (next_part j z (numbered_ends _ _ _)), e.same_length ∙ l.inv.3)
+    let e = d.judge_numbered_row-row.ensures in
+    (_, e.kept l.inv.0 l.inv.1 z, chain_next l.inv.2 (turn d).loop-todo-test.true _ (accepted j z) (next_part j z (numbered_ends _ _ _)), e.same_length ∙ l.inv.3)
 
-returns_2 : tie.Need-returns-2 invariant-loop decreases-loop
+returns_2 : tie.Need-returns invariant-loop decreases-loop
 unfolding numbered_rows
-returns_2 c = chain_done c.before.loop.invariant.2 c.loop-test.false refl refl
+returns_2 c = chain_done c.before.loop-todo.invariant.2 c.loop-todo-test.false refl refl
 
 pub judge_numbered_rows_spec : {M : Type 1} → statement M
 judge_numbered_rows_spec =

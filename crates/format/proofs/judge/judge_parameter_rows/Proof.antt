@@ -12,72 +12,72 @@ use Rattle.format.proofs.Judging.{accepted, left_within, next_part, Todo, todo_a
 use Rattle.format.proofs.judge.judge_parameter_rows.Statement.{statement}
 use Rattle.format.proofs.judge.judge_parameter_rows.Tie as tie
 
-abbrev invariant-loop : tie.invariant-loop
+abbrev invariant-loop : tie.invariant-loop-todo
 invariant-loop file n b rest₀ todo₀ rest todo = Todo (parameter_row n) b file todo rest
 
-abbrev decreases-loop : tie.decreases-loop
+abbrev decreases-loop : tie.decreases-loop-todo
 decreases-loop file n b rest₀ todo₀ rest todo = todo
 
 -- the places of a turn: where its row is judged, and where it began
 
-abbrev judged : tie.After-struct-known2 invariant-loop decreases-loop → tie.After-judge-parameter-row invariant-loop decreases-loop
+abbrev judged : tie.After-struct_known-in-loop-todo-1 invariant-loop decreases-loop → tie.After-judge_parameter_row-row invariant-loop decreases-loop
 judged c = c.before.before.before
 
-abbrev turn : tie.After-judge-parameter-row invariant-loop decreases-loop → tie.At-loop invariant-loop decreases-loop
+abbrev turn : tie.After-judge_parameter_row-row invariant-loop decreases-loop → tie.At-loop-todo invariant-loop decreases-loop
 turn c = c.before.before
 
 -- where the call began
-abbrev entry : tie.At-loop invariant-loop decreases-loop → tie.Start invariant-loop decreases-loop
+abbrev entry : tie.At-loop-todo invariant-loop decreases-loop → tie.Start invariant-loop decreases-loop
 entry k = k.before.before
 
 -- what the turn has not read yet
-abbrev unread : tie.After-struct-known2 invariant-loop decreases-loop → List ℕ
-unread c = (turn (judged c)).loop.rest.now
+abbrev unread : tie.After-struct_known-in-loop-todo-1 invariant-loop decreases-loop → List ℕ
+unread c = (turn (judged c)).loop-todo.rest-1.now
 
-loop_holds : tie.Need-loop-init invariant-loop decreases-loop
+loop_holds : tie.Need-loop-todo-init invariant-loop decreases-loop
 loop_holds c = todo_all
 
-judge_parameter_row_requires : tie.Need-judge-parameter-row-requires invariant-loop decreases-loop
+judge_parameter_row_requires : tie.Need-judge_parameter_row-row-requires invariant-loop decreases-loop
 judge_parameter_row_requires c κs = search rules
 
-returns : tie.Need-returns invariant-loop decreases-loop
-returns c = let d = c.before.before in todo_refused (turn d).loop.invariant d.before.loop-test.true d.judge-parameter-row.ensures c.if1.true
+returns : tie.Need-returns-then-row-ne0 invariant-loop decreases-loop
+returns c = let d = c.before.before in todo_refused (turn d).loop-todo.invariant d.before.loop-todo-test.true d.judge_parameter_row-row.ensures c.if-row-ne0.true
 
 -- what follows a row is the end of the unread rest
-ends : (c : tie.After-struct-known2 invariant-loop decreases-loop) → let a = (entry (turn (judged c))).args in Ends ((parameter_row a.n).rest (unread c)) (unread c)
+ends : (c : tie.After-struct_known-in-loop-todo-1 invariant-loop decreases-loop) → let a = (entry (turn (judged c))).args in Ends ((parameter_row a.n).rest-1 (unread c)) (unread c)
 unfolding parameter_row
 ends c = let a = (entry (turn (judged c))).args in field_ends parameter_tag (parameter_body a.n) (unread c)
 
-whole : (c : tie.After-struct-known2 invariant-loop decreases-loop) → (judged c).judge-parameter-row.result.left ≤ length (unread c)
-whole c = left_within (judged c).judge-parameter-row.ensures c.before.if1.false (ends c)
+whole : (c : tie.After-struct_known-in-loop-todo-1 invariant-loop decreases-loop) → (judged c).judge_parameter_row-row.result.left ≤ length (unread c)
+whole c = left_within (judged c).judge_parameter_row-row.ensures c.before.if-row-ne0.false (ends c)
 
-sub_at : tie.Need-overflow-sub-at invariant-loop decreases-loop
+sub_at : tie.Need-overflow_sub-at invariant-loop decreases-loop
 sub_at c = whole c
 
-sub_rest : tie.Need-overflow-sub-rest invariant-loop decreases-loop
+sub_rest : tie.Need-slice_bounds-rest-count invariant-loop decreases-loop
 sub_rest c = omega arith
 
-part_rest_start : tie.Need-slice-bounds-rest-start invariant-loop decreases-loop
+part_rest_start : tie.Need-slice_bounds-rest-start invariant-loop decreases-loop
 part_rest_start c = omega arith
 
-part_rest_end : tie.Need-slice-bounds-rest-end invariant-loop decreases-loop
+part_rest_end : tie.Need-slice_bounds-rest-end invariant-loop decreases-loop
 part_rest_end c = omega arith
 
-sub_todo : tie.Need-overflow-sub-todo invariant-loop decreases-loop
+sub_todo : tie.Need-overflow_sub-todo invariant-loop decreases-loop
 sub_todo c = omega arith
 
-loop_less : tie.Need-loop-smaller invariant-loop decreases-loop
+loop_less : tie.Need-loop-todo-smaller invariant-loop decreases-loop
 loop_less c = omega arith
 
-loop_again : tie.Need-loop-preserved invariant-loop decreases-loop
+loop_again : tie.Need-loop-todo-preserved invariant-loop decreases-loop
 loop_again c =
     let d = judged c.before in
-    let j = d.judge-parameter-row.ensures in
-    let z = c.before.before.if1.false in
-    todo_next (turn d).loop.inv d.before.loop-test.taken _ (accepted j z) (next_part j z (ends c.before))
+    let j = d.judge_parameter_row-row.ensures in
+    let z = c.before.before.if-row-ne0.false in
+    todo_next (turn d).loop-todo.invariant d.before.loop-todo-test.true _ (accepted j z) (next_part j z (ends c.before))
 
-returns_2 : tie.Need-returns-2 invariant-loop decreases-loop
-returns_2 c = todo_done c.before.loop.invariant c.loop-test.false refl refl
+returns_2 : tie.Need-returns invariant-loop decreases-loop
+returns_2 c = todo_done c.before.loop-todo.invariant c.loop-todo-test.false refl refl
 
 pub judge_parameter_rows_spec : {M : Type 1} → statement M
 judge_parameter_rows_spec =

@@ -14,7 +14,7 @@ use Rattle.format.proofs.numbers.meet.Statement.{statement}
 use Rattle.format.proofs.numbers.meet.Tie as tie
 
 -- where the call began
-abbrev entry : tie.After-with-bit → tie.Start
+abbrev entry : tie.After-with_bit-next → tie.Start
 entry c = c.before.before.before
 
 -- the number, its place, and its bit's word
@@ -38,55 +38,55 @@ abbrev word : tie.Start → ℕ
 word s = get_or s.args.table.now (at s / word_width) 0
 
 -- the word stays the same where it has the bit
-bit : (c : tie.After-with-bit) → let s = entry c in (c.with-bit.result ≡ word s → members (word s) (at s % word_width) ≡ true) × (members (word s) (at s % word_width) ≡ true → c.with-bit.result ≡ word s)
+bit : (c : tie.After-with_bit-next) → let s = entry c in (c.with_bit-next.result ≡ word s → members (word s) (at s % word_width) ≡ true) × (members (word s) (at s % word_width) ≡ true → c.with_bit-next.result ≡ word s)
 bit c =
     let s = entry c in
-    let new : c.with-bit.result < 2 ^ word_width = search (rules, c.with-bit.type-inv) in
-    let old : word s < 2 ^ word_width = search (rules, c.before.before.slice-known.given (at s / word_width)) in
-    bit_new c.with-bit.result (word s) (at s % word_width) new old (omega arith) c.with-bit.ensures
+    let new : c.with_bit-next.result < 2 ^ word_width = search (rules, c.with_bit-next.type-inv) in
+    let old : word s < 2 ^ word_width = search (rules, c.before.before.slice_known-1.given (at s / word_width)) in
+    bit_new c.with_bit-next.result (word s) (at s % word_width) new old (omega arith) c.with_bit-next.ensures
 
 marked_is : (s : tie.Start) → members (word s) (at s % word_width) ≡ marked s.args.table.now (number s)
 marked_is s = ap (λ (i : ℕ). members (get_or s.args.table.now (i / word_width) 0) (i % word_width)) (place_is s)
 
-add_place : tie.Need-overflow-add-place
+add_place : tie.Need-overflow_add-place
 add_place c = search rules
 
-mul_place : tie.Need-overflow-mul-place
+mul_place : tie.Need-overflow_mul-place
 mul_place c = search rules
 
-add_place_2 : tie.Need-overflow-add-place-2
+add_place_2 : tie.Need-overflow_add-place-2
 add_place_2 c = search rules
 
-mul_word : tie.Need-overflow-mul-word
+mul_word : tie.Need-offset_bounds-table-at
 mul_word c = search rules
 
-slice_read_word : tie.Need-slice-read-word
+slice_read_word : tie.Need-bounds-table-at
 slice_read_word c = search rules
 
-with_bit_requires : tie.Need-with-bit-requires
+with_bit_requires : tie.Need-with_bit-next-requires
 with_bit_requires c κs = search rules
 
-returns : tie.Need-returns
-returns c = let s = entry c.before in meets_again s.args.table.now (number s) (below s) (sym (marked_is s) ∙ (bit c.before).0 c.if1.true)
+returns : tie.Need-returns-then-next-word
+returns c = let s = entry c.before in meets_again s.args.table.now (number s) (below s) (sym (marked_is s) ∙ (bit c.before).0 c.if-next-word.true)
 
-mul_table : tie.Need-overflow-mul-table
+mul_table : tie.Need-offset_bounds-table-at-2
 mul_table c = search rules
 
-slice_write_table : tie.Need-slice-write-table
+slice_write_table : tie.Need-bounds-table-at-2
 slice_write_table c = search rules
 
-same_length : tie.Need-same-length
+same_length : tie.Need-shape_of-table
 same_length c = search rules
 
-returns_2 : tie.Need-returns-2
+returns_2 : tie.Need-returns
 returns_2 c =
     let d = c.before in
     let s = entry d in
     let t = s.args.table.now in
-    let w = d.with-bit.result in
+    let w = d.with_bit-next.result in
     subst (λ (i : ℕ). Meets (number s ∷ []) t (set t (i / word_width) w) true) (sym (place_is s))
-    (meets_first t (number s) (below s) w s.pre (d.with-bit.ensures ∙ ap (λ (i : ℕ). inserted_in word_width (members (get_or t (i / word_width) 0)) (i % word_width)) (place_is s))
-    (not_true _ (λ m. c.if1.false ((bit d).1 (marked_is s ∙ m)))))
+    (meets_first t (number s) (below s) w s.requires (d.with_bit-next.ensures ∙ ap (λ (i : ℕ). inserted_in word_width (members (get_or t (i / word_width) 0)) (i % word_width)) (place_is s))
+    (not_true _ (λ m. c.if-next-word.false ((bit d).1 (marked_is s ∙ m)))))
 
 pub meet_spec : {M : Type 1} → statement M
 meet_spec =

@@ -15,33 +15,33 @@ use Rattle.format.proofs.numbers.meet_entry.Tie as tie
 contains_requires : tie.Need-contains-requires
 contains_requires c κs = search rules
 
-returns : tie.Need-returns
+returns : tie.Need-returns-then-not-contains
 unfolding entry_at
 returns c =
     let a = c.before.before.before.before.args in
-    let none : entry_at (members (whole a.set)) a.row.now a.c ≡ [] = ap (λ (b : Bool). cond b (get_or a.row.now a.c 0 ∷ []) []) (sym c.before.contains.ensures ∙ not-true _ c.if1.true) in
-    rw none (meets_none a.table.now)
+    let none : entry_at (members (whole a.set)) a.row.now a.c ≡ [] = ap (λ (b : Bool). cond b (get_or a.row.now a.c 0 ∷ []) []) (sym c.before.contains.ensures ∙ not-true _ c.if-not-contains.true-raw) in
+    rw none (meets_none a.table-1.now)
 
-mul_meet_number : tie.Need-overflow-mul-meet-number
+mul_meet_number : tie.Need-offset_bounds-row-c
 mul_meet_number c = search rules
 
-shared_slice_read_meet_number : tie.Need-shared-slice-read-meet-number
+shared_slice_read_meet_number : tie.Need-bounds-row-c
 shared_slice_read_meet_number c = search rules
 
-meet_number_requires : tie.Need-meet-number-requires
+meet_number_requires : tie.Need-meet_number-requires
 meet_number_requires c κs = search rules
 
-same_length : tie.Need-same-length
+same_length : tie.Need-shape_of-table
 same_length c = search rules
 
-returns_2 : tie.Need-returns-2
+returns_2 : tie.Need-returns
 unfolding entry_at
 returns_2 c =
     let d = c.before.before in
     let e = d.before.before.before in
     let a = e.before.before.before.before.args in
-    let own : entry_at (members (whole a.set)) a.row.now a.c ≡ get_or a.row.now a.c 0 ∷ [] = ap (λ (b : Bool). cond b (get_or a.row.now a.c 0 ∷ []) []) (sym e.before.contains.ensures ∙ not-false _ e.if1.false) in
-    rw own d.meet-number.ensures
+    let own : entry_at (members (whole a.set)) a.row.now a.c ≡ get_or a.row.now a.c 0 ∷ [] = ap (λ (b : Bool). cond b (get_or a.row.now a.c 0 ∷ []) []) (sym e.before.contains.ensures ∙ not-false _ e.if-not-contains.false-raw) in
+    rw own d.meet_number.ensures
 
 pub meet_entry_spec : {M : Type 1} → statement M
 meet_entry_spec =

@@ -15,71 +15,71 @@ use native.Mathlib.Omega.{arith}
 use Rattle.format.proofs.numbers.meet_rest.Statement.{statement}
 use Rattle.format.proofs.numbers.meet_rest.Tie as tie
 
-abbrev invariant-loop : tie.invariant-loop
+abbrev invariant-loop : tie.invariant-loop-rest
 invariant-loop table₀ body rest₀ table rest = Meeting (entries body) (entries rest) table₀ table
 
-abbrev decreases-loop : tie.decreases-loop
+abbrev decreases-loop : tie.decreases-loop-rest
 decreases-loop table₀ body rest₀ table rest = length rest
 
 -- the places of a turn: where its number is met, and where it began
 
-abbrev met : tie.Then1 invariant-loop decreases-loop → tie.After-meet invariant-loop decreases-loop
+abbrev met : tie.Then-not-meet invariant-loop decreases-loop → tie.After-meet invariant-loop decreases-loop
 met c = c.before.before.before
 
-abbrev met_first : tie.After-rest invariant-loop decreases-loop → tie.After-meet invariant-loop decreases-loop
+abbrev met_first : tie.After-rest-1 invariant-loop decreases-loop → tie.After-meet invariant-loop decreases-loop
 met_first c = c.before.before.before.before
 
-abbrev turn : tie.After-meet invariant-loop decreases-loop → tie.In-loop invariant-loop decreases-loop
+abbrev turn : tie.After-meet invariant-loop decreases-loop → tie.In-loop-rest invariant-loop decreases-loop
 turn c = c.before.before.before.before
 
 -- its number is the first of the rest
 abbrev first : tie.After-meet invariant-loop decreases-loop → ℕ
-first c = let r = (turn c).before.loop.rest.now in get_or r 0 0 + 256 * get_or r 1 0
+first c = let r = (turn c).before.loop-rest.rest-1.now in get_or r 0 0 + 256 * get_or r 1 0
 
-next : (c : tie.After-meet invariant-loop decreases-loop) → let r = (turn c).before.loop.rest.now in entries r ≡ (first c ∷ []) ++ entries (drop 2 r)
-next c = entries_next (turn c).before.loop.rest.now (turn c).loop-test.true
+next : (c : tie.After-meet invariant-loop decreases-loop) → let r = (turn c).before.loop-rest.rest-1.now in entries r ≡ (first c ∷ []) ++ entries (drop 2 r)
+next c = entries_next (turn c).before.loop-rest.rest-1.now (turn c).loop-rest-test.true
 
-loop_holds : tie.Need-loop-init invariant-loop decreases-loop
+loop_holds : tie.Need-loop-rest-init invariant-loop decreases-loop
 loop_holds c = meeting_all
 
-shared_slice_read_meet : tie.Need-shared-slice-read-meet invariant-loop decreases-loop
+shared_slice_read_meet : tie.Need-bounds-rest-0 invariant-loop decreases-loop
 shared_slice_read_meet c = search rules
 
-shared_slice_read_meet_2 : tie.Need-shared-slice-read-meet-2 invariant-loop decreases-loop
+shared_slice_read_meet_2 : tie.Need-bounds-rest-1 invariant-loop decreases-loop
 shared_slice_read_meet_2 c = search rules
 
 meet_requires : tie.Need-meet-requires invariant-loop decreases-loop
-meet_requires c κs = let k = c.before.before.before.before in meeting_length k.loop.invariant ∙ k.before.before.before.requires
+meet_requires c κs = let k = c.before.before.before.before in meeting_length k.loop-rest.invariant ∙ k.before.before.before.requires
 
-same_length : tie.Need-same-length invariant-loop decreases-loop
-same_length c = let d = met c in d.meet.ensures.same_length ∙ meeting_length (turn d).before.loop.inv
+same_length : tie.Need-shape_of-table-then-not-meet invariant-loop decreases-loop
+same_length c = let d = met c in d.meet.ensures.same_length ∙ meeting_length (turn d).before.loop-rest.invariant
 
-returns : tie.Need-returns invariant-loop decreases-loop
-returns c = let d = met c in meeting_stops (turn d).before.loop.inv _ _ (next d) (subst (Meets _ _ _) (not-true _ c.if1.true) d.meet.ensures)
+returns : tie.Need-returns-then-not-meet invariant-loop decreases-loop
+returns c = let d = met c in meeting_stops (turn d).before.loop-rest.invariant _ _ (next d) (subst (Meets _ _ _) (not-true _ c.if-not-meet.true-raw) d.meet.ensures)
 
-sub_rest : tie.Need-overflow-sub-rest invariant-loop decreases-loop
+sub_rest : tie.Need-slice_bounds-rest-count invariant-loop decreases-loop
 sub_rest c = search rules
 
-part_rest_start : tie.Need-slice-bounds-rest-start invariant-loop decreases-loop
+part_rest_start : tie.Need-slice_bounds-rest-start invariant-loop decreases-loop
 part_rest_start c = search rules
 
-part_rest_end : tie.Need-slice-bounds-rest-end invariant-loop decreases-loop
+part_rest_end : tie.Need-slice_bounds-rest-end invariant-loop decreases-loop
 part_rest_end c = search rules
 
-loop_less : tie.Need-loop-smaller invariant-loop decreases-loop
+loop_less : tie.Need-loop-rest-smaller invariant-loop decreases-loop
 loop_less c = simp (length-take, length-drop) (omega arith)
 
-loop_again : tie.Need-loop-preserved invariant-loop decreases-loop
+loop_again : tie.Need-loop-rest-preserved invariant-loop decreases-loop
 loop_again c =
     let d = met_first c in
-    let r = (turn d).before.loop.rest.now in
-    meeting_next (turn d).before.loop.inv _ _ (next d ∙ ap (λ (t : List ℕ). (first d ∷ []) ++ entries t) (sym (tail_part 2 r))) (subst (Meets _ _ _) (not-false _ c.before.if1.false) d.meet.ensures)
+    let r = (turn d).before.loop-rest.rest-1.now in
+    meeting_next (turn d).before.loop-rest.invariant _ _ (next d ∙ ap (λ (t : List ℕ). (first d ∷ []) ++ entries t) (sym (tail_part 2 r))) (subst (Meets _ _ _) (not-false _ c.before.if-not-meet.false-raw) d.meet.ensures)
 
-same_length_2 : tie.Need-same-length-2 invariant-loop decreases-loop
-same_length_2 c = meeting_length c.before.loop.invariant
+same_length_2 : tie.Need-shape_of-table invariant-loop decreases-loop
+same_length_2 c = meeting_length c.before.loop-rest.invariant
 
-returns_2 : tie.Need-returns-2 invariant-loop decreases-loop
-returns_2 c = meeting_done c.before.loop.invariant (entries_done _ c.loop-test.false)
+returns_2 : tie.Need-returns invariant-loop decreases-loop
+returns_2 c = meeting_done c.before.loop-rest.invariant (entries_done _ c.loop-rest-test.false)
 
 pub meet_rest_spec : {M : Type 1} → statement M
 meet_rest_spec =

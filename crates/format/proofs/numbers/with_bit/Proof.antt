@@ -9,7 +9,7 @@ use Rattle.columns.specs.Words.Operations.{members_with}
 use Rattle.format.proofs.numbers.with_bit.Statement.{statement}
 use Rattle.format.proofs.numbers.with_bit.Tie as tie
 
-shl_result : tie.Need-overflow-shl-result
+shl_result : tie.Need-overflow_shl-result
 shl_result c = search rules
 
 returns : tie.Need-returns

@@ -115,17 +115,17 @@ module _ {M : Type 1} {𝓤 : Ura M} (𝓛 : Logic 𝓤) (mem : Memory → SProp
   abbrev to : (Callee 𝓛 mem run).Ghost
   to = (((κ, tt), (q, tt), tt, (d.rest, tt), passed), tt)
 
-  asked : ent 𝓤 (on_entry 𝓛 callee.signature (κ, tt) (q, tt) (d.rest, tt) passed) ((Callee 𝓛 mem run).pre to)
+  asked : ent 𝓤 (on_entry 𝓛 callee.signature (κ, tt) (q, tt) (d.rest, tt) passed) ((Callee 𝓛 mem run).requires to)
   asked = qed 𝓛 ((‵ (flft κ q) ⊛ ‵ ftrue) ∷ ‵ (owns (ShrSlice (named 0) κ u8 ∷ []) (d.rest, tt) passed) ∷ []) ∵ join ! $ frame ! $ done !
 
   -- what the struct owns gives what the callee asks, and is kept
-  apart : ent 𝓤 (on_entry 𝓛 after-field.signature (κ, tt) (q, tt) (d, tt) at) (sep 𝓤 ((Callee 𝓛 mem run).pre to) (sem 𝓛 Own))
+  apart : ent 𝓤 (on_entry 𝓛 after-field.signature (κ, tt) (q, tt) (d, tt) at) (sep 𝓤 ((Callee 𝓛 mem run).requires to) (sem 𝓛 Own))
   apart =
       qed 𝓛 ((‵ (flft κ q) ⊛ ‵ ftrue) ∷ ‵ (owns (B (κ, tt) ∷ []) (d, tt) at) ∷ []) ∵
       move ! (1 ∷ []) $ fsplit ! $ move ! (1 ∷ []) $ drop ! $ use1 𝓛 (‵ Own ⊛ ‵ Own) ((LL.copy D (T'.the_copy (named_lft 1 0 tt (κ, tt))) 𝓛).twice d (mach ∷ [])) $ split ! $
       use1 𝓛 (given (mach ∷ [] ≡ mach ∷ []) (‵ (all_own D.parts L vd))) (own_open 𝓛 D L vd mach) $ learn ! (λ _.
       -- [what the fields own together; what the struct owns; the token]
-      move ! (2 ∷ 0 ∷ []) $ use2 𝓛 (raw ((Callee 𝓛 mem run).pre to)) asked $ frame ! $ done !)
+      move ! (2 ∷ 0 ∷ []) $ use2 𝓛 (raw ((Callee 𝓛 mem run).requires to)) asked $ frame ! $ done !)
 
   -- of the callee's `ensured`, the clause alone: it has no `&mut`, so what is said of last values is dropped
   said : (r : Bor (List ℕ)) → ent 𝓤 (ensured 𝓛 callee.ended (callee.clauses 𝓛 mem run) (κ, tt) (d.rest, tt) tt r) (fact 𝓤 (Found r))
@@ -145,7 +145,7 @@ module _ {M : Type 1} {𝓤 : Ura M} (𝓛 : Logic 𝓤) (mem : Memory → SProp
         qed 𝓛 (raw (on_entry 𝓛 after-field.signature (κ, tt) (q, tt) (d, tt) at) ∷ []) ∵ enter ! C Λ code.function (mach ∷ []) _ $
         alloc1 ! (λ l₀. alloc1 ! (λ l₁. alloc1 ! (λ l₂. alloc1 ! (λ l₃. alloc0 ! $ params1 ! $ pass1 ! (init ! 4 refl wt) $ pass0 ! $
         assigns ! (of_opd ! (load ! (from ! (fld ! refl (stop !))) (look_in ! 4 (sub ! 0 refl (whole !))))) (from ! (stop !)) (init ! 0 refl (tt, wt.1.0)) $
-        move ! (8 ∷ []) $ use1 𝓛 (raw ((Callee 𝓛 mem run).pre to) ⊛ ‵ Own) apart $ split ! $
+        move ! (8 ∷ []) $ use1 𝓛 (raw ((Callee 𝓛 mem run).requires to) ⊛ ‵ Own) apart $ split ! $
         calls_at ! fm (Callee 𝓛 mem run) known to (and_then ! (load ! (from ! (stop !)) (look ! 2 refl)) (no_more !)) (λ u.
         use1 𝓛 (later (some (λ (r : Bor (List ℕ)). ((‵ (flft κ q) ⊛ ‵ ftrue) ⊛ ‵ (Slice.own r (u ∷ []))) ⊛ raw (ensured 𝓛 callee.ended (callee.clauses 𝓛 mem run) (κ, tt) (d.rest, tt) tt r)))) (id⊢ 𝓤 _) $ await ! tt $ pick ! (λ r.
         split ! $ move ! (1 ∷ []) $ use1 𝓛 (raw (fact 𝓤 (Found r))) (said r) $ heard ! (Found r) (λ e. split ! $ move ! (1 ∷ []) $

@@ -107,18 +107,18 @@ module _ {M : Type 1} {𝓤 : Ura M} (𝓛 : Logic 𝓤) (mem : Memory → SProp
   abbrev to : (Callee 𝓛 mem run).Ghost
   to = (((κ, tt), (q, tt), tt, (d.rest, (h, tt)), passed), tt)
 
-  asked : ent 𝓤 (on_entry 𝓛 callee.signature (κ, tt) (q, tt) (d.rest, (h, tt)) passed) ((Callee 𝓛 mem run).pre to)
+  asked : ent 𝓤 (on_entry 𝓛 callee.signature (κ, tt) (q, tt) (d.rest, (h, tt)) passed) ((Callee 𝓛 mem run).requires to)
   asked = qed 𝓛 ((‵ (flft κ q) ⊛ ‵ ftrue) ∷ ‵ (owns (ShrSlice (named 0) κ u8 ∷ S.the_row ∷ []) (d.rest, (h, tt)) passed) ∷ []) ∵ join ! $ frame ! $ done !
 
   -- what the struct owns gives what the callee asks, and is kept
-  apart : ent 𝓤 (on_entry 𝓛 judge-next.signature (κ, tt) (q, tt) (d, (h, tt)) at) (sep 𝓤 ((Callee 𝓛 mem run).pre to) (sem 𝓛 Own))
+  apart : ent 𝓤 (on_entry 𝓛 judge-next.signature (κ, tt) (q, tt) (d, (h, tt)) at) (sep 𝓤 ((Callee 𝓛 mem run).requires to) (sem 𝓛 Own))
   apart =
       qed 𝓛 ((‵ (flft κ q) ⊛ ‵ ftrue) ∷ ‵ (owns (B (κ, tt) ∷ S.the_row ∷ []) (d, (h, tt)) at) ∷ []) ∵
       move ! (1 ∷ []) $ fsplit ! $ move ! (1 ∷ []) $ drop ! $ use1 𝓛 (‵ Own ⊛ ‵ Own) ((LL.copy D (T'.the_copy (named_lft 1 0 tt (κ, tt))) 𝓛).twice d (mach ∷ [])) $ split ! $
       use1 𝓛 (given (mach ∷ [] ≡ mach ∷ []) (‵ (all_own D.parts L vd))) (own_open 𝓛 D L vd mach) $ learn ! (λ _. use1 𝓛 (‵ (field_own D.parts L 0 d.rest) ⊛ ‵ (rest D.parts L 0 vd)) (own_out 𝓛 D.parts L 0 vd) $ split ! $
       -- [what the slice owns; what the other fields own, which is nothing; what the struct owns; the token]
       move ! (1 ∷ []) $ drop ! $ nothing ! $ owned ! S.the_row (Is S.the_row) (LL.makes S.the_type S'.the_plain 𝓛) h _ ish $ fjoin ! $ move ! (1 ∷ 0 ∷ []) $ fjoin ! $
-      move ! (2 ∷ 0 ∷ []) $ use2 𝓛 (raw ((Callee 𝓛 mem run).pre to)) asked $ frame ! $ done !)
+      move ! (2 ∷ 0 ∷ []) $ use2 𝓛 (raw ((Callee 𝓛 mem run).requires to)) asked $ frame ! $ done !)
 
   -- of the callee's `ensured`, the clause alone: it has no `&mut`, so what is said of last values is dropped
   said : (r : Header) → ent 𝓤 (ensured 𝓛 callee.ended (callee.clauses 𝓛 mem run) (κ, tt) (d.rest, (h, tt)) tt r) (fact 𝓤 (r ≡ found))
@@ -136,7 +136,7 @@ module _ {M : Type 1} {𝓤 : Ura M} (𝓛 : Logic 𝓤) (mem : Memory → SProp
         qed 𝓛 (raw (on_entry 𝓛 judge-next.signature (κ, tt) (q, tt) (d, (h, tt)) at) ∷ []) ∵ enter ! C Λ code.function (mach ∷ S'.lowered h ∷ []) _ $
         alloc1 ! (λ l₀. alloc1 ! (λ l₁. alloc1 ! (λ l₂. alloc1 ! (λ l₃. alloc0 ! $ params1 ! $ pass1 ! (init ! 4 refl wt) $ pass1 ! (init ! 2 refl ((LL.lawful S.the_type S'.the_laws 𝓛).typed h _ ish).0) $ pass0 ! $
         assigns ! (of_opd ! (load ! (from ! (fld ! refl (stop !))) (look_in ! 4 (sub ! 0 refl (whole !))))) (from ! (stop !)) (init ! 0 refl (tt, wt.1.0)) $
-        move ! (8 ∷ []) $ use1 𝓛 (raw ((Callee 𝓛 mem run).pre to) ⊛ ‵ Own) apart $ split ! $
+        move ! (8 ∷ []) $ use1 𝓛 (raw ((Callee 𝓛 mem run).requires to) ⊛ ‵ Own) apart $ split ! $
         calls_at ! fm (Callee 𝓛 mem run) known to (and_then ! (load ! (from ! (stop !)) (look ! 2 refl)) (and_then ! (load ! (from ! (stop !)) (look ! 4 refl)) (no_more !))) (λ u.
         use1 𝓛 (later (some (λ (r : Header). ((‵ (flft κ q) ⊛ ‵ ftrue) ⊛ ‵ ((S.the_row).own_val r (u ∷ []))) ⊛ raw (ensured 𝓛 callee.ended (callee.clauses 𝓛 mem run) (κ, tt) (d.rest, (h, tt)) tt r)))) (id⊢ 𝓤 _) $ await ! tt $ pick ! (λ r.
         split ! $ move ! (1 ∷ []) $ use1 𝓛 (raw (fact 𝓤 (r ≡ found))) (said r) $ heard ! (r ≡ found) (λ e. split ! $ move ! (1 ∷ []) $

@@ -129,11 +129,11 @@ module _ {M : Type 1} {𝓤 : Ura M} (𝓛 : Logic 𝓤) (mem : Memory → SProp
   abbrev to_open : (Open 𝓛 mem run).Ghost
   to_open = (((κ, tt), (q, tt), tt, (s, tt), (v ∷ [], tt)), tt)
 
-  goes_open : ent 𝓤 (on_entry 𝓛 read-header.signature (κ, tt) (q, tt) (s, tt) (v ∷ [], tt)) (sep 𝓤 ((Open 𝓛 mem run).pre to_open) (sem 𝓛 Own))
+  goes_open : ent 𝓤 (on_entry 𝓛 read-header.signature (κ, tt) (q, tt) (s, tt) (v ∷ [], tt)) (sep 𝓤 ((Open 𝓛 mem run).requires to_open) (sem 𝓛 Own))
   goes_open =
       qed 𝓛 ((‵ (flft κ q) ⊛ ‵ ftrue) ∷ ‵ (owns (ShrSlice (named 0) κ u8 ∷ []) (s, tt) (v ∷ [], tt)) ∷ []) ∵
       move ! (1 ∷ []) $ fsplit ! $ use1 𝓛 (‵ Own ⊛ ‵ Own) ((shr_slice_copy 𝓛 (named 0) κ u8).twice s (v ∷ [])) $ split ! $
-      move ! (0 ∷ 2 ∷ []) $ fjoin ! $ move ! (2 ∷ 0 ∷ []) $ use2 𝓛 (raw ((Open 𝓛 mem run).pre to_open)) (qed 𝓛 ((‵ (flft κ q) ⊛ ‵ ftrue) ∷ ‵ (owns (ShrSlice (named 0) κ u8 ∷ []) (s, tt) (v ∷ [], tt)) ∷ []) ∵ join ! $ frame ! $ done !) $ frame ! $ done !
+      move ! (0 ∷ 2 ∷ []) $ fjoin ! $ move ! (2 ∷ 0 ∷ []) $ use2 𝓛 (raw ((Open 𝓛 mem run).requires to_open)) (qed 𝓛 ((‵ (flft κ q) ⊛ ‵ ftrue) ∷ ‵ (owns (ShrSlice (named 0) κ u8 ∷ []) (s, tt) (v ∷ [], tt)) ∷ []) ∵ join ! $ frame ! $ done !) $ frame ! $ done !
 
   open_said : (r : Reader) → ent 𝓤 (ensured 𝓛 open-reader.ended (open-reader.clauses 𝓛 mem run) (κ, tt) (s, tt) tt r) (fact 𝓤 (r.rest ≡ s))
   open_said r = ex_e 𝓤 _ (λ ws. snd∗ 𝓤 (sem 𝓛 (lasts open-reader.ended (κ, tt) (s, tt) ws)) (fact 𝓤 (r.rest ≡ s)))
@@ -142,7 +142,7 @@ module _ {M : Type 1} {𝓤 : Ura M} (𝓛 : Logic 𝓤) (mem : Memory → SProp
   abbrev to_nothing : (Nothing 𝓛 mem run).Ghost
   to_nothing = ((tt, tt, tt, tt, tt), tt)
 
-  goes_nothing : ent 𝓤 (⋆ 𝓛 (‵ ftrue ∷ ‵ ftrue ∷ [])) ((Nothing 𝓛 mem run).pre to_nothing)
+  goes_nothing : ent 𝓤 (⋆ 𝓛 (‵ ftrue ∷ ‵ ftrue ∷ [])) ((Nothing 𝓛 mem run).requires to_nothing)
   goes_nothing = qed 𝓛 (‵ ftrue ∷ ‵ ftrue ∷ []) ∵ join ! $ frame ! $ done !
 
   nothing_is : (h : Header) → ent 𝓤 (ensured 𝓛 nothing_said.ended (nothing_said.clauses 𝓛 mem run) tt tt tt h) (fact 𝓤 (h ≡ refused_header 0))
@@ -153,7 +153,7 @@ module _ {M : Type 1} {𝓤 : Ura M} (𝓛 : Logic 𝓤) (mem : Memory → SProp
   to_next r u h w = (((κ, tt), (q, tt), tt, (r, (h, tt)), (u ∷ [], (w ∷ [], tt))), tt)
 
   goes_next : (r : Reader) (u : Val) (h : Header) (w : Val)
-      → ent 𝓤 (⋆ 𝓛 ((‵ (flft κ q) ⊛ ‵ ftrue) ∷ ‵ (owns (B (κ, tt) ∷ S.the_row ∷ []) (r, (h, tt)) (u ∷ [], (w ∷ [], tt))) ∷ [])) ((Next 𝓛 mem run).pre (to_next r u h w))
+      → ent 𝓤 (⋆ 𝓛 ((‵ (flft κ q) ⊛ ‵ ftrue) ∷ ‵ (owns (B (κ, tt) ∷ S.the_row ∷ []) (r, (h, tt)) (u ∷ [], (w ∷ [], tt))) ∷ [])) ((Next 𝓛 mem run).requires (to_next r u h w))
   goes_next r u h w = qed 𝓛 ((‵ (flft κ q) ⊛ ‵ ftrue) ∷ ‵ (owns (B (κ, tt) ∷ S.the_row ∷ []) (r, (h, tt)) (u ∷ [], (w ∷ [], tt))) ∷ []) ∵ join ! $ frame ! $ done !
 
   next_is : (r : Reader) (h t : Header) → ent 𝓤 (ensured 𝓛 judge-next.ended (judge-next.clauses 𝓛 mem run) (κ, tt) (r, (h, tt)) tt t) (fact 𝓤 (t ≡ next_said r.rest.now h))
@@ -163,7 +163,7 @@ module _ {M : Type 1} {𝓤 : Ura M} (𝓛 : Logic 𝓤) (mem : Memory → SProp
   abbrev to_after : Reader → Val → (After 𝓛 mem run).Ghost
   to_after r u = (((κ, tt), (q, tt), tt, (r, tt), (u ∷ [], tt)), tt)
 
-  goes_after : (r : Reader) (u : Val) → ent 𝓤 (⋆ 𝓛 ((‵ (flft κ q) ⊛ ‵ ftrue) ∷ ‵ (owns (B (κ, tt) ∷ []) (r, tt) (u ∷ [], tt)) ∷ [])) ((After 𝓛 mem run).pre (to_after r u))
+  goes_after : (r : Reader) (u : Val) → ent 𝓤 (⋆ 𝓛 ((‵ (flft κ q) ⊛ ‵ ftrue) ∷ ‵ (owns (B (κ, tt) ∷ []) (r, tt) (u ∷ [], tt)) ∷ [])) ((After 𝓛 mem run).requires (to_after r u))
   goes_after r u = qed 𝓛 ((‵ (flft κ q) ⊛ ‵ ftrue) ∷ ‵ (owns (B (κ, tt) ∷ []) (r, tt) (u ∷ [], tt)) ∷ []) ∵ join ! $ frame ! $ done !
 
   abbrev Behind : Reader → Reader → Type 0
@@ -184,7 +184,7 @@ module _ {M : Type 1} {𝓤 : Ura M} (𝓛 : Logic 𝓤) (mem : Memory → SProp
     walk p =
         qed 𝓛 (raw (on_entry 𝓛 read-header.signature (κ, tt) (q, tt) (s, tt) (v ∷ [], tt)) ∷ []) ∵ enter ! C Λ code.function (v ∷ []) _ $
         alloc1 ! (λ l₀. alloc1 ! (λ l₁. alloc1 ! (λ l₂. alloc1 ! (λ l₃. alloc1 ! (λ l₄. alloc1 ! (λ l₅. alloc1 ! (λ l₆. alloc1 ! (λ l₇. alloc1 ! (λ l₈. alloc1 ! (λ l₉. alloc1 ! (λ l₁₀. alloc1 ! (λ l₁₁. alloc0 ! $ params1 ! $ pass1 ! (init ! 20 refl ((shr_slice_Lawful 𝓛 (named 0) κ u8).typed s (v ∷ []) p).0) $ pass0 ! $
-        move ! (24 ∷ []) $ use1 𝓛 (raw ((Open 𝓛 mem run).pre to_open) ⊛ ‵ Own) goes_open $ split ! $
+        move ! (24 ∷ []) $ use1 𝓛 (raw ((Open 𝓛 mem run).requires to_open) ⊛ ‵ Own) goes_open $ split ! $
         calls_at ! fm (Open 𝓛 mem run) known-open to_open (and_then ! (load ! (from ! (stop !)) (look ! 22 refl)) (no_more !)) (λ u₁.
         use1 𝓛 (later (some (λ (r : Reader). ((‵ (flft κ q) ⊛ ‵ ftrue) ⊛ ‵ (Reads r u₁)) ⊛ raw (ensured 𝓛 open-reader.ended (open-reader.clauses 𝓛 mem run) (κ, tt) (s, tt) tt r)))) (id⊢ 𝓤 _) $ await ! tt $ pick ! (λ r₁.
         split ! $ move ! (1 ∷ []) $ use1 𝓛 (raw (fact 𝓤 (r₁.rest ≡ s))) (open_said r₁) $ heard ! (r₁.rest ≡ s) (λ e₁. split ! $ move ! (1 ∷ []) $
@@ -193,14 +193,14 @@ module _ {M : Type 1} {𝓤 : Ura M} (𝓛 : Logic 𝓤) (mem : Memory → SProp
         land ! (from ! (stop !)) (init ! 21 refl ((LL.lawful (T.the_type αᵉ) (T'.the_laws αᵉ) 𝓛).typed r₁ _ is₁).0) $
         assigns ! (of_opd ! (load ! (from ! (stop !)) (look ! 21 refl))) (from ! (stop !)) (init ! 13 refl ((LL.lawful (T.the_type αᵉ) (T'.the_laws αᵉ) 𝓛).typed r₁ _ is₁).0) $
         use1 𝓛 (‵ (Reads r₁ u₁) ⊛ ‵ (Reads r₁ u₁)) (twice r₁ u₁) $ split ! $
-        nothing ! $ nothing ! $ use2 𝓛 (raw ((Nothing 𝓛 mem run).pre to_nothing)) goes_nothing $
+        nothing ! $ nothing ! $ use2 𝓛 (raw ((Nothing 𝓛 mem run).requires to_nothing)) goes_nothing $
         calls_at ! fm (Nothing 𝓛 mem run) known-nothing to_nothing (no_more !) (λ w₀.
         use1 𝓛 (later (some (λ (h : Header). (‵ ftrue ⊛ ‵ (Says h w₀)) ⊛ raw (ensured 𝓛 nothing_said.ended (nothing_said.clauses 𝓛 mem run) tt tt tt h)))) (id⊢ 𝓤 _) $ await ! tt $ pick ! (λ h₀.
         split ! $ move ! (1 ∷ []) $ use1 𝓛 (raw (fact 𝓤 (h₀ ≡ refused_header 0))) (nothing_is h₀) $ heard ! (h₀ ≡ refused_header 0) (λ e₀. split ! $ drop ! $
         -- [the header; the first reader, twice; the token; what s owns; the locals]
         peeks ! S.the_row (Is S.the_row) (shows 𝓛 S.the_row) h₀ (w₀ ∷ []) (λ is₀.
         land ! (from ! (stop !)) (init ! 13 refl ((LL.lawful S.the_type S'.the_laws 𝓛).typed h₀ _ is₀).0) $
-        nothing ! $ move ! (1 ∷ 0 ∷ []) $ fjoin ! $ move ! (1 ∷ 0 ∷ []) $ fjoin ! $ move ! (2 ∷ 0 ∷ []) $ use2 𝓛 (raw ((Next 𝓛 mem run).pre (to_next r₁ u₁ h₀ w₀))) (goes_next r₁ u₁ h₀ w₀) $
+        nothing ! $ move ! (1 ∷ 0 ∷ []) $ fjoin ! $ move ! (1 ∷ 0 ∷ []) $ fjoin ! $ move ! (2 ∷ 0 ∷ []) $ use2 𝓛 (raw ((Next 𝓛 mem run).requires (to_next r₁ u₁ h₀ w₀))) (goes_next r₁ u₁ h₀ w₀) $
         calls_at ! fm (Next 𝓛 mem run) known_next (to_next r₁ u₁ h₀ w₀) (and_then ! (load ! (from ! (stop !)) (look ! 13 refl)) (and_then ! (load ! (from ! (stop !)) (look ! 11 refl)) (no_more !))) (λ w₁.
         use1 𝓛 (later (some (λ (h : Header). ((‵ (flft κ q) ⊛ ‵ ftrue) ⊛ ‵ (Says h w₁)) ⊛ raw (ensured 𝓛 judge-next.ended (judge-next.clauses 𝓛 mem run) (κ, tt) (r₁, (h₀, tt)) tt h)))) (id⊢ 𝓤 _) $ await ! tt $ pick ! (λ h₁.
         split ! $ move ! (1 ∷ []) $ use1 𝓛 (raw (fact 𝓤 (h₁ ≡ next_said r₁.rest.now h₀))) (next_is r₁ h₀ h₁) $ heard ! (h₁ ≡ next_said r₁.rest.now h₀) (λ f₁. split ! $ move ! (1 ∷ []) $
@@ -208,7 +208,7 @@ module _ {M : Type 1} {𝓤 : Ura M} (𝓛 : Logic 𝓤) (mem : Memory → SProp
         peeks ! S.the_row (Is S.the_row) (shows 𝓛 S.the_row) h₁ (w₁ ∷ []) (λ is₁'.
         land ! (from ! (stop !)) (init ! 20 refl ((LL.lawful S.the_type S'.the_laws 𝓛).typed h₁ _ is₁').0) $
         assigns ! (of_opd ! (load ! (from ! (stop !)) (look ! 22 refl))) (from ! (stop !)) (init ! 10 refl ((LL.lawful (T.the_type αᵉ) (T'.the_laws αᵉ) 𝓛).typed r₁ _ is₁).0) $
-        move ! (2 ∷ []) $ nothing ! $ move ! (1 ∷ 0 ∷ []) $ fjoin ! $ move ! (2 ∷ 0 ∷ []) $ use2 𝓛 (raw ((After 𝓛 mem run).pre (to_after r₁ u₁))) (goes_after r₁ u₁) $
+        move ! (2 ∷ []) $ nothing ! $ move ! (1 ∷ 0 ∷ []) $ fjoin ! $ move ! (2 ∷ 0 ∷ []) $ use2 𝓛 (raw ((After 𝓛 mem run).requires (to_after r₁ u₁))) (goes_after r₁ u₁) $
         calls_at ! fm (After 𝓛 mem run) known-after (to_after r₁ u₁) (and_then ! (load ! (from ! (stop !)) (look ! 9 refl)) (no_more !)) (λ u₂.
         use1 𝓛 (later (some (λ (t : Reader). ((‵ (flft κ q) ⊛ ‵ ftrue) ⊛ ‵ (Reads t u₂)) ⊛ raw (ensured 𝓛 after-field.ended (after-field.clauses 𝓛 mem run) (κ, tt) (r₁, tt) tt t)))) (id⊢ 𝓤 _) $ await ! tt $ pick ! (λ r₂.
         split ! $ move ! (1 ∷ []) $ use1 𝓛 (raw (fact 𝓤 (Behind r₁ r₂))) (after_is r₁ r₂) $ heard ! (Behind r₁ r₂) (λ e₂. split ! $ move ! (1 ∷ []) $
@@ -217,7 +217,7 @@ module _ {M : Type 1} {𝓤 : Ura M} (𝓛 : Logic 𝓤) (mem : Memory → SProp
         land ! (from ! (stop !)) (init ! 18 refl ((LL.lawful (T.the_type αᵉ) (T'.the_laws αᵉ) 𝓛).typed r₂ _ is₂).0) $
         assigns ! (of_opd ! (load ! (from ! (stop !)) (look ! 18 refl))) (from ! (stop !)) (init ! 8 refl ((LL.lawful (T.the_type αᵉ) (T'.the_laws αᵉ) 𝓛).typed r₂ _ is₂).0) $
         use1 𝓛 (‵ (Reads r₂ u₂) ⊛ ‵ (Reads r₂ u₂)) (twice r₂ u₂) $ split ! $ move ! (3 ∷ []) $
-        nothing ! $ move ! (1 ∷ 0 ∷ []) $ fjoin ! $ move ! (1 ∷ 0 ∷ []) $ fjoin ! $ move ! (2 ∷ 0 ∷ []) $ use2 𝓛 (raw ((Next 𝓛 mem run).pre (to_next r₂ u₂ h₁ w₁))) (goes_next r₂ u₂ h₁ w₁) $
+        nothing ! $ move ! (1 ∷ 0 ∷ []) $ fjoin ! $ move ! (1 ∷ 0 ∷ []) $ fjoin ! $ move ! (2 ∷ 0 ∷ []) $ use2 𝓛 (raw ((Next 𝓛 mem run).requires (to_next r₂ u₂ h₁ w₁))) (goes_next r₂ u₂ h₁ w₁) $
         calls_at ! fm (Next 𝓛 mem run) known_next (to_next r₂ u₂ h₁ w₁) (and_then ! (load ! (from ! (stop !)) (look ! 7 refl)) (and_then ! (load ! (from ! (stop !)) (look ! 19 refl)) (no_more !))) (λ w₂.
         use1 𝓛 (later (some (λ (h : Header). ((‵ (flft κ q) ⊛ ‵ ftrue) ⊛ ‵ (Says h w₂)) ⊛ raw (ensured 𝓛 judge-next.ended (judge-next.clauses 𝓛 mem run) (κ, tt) (r₂, (h₁, tt)) tt h)))) (id⊢ 𝓤 _) $ await ! tt $ pick ! (λ h₂.
         split ! $ move ! (1 ∷ []) $ use1 𝓛 (raw (fact 𝓤 (h₂ ≡ next_said r₂.rest.now h₁))) (next_is r₂ h₁ h₂) $ heard ! (h₂ ≡ next_said r₂.rest.now h₁) (λ f₂. split ! $ move ! (1 ∷ []) $
@@ -225,7 +225,7 @@ module _ {M : Type 1} {𝓤 : Ura M} (𝓛 : Logic 𝓤) (mem : Memory → SProp
         peeks ! S.the_row (Is S.the_row) (shows 𝓛 S.the_row) h₂ (w₂ ∷ []) (λ is₂'.
         land ! (from ! (stop !)) (init ! 16 refl ((LL.lawful S.the_type S'.the_laws 𝓛).typed h₂ _ is₂').0) $
         assigns ! (of_opd ! (load ! (from ! (stop !)) (look ! 18 refl))) (from ! (stop !)) (init ! 4 refl ((LL.lawful (T.the_type αᵉ) (T'.the_laws αᵉ) 𝓛).typed r₂ _ is₂).0) $
-        move ! (2 ∷ []) $ nothing ! $ move ! (1 ∷ 0 ∷ []) $ fjoin ! $ move ! (2 ∷ 0 ∷ []) $ use2 𝓛 (raw ((After 𝓛 mem run).pre (to_after r₂ u₂))) (goes_after r₂ u₂) $
+        move ! (2 ∷ []) $ nothing ! $ move ! (1 ∷ 0 ∷ []) $ fjoin ! $ move ! (2 ∷ 0 ∷ []) $ use2 𝓛 (raw ((After 𝓛 mem run).requires (to_after r₂ u₂))) (goes_after r₂ u₂) $
         calls_at ! fm (After 𝓛 mem run) known-after (to_after r₂ u₂) (and_then ! (load ! (from ! (stop !)) (look ! 3 refl)) (no_more !)) (λ u₃.
         use1 𝓛 (later (some (λ (t : Reader). ((‵ (flft κ q) ⊛ ‵ ftrue) ⊛ ‵ (Reads t u₃)) ⊛ raw (ensured 𝓛 after-field.ended (after-field.clauses 𝓛 mem run) (κ, tt) (r₂, tt) tt t)))) (id⊢ 𝓤 _) $ await ! tt $ pick ! (λ r₃.
         split ! $ move ! (1 ∷ []) $ use1 𝓛 (raw (fact 𝓤 (Behind r₂ r₃))) (after_is r₂ r₃) $ heard ! (Behind r₂ r₃) (λ e₃. split ! $ move ! (1 ∷ []) $
@@ -233,7 +233,7 @@ module _ {M : Type 1} {𝓤 : Ura M} (𝓛 : Logic 𝓤) (mem : Memory → SProp
         peeks ! (B (κ, tt)) (Is (B (κ, tt))) (shows 𝓛 (B (κ, tt))) r₃ (u₃ ∷ []) (λ is₃.
         land ! (from ! (stop !)) (init ! 6 refl ((LL.lawful (T.the_type αᵉ) (T'.the_laws αᵉ) 𝓛).typed r₃ _ is₃).0) $
         move ! (2 ∷ []) $
-        nothing ! $ move ! (1 ∷ 0 ∷ []) $ fjoin ! $ move ! (1 ∷ 0 ∷ []) $ fjoin ! $ move ! (1 ∷ 0 ∷ []) $ use2 𝓛 (raw ((Next 𝓛 mem run).pre (to_next r₃ u₃ h₂ w₂))) (goes_next r₃ u₃ h₂ w₂) $
+        nothing ! $ move ! (1 ∷ 0 ∷ []) $ fjoin ! $ move ! (1 ∷ 0 ∷ []) $ fjoin ! $ move ! (1 ∷ 0 ∷ []) $ use2 𝓛 (raw ((Next 𝓛 mem run).requires (to_next r₃ u₃ h₂ w₂))) (goes_next r₃ u₃ h₂ w₂) $
         calls_at ! fm (Next 𝓛 mem run) known_next (to_next r₃ u₃ h₂ w₂) (and_then ! (load ! (from ! (stop !)) (look ! 4 refl)) (and_then ! (load ! (from ! (stop !)) (look ! 14 refl)) (no_more !))) (λ w₃.
         use1 𝓛 (later (some (λ (h : Header). ((‵ (flft κ q) ⊛ ‵ ftrue) ⊛ ‵ (Says h w₃)) ⊛ raw (ensured 𝓛 judge-next.ended (judge-next.clauses 𝓛 mem run) (κ, tt) (r₃, (h₂, tt)) tt h)))) (id⊢ 𝓤 _) $ await ! tt $ pick ! (λ h₃.
         split ! $ move ! (1 ∷ []) $ use1 𝓛 (raw (fact 𝓤 (h₃ ≡ next_said r₃.rest.now h₂))) (next_is r₃ h₂ h₃) $ heard ! (h₃ ≡ next_said r₃.rest.now h₂) (λ f₃. split ! $ move ! (1 ∷ []) $

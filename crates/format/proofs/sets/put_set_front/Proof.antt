@@ -21,18 +21,18 @@ use Rattle.format.proofs.Parts.{front_length}
 use Rattle.format.proofs.sets.put_set_front.Statement.{statement}
 use Rattle.format.proofs.sets.put_set_front.Tie as tie
 
-abbrev invariant-loop : tie.invariant-loop
+abbrev invariant-loop : tie.invariant-loop-at
 invariant-loop out₀ set many end at₀ out at = let all = take many (bytes_of set_bytes (whole set)) in Wrote all (drop at all) out₀ out at × (at ≤ length all)
 
-abbrev decreases-loop : tie.decreases-loop
+abbrev decreases-loop : tie.decreases-loop-at
 decreases-loop out₀ set many end at₀ out at = end - at
 
 -- the places: where the call began, and where the end is known
 
-abbrev entry : tie.After-at-most-all invariant-loop decreases-loop → tie.Start invariant-loop decreases-loop
+abbrev entry : tie.After-at_most_all-end invariant-loop decreases-loop → tie.Start invariant-loop decreases-loop
 entry c = c.before.before
 
-abbrev measured : tie.At-loop invariant-loop decreases-loop → tie.After-at-most-all invariant-loop decreases-loop
+abbrev measured : tie.At-loop-at invariant-loop decreases-loop → tie.After-at_most_all-end invariant-loop decreases-loop
 measured k = k.before.before
 
 -- the bytes of the set, and those that are written
@@ -43,13 +43,13 @@ set_all s = bytes_of set_bytes (whole s.args.set)
 abbrev front : tie.Start invariant-loop decreases-loop → List ℕ
 front s = take s.args.many (set_all s)
 
-end_is : (c : tie.After-at-most-all invariant-loop decreases-loop) → c.at-most-all.result ≡ length (front (entry c))
-end_is c = let s = entry c in c.at-most-all.ensures ∙ sym (front_length s.args.many (set_all s))
+end_is : (c : tie.After-at_most_all-end invariant-loop decreases-loop) → c.at_most_all-end.result ≡ length (front (entry c))
+end_is c = let s = entry c in c.at_most_all-end.ensures ∙ sym (front_length s.args.many (set_all s))
 
-at_most_all_requires : tie.Need-at-most-all-requires invariant-loop decreases-loop
+at_most_all_requires : tie.Need-at_most_all-end-requires invariant-loop decreases-loop
 at_most_all_requires c κs = search rules
 
-returns : tie.Need-returns invariant-loop decreases-loop
+returns : tie.Need-returns-then-out-end invariant-loop decreases-loop
 unfolding area_test
 returns c =
     let e = end_is c.before in
@@ -57,28 +57,28 @@ returns c =
     let short : length s.args.out.now < length (front s) = omega arith in
     record { refusal_is = first_fails _ _ _ (lt-leb _ _ short); bytes_are = over_no_room _ _ short }
 
-loop_holds : tie.Need-loop-init invariant-loop decreases-loop
+loop_holds : tie.Need-loop-at-init invariant-loop decreases-loop
 loop_holds c = let e = end_is c.before in (wrote_none _ _ (omega arith), omega arith)
 
 byte_requires : tie.Need-byte-requires invariant-loop decreases-loop
 byte_requires c κs = search rules
 
-slice_write_out : tie.Need-slice-write-out invariant-loop decreases-loop
+slice_write_out : tie.Need-bounds-out-at invariant-loop decreases-loop
 slice_write_out c =
     let k = c.before.before in
-    let l = k.loop in
+    let l = k.loop-at in
     omega (arith, end_is (measured k), l.invariant.0.room, length-drop l.at (front (entry (measured k))))
 
-add_at : tie.Need-overflow-add-at invariant-loop decreases-loop
+add_at : tie.Need-overflow_add-at invariant-loop decreases-loop
 add_at c = let e = end_is (measured c.before.before) in omega arith
 
-loop_less : tie.Need-loop-smaller invariant-loop decreases-loop
+loop_less : tie.Need-loop-at-smaller invariant-loop decreases-loop
 loop_less c = let e = end_is (measured c.before.before) in omega arith
 
-loop_again : tie.Need-loop-preserved invariant-loop decreases-loop
+loop_again : tie.Need-loop-at-preserved invariant-loop decreases-loop
 loop_again c =
     let k = c.before.before in
-    let l = k.loop in
+    let l = k.loop-at in
     let s = entry (measured k) in
     let many = s.args.many in
     let e = end_is (measured k) in
@@ -88,13 +88,13 @@ loop_again c =
     let next : drop l.at (front s) ≡ c.byte.result ∷ drop (l.at + 1) (front s) = drop-cons (front s) l.at 0 below ∙ rw (byte, add-one) refl in
     (wrote_set c.byte.result _ l.invariant.0 next, omega arith)
 
-same_length : tie.Need-same-length invariant-loop decreases-loop
-same_length c = c.before.loop.invariant.0.same
+same_length : tie.Need-shape_of-out invariant-loop decreases-loop
+same_length c = c.before.loop-at.invariant.0.same
 
-returns_2 : tie.Need-returns-2 invariant-loop decreases-loop
+returns_2 : tie.Need-returns invariant-loop decreases-loop
 unfolding area_test
 returns_2 c =
-    let l = c.before.loop in
+    let l = c.before.loop-at in
     let s = entry (measured c.before) in
     let e = end_is (measured c.before) in
     let fits : length (front s) ≤ length s.args.out.now = omega arith in

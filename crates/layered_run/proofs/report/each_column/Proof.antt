@@ -4,13 +4,13 @@ use Rattle.limits.specs.Limits.{most_columns}
 use Rattle.layered_run.proofs.report.each_column.Statement.{statement}
 use Rattle.layered_run.proofs.report.each_column.Tie as tie
 
-abbrev invariant-loop : tie.invariant-loop
+abbrev invariant-loop : tie.invariant-loop-x
 invariant-loop set x₀ x = Unit {0}
 
-abbrev decreases-loop : tie.decreases-loop
+abbrev decreases-loop : tie.decreases-loop-x
 decreases-loop set x₀ x = most_columns - x
 
-loop_holds : tie.Need-loop-init invariant-loop decreases-loop
+loop_holds : tie.Need-loop-x-init invariant-loop decreases-loop
 loop_holds c = search rules
 
 contains_requires : tie.Need-contains-requires invariant-loop decreases-loop
@@ -19,13 +19,13 @@ contains_requires c κs = search rules
 number_requires : tie.Need-number-requires invariant-loop decreases-loop
 number_requires c κs = search rules
 
-add_x : tie.Need-overflow-add-x invariant-loop decreases-loop
+add_x : tie.Need-overflow_step-x invariant-loop decreases-loop
 add_x c = search rules
 
-loop_less : tie.Need-loop-smaller invariant-loop decreases-loop
+loop_less : tie.Need-loop-x-smaller invariant-loop decreases-loop
 loop_less c = search rules
 
-loop_again : tie.Need-loop-preserved invariant-loop decreases-loop
+loop_again : tie.Need-loop-x-preserved invariant-loop decreases-loop
 loop_again c = search rules
 
 returns : tie.Need-returns invariant-loop decreases-loop

@@ -4,28 +4,28 @@ use Rattle.limits.specs.Limits.{most_rows}
 use Rattle.layered_run.proofs.report.serving.Statement.{statement}
 use Rattle.layered_run.proofs.report.serving.Tie as tie
 
-abbrev invariant-loop : tie.invariant-loop
+abbrev invariant-loop : tie.invariant-loop-i
 invariant-loop rows count₀ i₀ count i = Unit {0}
 
-abbrev decreases-loop : tie.decreases-loop
+abbrev decreases-loop : tie.decreases-loop-i
 decreases-loop rows count₀ i₀ count i = most_rows - i
 
-loop_holds : tie.Need-loop-init invariant-loop decreases-loop
+loop_holds : tie.Need-loop-i-init invariant-loop decreases-loop
 loop_holds c = search rules
 
-array_read_if1 : tie.Need-array-read-if1 invariant-loop decreases-loop
+array_read_if1 : tie.Need-bounds-rows-i invariant-loop decreases-loop
 array_read_if1 c = search rules
 
-wrapping_add_usize_requires : tie.Need-wrapping-add-usize-requires invariant-loop decreases-loop
+wrapping_add_usize_requires : tie.Need-wrapping_add_usize-count-requires invariant-loop decreases-loop
 wrapping_add_usize_requires c κs = search rules
 
-add_i : tie.Need-overflow-add-i invariant-loop decreases-loop
+add_i : tie.Need-overflow_step-i invariant-loop decreases-loop
 add_i c = search rules
 
-loop_less : tie.Need-loop-smaller invariant-loop decreases-loop
+loop_less : tie.Need-loop-i-smaller invariant-loop decreases-loop
 loop_less c = search rules
 
-loop_again : tie.Need-loop-preserved invariant-loop decreases-loop
+loop_again : tie.Need-loop-i-preserved invariant-loop decreases-loop
 loop_again c = search rules
 
 returns : tie.Need-returns invariant-loop decreases-loop

@@ -16,25 +16,25 @@ use Rattle.loader.proofs.header.read_sizes.Statement.{statement}
 use Rattle.loader.proofs.header.read_sizes.Tie as tie
 
 -- the file of the call
-abbrev file : tie.After-read-header → List ℕ
+abbrev file : tie.After-read_header-header → List ℕ
 file d = d.before.before.args.file.now
 
-refusal_is : (d : tie.After-read-header) → d.read-header.result.refusal ≡ judge (file d)
-refusal_is d = ap (λ (h : Header). h.refusal) d.read-header.ensures ∙ header_refusal (file d)
+refusal_is : (d : tie.After-read_header-header) → d.read_header-header.result.refusal ≡ judge (file d)
+refusal_is d = ap (λ (h : Header). h.refusal) d.read_header-header.ensures ∙ header_refusal (file d)
 
-read_header_requires : tie.Need-read-header-requires
+read_header_requires : tie.Need-read_header-header-requires
 read_header_requires c κs = search rules
 
-no_sizes_requires : tie.Need-no-sizes-requires
+no_sizes_requires : tie.Need-no_sizes-requires
 no_sizes_requires c κs = search rules
 
-returns : tie.Need-returns
+returns : tie.Need-returns-then-header-ne0
 unfolding read_model is_numbered
 returns c =
-    let z = c.no-sizes.ensures in
+    let z = c.no_sizes.ensures in
     let d = c.before.before.before in
     let due = refusal_is d in
-    let none = sym (where_refused d.read-header.result.refusal due c.before.if1.true (decode (file d)) no_model) in
+    let none = sym (where_refused d.read_header-header.result.refusal due c.before.if-header-ne0.true (decode (file d)) no_model) in
     record {
       refusal_is = z.0 ∙ due;
       p_is = z.1 ∙ ap (λ (m : FileModel). m.p) none;
@@ -47,53 +47,53 @@ returns c =
       b_small = omega (arith, z.4);
     }
 
-cast_left_after : tie.Need-overflow-cast-left-after
+cast_left_after : tie.Need-overflow_cast-header
 cast_left_after c = search rules
 
-add_left_after : tie.Need-overflow-add-left-after
+add_left_after : tie.Need-overflow_add-header
 add_left_after c = search rules
 
-left_after_requires : tie.Need-left-after-requires
+left_after_requires : tie.Need-left_after-left-requires
 left_after_requires c κs = search rules
 
-sub_at : tie.Need-overflow-sub-at
-sub_at c = rw c.left_after.ensures (ends_within (said_rests_ends _ _))
+sub_at : tie.Need-overflow_sub-at
+sub_at c = rw c.left_after-left.ensures (ends_within (said_rests_ends _ _))
 
-sub_is_numbered : tie.Need-overflow-sub-is-numbered
+sub_is_numbered : tie.Need-slice_bounds-is_numbered-count
 sub_is_numbered c = search rules
 
-part_is_numbered_start : tie.Need-slice-bounds-is-numbered-start
+part_is_numbered_start : tie.Need-slice_bounds-is_numbered-start
 part_is_numbered_start c = search rules
 
-part_is_numbered_end : tie.Need-slice-bounds-is-numbered-end
+part_is_numbered_end : tie.Need-slice_bounds-is_numbered-end
 part_is_numbered_end c = search rules
 
-cast_is_numbered : tie.Need-overflow-cast-is-numbered
+cast_is_numbered : tie.Need-overflow_cast-header-2
 cast_is_numbered c = search rules
 
-cast_is_numbered_2 : tie.Need-overflow-cast-is-numbered-2
+cast_is_numbered_2 : tie.Need-overflow_cast-header-3
 cast_is_numbered_2 c = search rules
 
-is_numbered_requires : tie.Need-is-numbered-requires
+is_numbered_requires : tie.Need-is_numbered-numbered-requires
 is_numbered_requires c κs = search rules
 
-sizes_of_requires : tie.Need-sizes-of-requires
+sizes_of_requires : tie.Need-sizes_of-requires
 sizes_of_requires c κs = search rules
 
-returns_2 : tie.Need-returns-2
+returns_2 : tie.Need-returns
 unfolding read_model
 returns_2 c =
-    let z = c.sizes-of.ensures in
+    let z = c.sizes_of.ensures in
     let l = c.before.before.before.before.before in
     let d = l.before.before.before.before in
     let s = file d in
-    let e : judge s ≡ 0 = sym (refusal_is d) ∙ l.before.before.if1.false in
-    let h = d.read-header.ensures ∙ header_accepted s e in
+    let e : judge s ≡ 0 = sym (refusal_is d) ∙ l.before.before.if-header-ne0.false in
+    let h = d.read_header-header.ensures ∙ header_accepted s e in
     let all = sym (accepted_value 0 (sym e) refl (decode s) no_model) in
     let n_is = ap (λ (h : Header). h.n) h in
     let a_is = ap (λ (h : Header). h.a) h in
     let b_is = ap (λ (h : Header). h.b) h in
-    let rows = left_part (said_rests_ends (2 + d.read-header.result.a) s) l.left_after.ensures ∙ ap (λ (k : ℕ). said_rests (2 + k) s) a_is
+    let rows = left_part (said_rests_ends (2 + d.read_header-header.result.a) s) l.left_after-left.ensures ∙ ap (λ (k : ℕ). said_rests (2 + k) s) a_is
     ∙ said_rests_behind (decode s).a s ∙ ap (said_rests (decode s).a) (rows_said s e) ∙ parameters_behind s e in
     record {
       refusal_is = z.0 ∙ refusal_is d;
@@ -101,7 +101,7 @@ returns_2 c =
       n_is = z.2 ∙ n_is ∙ ap (λ (m : FileModel). m.n) all;
       a_is = z.3 ∙ a_is ∙ ap (λ (m : FileModel). m.a) all;
       b_is = z.4 ∙ b_is ∙ ap (λ (m : FileModel). m.b) all;
-      numbered_is = z.8 ∙ c.before.is-numbered.ensures ∙ ap (λ (t : List ℕ). numbered_test d.read-header.result.n d.read-header.result.b t) rows
+      numbered_is = z.8 ∙ c.before.is_numbered-numbered.ensures ∙ ap (λ (t : List ℕ). numbered_test d.read_header-header.result.n d.read_header-header.result.b t) rows
           ∙ ap₂ (λ (n : ℕ) (b : ℕ). numbered_test n b (parameters_part s e)) n_is b_is ∙ sym (numbered_decoded s e) ∙ ap (λ (m : FileModel). is_numbered m.numbers) all;
       n_small = z.5;
       a_small = z.6;

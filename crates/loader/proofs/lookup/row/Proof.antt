@@ -14,82 +14,82 @@ use Rattle.loader.proofs.Looking.{lookup_accepted, lookup_none, lookup_place, lo
 use Rattle.loader.proofs.lookup.row.Statement.{statement}
 use Rattle.loader.proofs.lookup.row.Tie as tie
 
-bytes : (c : tie.After-shared-slice-known) → AreBytes c.before.args.file.now
-bytes c i = search (rules, c.shared-slice-known.given i)
+bytes : (c : tie.After-shared_slice_known-1) → AreBytes c.before.args.file.now
+bytes c i = search (rules, c.shared_slice_known-1.given i)
 
 -- the places: where the bytes from the row on are counted, where the row is accepted, and where the call began
 
-abbrev counted : tie.After-said-length → tie.After-left-after
+abbrev counted : tie.After-said_length-size → tie.After-left_after-left
 counted c = c.before.before
 
-abbrev accepted : tie.After-said-length → tie.Else1
+abbrev accepted : tie.After-said_length-size → tie.Else-r-ne0
 accepted c = (counted c).before
 
-abbrev entry : tie.After-said-length → tie.Start
+abbrev entry : tie.After-said_length-size → tie.Start
 entry c = (accepted c).before.before.before
 
 -- where the row lies: so many bytes before the end, as long as its head says
-place : (c : tie.After-said-length) → let a = (entry c).args in let s = a.file.now in let left = (counted c).left_after.result in let size = c.said-length.result in
+place : (c : tie.After-said_length-size) → let a = (entry c).args in let s = a.file.now in let left = (counted c).left_after-left.result-1 in let size = c.said_length-size.result-1 in
     (lookup_start s a.i ≡ length s - left + head_bytes) × (lookup_length s a.i ≡ size) × (head_bytes + size ≤ left) × (left ≤ length s)
 place c =
     let a = (entry c).args in
-    let left = (counted c).left_after in
-    lookup_place a.file.now a.i _ (accepted c).before.judge-row.ensures (accepted c).if1.false _ _ left.ensures
-    (c.said-length.ensures.0 ∙ ap said_length (left_part (said_rests_ends _ a.file.now) left.ensures))
+    let left = (counted c).left_after-left in
+    lookup_place a.file.now a.i _ (accepted c).before.judge_row-r.ensures (accepted c).if-r-ne0.false _ _ left.ensures
+    (c.said_length-size.ensures.0 ∙ ap said_length (left_part (said_rests_ends _ a.file.now) left.ensures))
 
-judge_row_requires : tie.Need-judge-row-requires
+judge_row_requires : tie.Need-judge_row-r-requires
 judge_row_requires c κs = search rules
 
-slice_aggregate_result : tie.Need-slice-aggregate-result
+slice_aggregate_result : tie.Need-slice_bounds-result-end
 slice_aggregate_result c = search rules
 
-returns : tie.Need-returns
+returns : tie.Need-returns-then-r-ne0
 returns c =
-    let z = lookup_none _ _ _ c.before.before.judge-row.ensures c.before.if1.true in
+    let z = lookup_none _ _ _ c.before.before.judge_row-r.ensures c.before.if-r-ne0.true in
     (lookup_part _ _ 0 0 z.0 z.1, refl, omega (arith, z.0), sym z.1)
 
-add_left_after : tie.Need-overflow-add-left-after
-add_left_after c = let a = lookup_accepted _ _ (sym c.before.judge-row.ensures ∙ c.if1.false) in omega (arith, a.1, (decoded_valid _ (bytes c.before.before) a.0).a_most)
+add_left_after : tie.Need-overflow_add-i
+add_left_after c = let a = lookup_accepted _ _ (sym c.before.judge_row-r.ensures ∙ c.if-r-ne0.false) in omega (arith, a.1, (decoded_valid _ (bytes c.before.before) a.0).a_most)
 
-left_after_requires : tie.Need-left-after-requires
+left_after_requires : tie.Need-left_after-left-requires
 left_after_requires c κs = search rules
 
-sub_at : tie.Need-overflow-sub-at
-sub_at c = rw c.left_after.ensures (ends_within (said_rests_ends _ _))
+sub_at : tie.Need-overflow_sub-at
+sub_at c = rw c.left_after-left.ensures (ends_within (said_rests_ends _ _))
 
-sub_said_length : tie.Need-overflow-sub-said-length
+sub_said_length : tie.Need-slice_bounds-said_length-count
 sub_said_length c = search rules
 
-part_said_length_start : tie.Need-slice-bounds-said-length-start
+part_said_length_start : tie.Need-slice_bounds-said_length-start
 part_said_length_start c = search rules
 
-part_said_length_end : tie.Need-slice-bounds-said-length-end
+part_said_length_end : tie.Need-slice_bounds-said_length-end
 part_said_length_end c = search rules
 
-said_length_requires : tie.Need-said-length-requires
+said_length_requires : tie.Need-said_length-size-requires
 said_length_requires c κs = search rules
 
-add_start : tie.Need-overflow-add-start
+add_start : tie.Need-overflow_add-start
 add_start c = search rules
 
-add_end : tie.Need-overflow-add-end
+add_end : tie.Need-overflow_add-end
 add_end c = search rules
 
-sub_result : tie.Need-overflow-sub-result
+sub_result : tie.Need-slice_bounds-result-count
 sub_result c = search rules
 
-part_result_start : tie.Need-slice-bounds-result-start
+part_result_start : tie.Need-slice_bounds-result-start
 part_result_start c = search rules
 
-part_result_end : tie.Need-slice-bounds-result-end
+part_result_end : tie.Need-slice_bounds-result-end
 part_result_end c = omega (arith, place c)
 
-returns_2 : tie.Need-returns-2
+returns_2 : tie.Need-returns
 returns_2 c =
     let l = place c.before in
     let a = (entry c.before).args in
-    let at = length a.file.now - (counted c.before).left_after.result in
-    let size = c.before.said-length.result in
+    let at = length a.file.now - (counted c.before).left_after-left.result-1 in
+    let size = c.before.said_length-size.result-1 in
     let q : at + head_bytes + size - (at + head_bytes) ≡ size = omega arith in
     let len : length (take (at + head_bytes + size - (at + head_bytes)) (drop (at + head_bytes) a.file.now)) ≡ size = rw q (length-take-le size _ (rw length-drop (omega arith))) in
     (lookup_part _ _ _ _ l.0 (l.1 ∙ sym q), refl, omega (arith, l.0), len ∙ sym l.1)

@@ -10,28 +10,28 @@ use borrow.Author.Rules.{rules}
 use Rattle.loader.proofs.numbers.put_numbers.Statement.{statement}
 use Rattle.loader.proofs.numbers.put_numbers.Tie as tie
 
-add_left_after : tie.Need-overflow-add-left-after
+add_left_after : tie.Need-overflow_add-a
 add_left_after c = search rules
 
-left_after_requires : tie.Need-left-after-requires
+left_after_requires : tie.Need-left_after-requires
 left_after_requires c κs = search rules
 
-sub_at : tie.Need-overflow-sub-at
+sub_at : tie.Need-overflow_sub-at
 sub_at c = rw c.left_after.ensures (ends_within (said_rests_ends _ _))
 
-sub_put_rows : tie.Need-overflow-sub-put-rows
+sub_put_rows : tie.Need-slice_bounds-put_rows-count
 sub_put_rows c = search rules
 
-part_put_rows_start : tie.Need-slice-bounds-put-rows-start
+part_put_rows_start : tie.Need-slice_bounds-put_rows-start
 part_put_rows_start c = search rules
 
-part_put_rows_end : tie.Need-slice-bounds-put-rows-end
+part_put_rows_end : tie.Need-slice_bounds-put_rows-end
 part_put_rows_end c = search rules
 
-put_rows_requires : tie.Need-put-rows-requires
+put_rows_requires : tie.Need-put_rows-requires
 put_rows_requires c κs = search rules
 
-same_length : tie.Need-same-length
+same_length : tie.Need-shape_of-out
 same_length c = search rules
 
 returns : tie.Need-returns
@@ -39,7 +39,7 @@ returns c =
     let d = c.before.before in
     let l = d.before.before.before in
     let a = l.before.before.before.args in
-    d.put-rows.ensures ∙ ap (λ (t : List ℕ). over (numbers_said a.n a.b t) a.out.now) (left_part (said_rests_ends (2 + a.a) a.file.now) l.left_after.ensures)
+    d.put_rows.ensures ∙ ap (λ (t : List ℕ). over (numbers_said a.n a.b t) a.out-1.now) (left_part (said_rests_ends (2 + a.a) a.file.now) l.left_after.ensures)
 
 pub put_numbers_spec : {M : Type 1} → statement M
 put_numbers_spec =

@@ -18,141 +18,141 @@ use Rattle.loader.proofs.Reading.{Sizes-are, sizes_accepted, constants_fit, read
 use Rattle.loader.proofs.read.fill_rows.Statement.{statement}
 use Rattle.loader.proofs.read.fill_rows.Tie as tie
 
-bytes : (c : tie.After-shared-slice-known) → AreBytes c.before.args.file.now
-bytes c i = search (rules, c.shared-slice-known.given i)
+bytes : (c : tie.After-shared_slice_known-1) → AreBytes c.before.args.file.now
+bytes c i = search (rules, c.shared_slice_known-1.given i)
 
 -- the places before the rows are found: where the areas are lent, where the call began, where the constants' area is found to hold them, and where the file
 -- was accepted
 
-abbrev lent : tie.Else1 → tie.After-slice-known2
+abbrev lent : tie.Else-sizes-ne0 → tie.After-slice_known-2-1
 lent c = c.before.before
 
-abbrev entry : tie.Else1 → tie.Start
+abbrev entry : tie.Else-sizes-ne0 → tie.Start
 entry c = (lent c).before.before.before
 
-abbrev constants_held : tie.After-rows → tie.Else2
+abbrev constants_held : tie.After-rows → tie.Else-constants-a
 constants_held c = c.before.before
 
-abbrev passed : tie.After-rows → tie.Else1
+abbrev passed : tie.After-rows → tie.Else-sizes-ne0
 passed c = (constants_held c).before.before
 
 -- the places behind: where the rows are found, where the constants are read, where the parameter rows are found, and where these are read
 
-abbrev rows_found : tie.After-read-constants → tie.After-left-after
+abbrev rows_found : tie.After-read_constants → tie.After-left_after
 rows_found c = c.before.before.before
 
-abbrev constants_read : tie.After-left-after2 → tie.After-read-constants
+abbrev constants_read : tie.After-left_after-2 → tie.After-read_constants
 constants_read c = c.before.before.before
 
-abbrev parameters_found : tie.After-read-parameters → tie.After-left-after2
+abbrev parameters_found : tie.After-read_parameters → tie.After-left_after-2
 parameters_found c = c.before.before.before.before
 
-abbrev parameters_read : tie.After-slice-known4 → tie.After-read-parameters
+abbrev parameters_read : tie.After-slice_known-4-1 → tie.After-read_parameters
 parameters_read c = c.before.before
 
 -- the file of the call
-abbrev file : tie.Else1 → List ℕ
+abbrev file : tie.Else-sizes-ne0 → List ℕ
 file c = (entry c).args.file.now
 
-accepted : (c : tie.Else1) → judge (file c) ≡ 0
-accepted c = sym (entry c).requires.refusal_is ∙ c.if1.false
+accepted : (c : tie.Else-sizes-ne0) → judge (file c) ≡ 0
+accepted c = sym (entry c).requires.refusal_is ∙ c.if-sizes-ne0.false
 
-sizes : (c : tie.Else1) → Sizes-are (file c) (entry c).args.sizes
+sizes : (c : tie.Else-sizes-ne0) → Sizes-are (file c) (entry c).args.sizes
 sizes c = sizes_accepted (entry c).requires (accepted c)
 
 -- the area of the parameter rows holds them
-parameters_held : (c : tie.Else3) → let a = (entry (passed c.before)).args in a.sizes.b ≤ length (row_numbers a.parameters.now)
-parameters_held c = rw c.before.rows.ensures at c.if3.false
+parameters_held : (c : tie.Else-rows-b) → let a = (entry (passed c.before)).args in a.sizes.b ≤ length (row_numbers a.parameters-1.now)
+parameters_held c = rw c.before.rows.ensures at c.if-rows-b.false
 
 -- the rows stand behind two fields
-rows : (c : tie.After-left-after) → let s = file (passed c.before.before) in let left = c.left_after.result in
+rows : (c : tie.After-left_after) → let s = file (passed c.before.before) in let left = c.left_after.result in
     take (length s - (length s - left)) (drop (length s - left) s) ≡ rows_part s
 rows c = left_part (said_rests_ends 2 _) c.left_after.ensures ∙ rows_said _ (accepted (passed c.before.before))
 
-returns : tie.Need-returns
-returns c = reading_refused _ _ _ c.before.before.before.before.before.requires c.if1.true
+returns : tie.Need-returns-then-sizes-ne0
+returns c = reading_refused _ _ _ c.before.before.before.before.before.requires c.if-sizes-ne0.true
 
-mul_if2 : tie.Need-overflow-mul-if2
+mul_if2 : tie.Need-overflow_mul-a
 mul_if2 c =
     let s = entry c.before in
-    let m : s.args.sizes.a * s.args.sizes.n ≤ 256 * 256 = mul-le-mul (le_of_lt s.pre.a_small) (le_of_lt s.pre.n_small) in
+    let m : s.args.sizes.a * s.args.sizes.n ≤ 256 * 256 = mul-le-mul (le_of_lt s.requires.a_small) (le_of_lt s.requires.n_small) in
     omega arith
 
-no_sizes_requires : tie.Need-no-sizes-requires
+no_sizes_requires : tie.Need-no_sizes-requires
 no_sizes_requires c κs = search rules
 
-returns_2 : tie.Need-returns-2
+returns_2 : tie.Need-returns-then-constants-a
 returns_2 c =
-    let z = c.no-sizes.ensures in
+    let z = c.no_sizes.ensures in
     let d = c.before.before.before in
-    rw (z.0, z.1, z.2, z.3, z.4, z.5) (constants_short _ _ _ (accepted d) (sizes d) c.before.if2.true)
+    rw (z.0, z.1, z.2, z.3, z.4, z.5) (constants_short _ _ _ (accepted d) (sizes d) c.before.if-constants-a.true)
 
 rows_requires : tie.Need-rows-requires
 rows_requires c κs = search rules
 
-no_sizes_requires_2 : tie.Need-no-sizes-requires-2
+no_sizes_requires_2 : tie.Need-no_sizes-requires-then-rows-b
 no_sizes_requires_2 c κs = search rules
 
-same_length : tie.Need-same-length
+same_length : tie.Need-shape_of-parameters-then-rows-b
 same_length c = refl
 
-returns_3 : tie.Need-returns-3
+returns_3 : tie.Need-returns-then-rows-b
 returns_3 c =
-    let z = c.no-sizes2.ensures in
+    let z = c.no_sizes-then-rows-b.ensures in
     let held = c.before.before in
     let d = passed held in
-    rw (z.0, z.1, z.2, z.3, z.4, z.5) (parameters_short _ _ _ (accepted d) (sizes d) (constants_held held).if2.false (rw held.rows.ensures at c.before.if3.true))
+    rw (z.0, z.1, z.2, z.3, z.4, z.5) (parameters_short _ _ _ (accepted d) (sizes d) (constants_held held).if-constants-a.false (rw held.rows.ensures at c.before.if-rows-b.true))
 
-left_after_requires : tie.Need-left-after-requires
+left_after_requires : tie.Need-left_after-requires
 left_after_requires c κs = search rules
 
-sub_at : tie.Need-overflow-sub-at
+sub_at : tie.Need-overflow_sub-at
 sub_at c = rw c.left_after.ensures (ends_within (said_rests_ends 2 _))
 
-sub_rows : tie.Need-overflow-sub-rows
+sub_rows : tie.Need-slice_bounds-rows-count
 sub_rows c = search rules
 
-part_rows_start : tie.Need-slice-bounds-rows-start
+part_rows_start : tie.Need-slice_bounds-rows-start
 part_rows_start c = search rules
 
-part_rows_end : tie.Need-slice-bounds-rows-end
+part_rows_end : tie.Need-slice_bounds-rows-end
 part_rows_end c = search rules
 
-read_constants_requires : tie.Need-read-constants-requires
+read_constants_requires : tie.Need-read_constants-requires
 read_constants_requires c κs =
     let found = c.before.before in
     let held = found.before.before in
     let d = passed held in
-    rw (rows found) (constants_fit (bytes (lent d).before.before) (accepted d) (sizes d) _ (constants_held held).if2.false)
+    rw (rows found) (constants_fit (bytes (lent d).before.before) (accepted d) (sizes d) _ (constants_held held).if-constants-a.false)
 
-left_after_requires_2 : tie.Need-left-after-requires-2
+left_after_requires_2 : tie.Need-left_after-requires-2
 left_after_requires_2 c κs = search rules
 
-sub_end : tie.Need-overflow-sub-end
-sub_end c = rw c.left-after2.ensures (ends_within (said_rests_ends _ _))
+sub_end : tie.Need-overflow_sub-end
+sub_end c = rw c.left_after-2.ensures (ends_within (said_rests_ends _ _))
 
-sub_read_parameters : tie.Need-overflow-sub-read-parameters
+sub_read_parameters : tie.Need-slice_bounds-read_parameters-count
 sub_read_parameters c = search rules
 
-part_read_parameters_start : tie.Need-slice-bounds-read-parameters-start
+part_read_parameters_start : tie.Need-slice_bounds-read_parameters-start
 part_read_parameters_start c = search rules
 
-part_read_parameters_end : tie.Need-slice-bounds-read-parameters-end
+part_read_parameters_end : tie.Need-slice_bounds-read_parameters-end
 part_read_parameters_end c = search rules
 
-fields_of_row_requires : tie.Need-fields-of-row-requires
+fields_of_row_requires : tie.Need-fields_of_row-requires
 fields_of_row_requires c κs = search rules
 
-read_parameters_requires : tie.Need-read-parameters-requires
+read_parameters_requires : tie.Need-read_parameters-requires
 read_parameters_requires c κs = search rules
 
-same_length_2 : tie.Need-same-length-2
+same_length_2 : tie.Need-shape_of-constants
 same_length_2 c = search rules
 
-same_length_3 : tie.Need-same-length-3
+same_length_3 : tie.Need-shape_of-parameters
 same_length_3 c = search rules
 
-returns_4 : tie.Need-returns-4
+returns_4 : tie.Need-returns
 returns_4 c =
     let e = parameters_read c in
     let behind = parameters_found e in
@@ -162,10 +162,10 @@ returns_4 c =
     let a = (entry d).args in
     let z = a.sizes in
     let t = rows found in
-    let constants = (constants_read behind).read-constants.ensures ∙ ap (λ (u : List ℕ). over (constants_said z.a u) a.constants.now) t in
-    let left = left_part (said_rests_ends z.a _) behind.left-after2.ensures ∙ ap (said_rests z.a) t in
-    let parameters = e.read-parameters.ensures ∙ ap₂ (λ (k : ℕ) (u : List ℕ). over (parameters_said k z.b u) (row_numbers a.parameters.now)) e.before.fields-of-row.ensures left in
-    rw d.if1.left (reading_done _ _ _ (accepted d) (sizes d) (constants_held held).if2.left (parameters_held found.before) _ _ constants parameters)
+    let constants = (constants_read behind).read_constants.ensures ∙ ap (λ (u : List ℕ). over (constants_said z.a u) a.constants-1.now) t in
+    let left = left_part (said_rests_ends z.a _) behind.left_after-2.ensures ∙ ap (said_rests z.a) t in
+    let parameters = e.read_parameters.ensures ∙ ap₂ (λ (k : ℕ) (u : List ℕ). over (parameters_said k z.b u) (row_numbers a.parameters-1.now)) e.before.fields_of_row.ensures left in
+    rw d.if-sizes-ne0.false (reading_done _ _ _ (accepted d) (sizes d) (constants_held held).if-constants-a.false (parameters_held found.before) _ _ constants parameters)
 
 pub fill_rows_spec : {M : Type 1} → statement M
 fill_rows_spec =

@@ -14,72 +14,72 @@ use Rattle.format.proofs.Puts.{put_all}
 use Rattle.loader.proofs.read.read_entries.Statement.{statement}
 use Rattle.loader.proofs.read.read_entries.Tie as tie
 
-abbrev invariant-loop : tie.invariant-loop
+abbrev invariant-loop : tie.invariant-loop-rest
 invariant-loop out₀ body rest₀ at₀ out rest at = Wrote (entries body) (entries rest) out₀ out at
 
-abbrev decreases-loop : tie.decreases-loop
+abbrev decreases-loop : tie.decreases-loop-rest
 decreases-loop out₀ body rest₀ at₀ out rest at = length rest
 
 -- the turn in which two bytes are read
-abbrev turn : tie.After-two invariant-loop decreases-loop → tie.In-loop invariant-loop decreases-loop
+abbrev turn : tie.After-two invariant-loop decreases-loop → tie.In-loop-rest invariant-loop decreases-loop
 turn c = c.before.before.before
 
 -- while entries are left, the area has room for the next one
-room : (c : tie.After-two invariant-loop decreases-loop) → let l = (turn c).before.loop in l.at + 1 ≤ length l.out
+room : (c : tie.After-two invariant-loop decreases-loop) → let l = (turn c).before.loop-rest in l.at + 1 ≤ length l.out
 room c =
-    let l = (turn c).before.loop in
-    omega (arith, ap length (entries_next l.rest.now (turn c).loop-test.true), l.inv.room)
+    let l = (turn c).before.loop-rest in
+    omega (arith, ap length (entries_next l.rest-1.now (turn c).loop-rest-test.true), l.inv.room)
 
-loop_holds : tie.Need-loop-init invariant-loop decreases-loop
+loop_holds : tie.Need-loop-rest-init invariant-loop decreases-loop
 loop_holds c = wrote_none _ _ c.before.before.requires
 
-shared_slice_read_two : tie.Need-shared-slice-read-two invariant-loop decreases-loop
+shared_slice_read_two : tie.Need-bounds-rest-0 invariant-loop decreases-loop
 shared_slice_read_two c = omega arith
 
-shared_slice_read_two_2 : tie.Need-shared-slice-read-two-2 invariant-loop decreases-loop
+shared_slice_read_two_2 : tie.Need-bounds-rest-1 invariant-loop decreases-loop
 shared_slice_read_two_2 c = omega arith
 
 two_requires : tie.Need-two-requires invariant-loop decreases-loop
 two_requires c κs = search rules
 
-cast_out : tie.Need-overflow-cast-out invariant-loop decreases-loop
+cast_out : tie.Need-overflow_cast-out invariant-loop decreases-loop
 cast_out c = omega arith
 
-mul_out : tie.Need-overflow-mul-out invariant-loop decreases-loop
+mul_out : tie.Need-offset_bounds-out-at invariant-loop decreases-loop
 mul_out c = omega (arith, room c)
 
-slice_write_out : tie.Need-slice-write-out invariant-loop decreases-loop
+slice_write_out : tie.Need-bounds-out-at invariant-loop decreases-loop
 slice_write_out c = omega (arith, room c)
 
-add_at : tie.Need-overflow-add-at invariant-loop decreases-loop
+add_at : tie.Need-overflow_add-at invariant-loop decreases-loop
 add_at c = omega (arith, room c)
 
-sub_rest : tie.Need-overflow-sub-rest invariant-loop decreases-loop
+sub_rest : tie.Need-slice_bounds-rest-count invariant-loop decreases-loop
 sub_rest c = omega arith
 
-part_rest_start : tie.Need-slice-bounds-rest-start invariant-loop decreases-loop
+part_rest_start : tie.Need-slice_bounds-rest-start invariant-loop decreases-loop
 part_rest_start c = omega arith
 
-part_rest_end : tie.Need-slice-bounds-rest-end invariant-loop decreases-loop
+part_rest_end : tie.Need-slice_bounds-rest-end invariant-loop decreases-loop
 part_rest_end c = omega arith
 
-loop_less : tie.Need-loop-smaller invariant-loop decreases-loop
+loop_less : tie.Need-loop-rest-smaller invariant-loop decreases-loop
 loop_less c = simp (length-take, length-drop) (omega arith)
 
-loop_again : tie.Need-loop-preserved invariant-loop decreases-loop
+loop_again : tie.Need-loop-rest-preserved invariant-loop decreases-loop
 loop_again c =
     let k = turn c.before in
-    let l = k.before.loop in
-    let r = l.rest.now in
+    let l = k.before.loop-rest in
+    let r = l.rest-1.now in
     let x = c.before.two in
     wrote_set x.result _ l.inv
-    (entries_next r k.loop-test.taken ∙ ap (λ (y : ℕ). y ∷ entries (drop 2 r)) (sym x.ensures.0) ∙ ap (λ (s : List ℕ). x.result ∷ entries s) (sym (tail_part 2 r)))
+    (entries_next r k.loop-rest-test.true ∙ ap (λ (y : ℕ). y ∷ entries (drop 2 r)) (sym x.ensures.0) ∙ ap (λ (s : List ℕ). x.result ∷ entries s) (sym (tail_part 2 r)))
 
-same_length : tie.Need-same-length invariant-loop decreases-loop
-same_length c = c.before.loop.invariant.same
+same_length : tie.Need-shape_of-out invariant-loop decreases-loop
+same_length c = c.before.loop-rest.invariant.same
 
 returns : tie.Need-returns invariant-loop decreases-loop
-returns c = put_all c.before.loop.invariant (entries_done _ c.loop-test.false)
+returns c = put_all c.before.loop-rest.invariant (entries_done _ c.loop-rest-test.false)
 
 pub read_entries_spec : {M : Type 1} → statement M
 read_entries_spec =

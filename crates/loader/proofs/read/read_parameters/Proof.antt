@@ -18,84 +18,84 @@ use Rattle.loader.proofs.Reading.{parameters_next, parameters_done, parameters_l
 use Rattle.loader.proofs.read.read_parameters.Statement.{statement}
 use Rattle.loader.proofs.read.read_parameters.Tie as tie
 
-abbrev invariant-loop : tie.invariant-loop
+abbrev invariant-loop : tie.invariant-loop-at
 invariant-loop out₀ file b step rest₀ at₀ out rest at = Wrote (parameters_said step b file) (parameters_said step (b - at) rest) (row_numbers out₀) (row_numbers out) at × (at ≤ b) × (length out ≡ length out₀)
 
-abbrev decreases-loop : tie.decreases-loop
+abbrev decreases-loop : tie.decreases-loop-at
 decreases-loop out₀ file b step rest₀ at₀ out rest at = b - at
 
 -- the places of a turn: where its row is put, where the row's body is read, and where it began
 
-abbrev put : tie.After-left-after invariant-loop decreases-loop → tie.After-put-row invariant-loop decreases-loop
+abbrev put : tie.After-left_after invariant-loop decreases-loop → tie.After-put_row invariant-loop decreases-loop
 put c = c.before.before.before
 
-abbrev body_read : tie.After-left-after invariant-loop decreases-loop → tie.After-said-body invariant-loop decreases-loop
+abbrev body_read : tie.After-left_after invariant-loop decreases-loop → tie.After-said_body invariant-loop decreases-loop
 body_read c = (put c).before.before
 
-abbrev turn : tie.After-left-after invariant-loop decreases-loop → tie.In-loop invariant-loop decreases-loop
+abbrev turn : tie.After-left_after invariant-loop decreases-loop → tie.In-loop-at invariant-loop decreases-loop
 turn c = (body_read c).before.before
 
 -- where the call began
-abbrev entry : tie.At-loop invariant-loop decreases-loop → tie.Start invariant-loop decreases-loop
+abbrev entry : tie.At-loop-at invariant-loop decreases-loop → tie.Start invariant-loop decreases-loop
 entry k = k.before.before.before
 
-loop_holds : tie.Need-loop-init invariant-loop decreases-loop
+loop_holds : tie.Need-loop-at-init invariant-loop decreases-loop
 loop_holds c = let a = c.before.before.args in
     let all : a.b - 0 ≡ a.b = omega arith in
     (rw all (wrote_none _ _ (omega (arith, parameters_length a.step a.b a.file.now, c.before.before.requires))), omega arith, refl)
 
-said_body_requires : tie.Need-said-body-requires invariant-loop decreases-loop
+said_body_requires : tie.Need-said_body-requires invariant-loop decreases-loop
 said_body_requires c κs = search rules
 
-of_bytes_requires : tie.Need-of-bytes-requires invariant-loop decreases-loop
+of_bytes_requires : tie.Need-of_bytes-requires invariant-loop decreases-loop
 of_bytes_requires c κs = search rules
 
-put_row_requires : tie.Need-put-row-requires invariant-loop decreases-loop
+put_row_requires : tie.Need-put_row-requires invariant-loop decreases-loop
 put_row_requires c κs = search rules
 
-left_after_requires : tie.Need-left-after-requires invariant-loop decreases-loop
+left_after_requires : tie.Need-left_after-requires invariant-loop decreases-loop
 left_after_requires c κs = search rules
 
-sub_end : tie.Need-overflow-sub-end invariant-loop decreases-loop
+sub_end : tie.Need-overflow_sub-end invariant-loop decreases-loop
 sub_end c = rw c.left_after.ensures (ends_within (said_rests_ends _ _))
 
-sub_rest : tie.Need-overflow-sub-rest invariant-loop decreases-loop
+sub_rest : tie.Need-slice_bounds-rest-count invariant-loop decreases-loop
 sub_rest c = search rules
 
-part_rest_start : tie.Need-slice-bounds-rest-start invariant-loop decreases-loop
+part_rest_start : tie.Need-slice_bounds-rest-start invariant-loop decreases-loop
 part_rest_start c = search rules
 
-part_rest_end : tie.Need-slice-bounds-rest-end invariant-loop decreases-loop
+part_rest_end : tie.Need-slice_bounds-rest-end invariant-loop decreases-loop
 part_rest_end c = search rules
 
-add_at : tie.Need-overflow-add-at invariant-loop decreases-loop
+add_at : tie.Need-overflow_add-at invariant-loop decreases-loop
 add_at c = omega arith
 
-loop_less : tie.Need-loop-smaller invariant-loop decreases-loop
+loop_less : tie.Need-loop-at-smaller invariant-loop decreases-loop
 loop_less c = omega arith
 
-loop_again : tie.Need-loop-preserved invariant-loop decreases-loop
+loop_again : tie.Need-loop-at-preserved invariant-loop decreases-loop
 loop_again c =
     let e = c.before in
-    let is-put = (put e).put-row.ensures in
-    let of-bytes = (put e).before.of-bytes in
-    let body = (body_read e).said-body in
+    let is-put = (put e).put_row.ensures in
+    let of-bytes = (put e).before.of_bytes in
+    let body = (body_read e).said_body in
     let k = (turn e).before in
-    let l = k.loop in
-    let r = l.rest.now in
+    let l = k.loop-at in
+    let r = l.rest-1.now in
     let a = (entry k).args in
     let w = whole of-bytes.result in
     let q : a.b - l.at - 1 ≡ a.b - (l.at + 1) = omega arith in
     let is_row : number (take room_bytes (said_body r)) ≡ w = ap (λ (t : List ℕ). number (take room_bytes t)) (sym body.ensures.bytes_are) ∙ sym of-bytes.ensures.is_number in
-    let written = ap row_numbers is-put ∙ rows_with_row l.out l.at w in
+    let written = ap row_numbers is-put ∙ rows_with_row l.out-1 l.at w in
     let next = left_part (said_rests_ends a.step r) e.left_after.ensures in
-    (rw written (wrote_set w _ l.inv.0 (parameters_next (a.b - l.at) r a.step (omega (arith, (turn e).loop-test.true)) ∙ rw (q, is_row, ← next) refl)), omega (arith, (turn e).loop-test.true), ap length is-put ∙ with_row_length l.out l.at w ∙ l.inv.2)
+    (rw written (wrote_set w _ l.inv.0 (parameters_next (a.b - l.at) r a.step (omega (arith, (turn e).loop-at-test.true)) ∙ rw (q, is_row, ← next) refl)), omega (arith, (turn e).loop-at-test.true), ap length is-put ∙ with_row_length l.out-1 l.at w ∙ l.inv.2)
 
-same_length : tie.Need-same-length invariant-loop decreases-loop
-same_length c = c.before.loop.invariant.2
+same_length : tie.Need-shape_of-out invariant-loop decreases-loop
+same_length c = c.before.loop-at.invariant.2
 
 returns : tie.Need-returns invariant-loop decreases-loop
-returns c = let l = c.before.loop in wrote_all l.invariant.0 (parameters_done _ _ _ (omega arith))
+returns c = let l = c.before.loop-at in wrote_all l.invariant.0 (parameters_done _ _ _ (omega arith))
 
 pub read_parameters_spec : {M : Type 1} → statement M
 read_parameters_spec =

@@ -4,31 +4,31 @@ use Rattle.limits.specs.Limits.{most_rows}
 use Rattle.mixed_run.proofs.edges.fill_rows.Statement.{statement}
 use Rattle.mixed_run.proofs.edges.fill_rows.Tie as tie
 
-abbrev invariant-loop : tie.invariant-loop
+abbrev invariant-loop : tie.invariant-loop-r
 invariant-loop area₀ r₀ area r = length area ≡ length area₀
 
-abbrev decreases-loop : tie.decreases-loop
+abbrev decreases-loop : tie.decreases-loop-r
 decreases-loop area₀ r₀ area r = most_rows - r
 
-loop_holds : tie.Need-loop-init invariant-loop decreases-loop
+loop_holds : tie.Need-loop-r-init invariant-loop decreases-loop
 loop_holds c = refl
 
 below_requires : tie.Need-below-requires invariant-loop decreases-loop
 below_requires c κs = search rules
 
-put_row_requires : tie.Need-put-row-requires invariant-loop decreases-loop
+put_row_requires : tie.Need-put_row-requires invariant-loop decreases-loop
 put_row_requires c κs = search rules
 
-add_r : tie.Need-overflow-add-r invariant-loop decreases-loop
+add_r : tie.Need-overflow_step-r invariant-loop decreases-loop
 add_r c = search rules
 
-loop_less : tie.Need-loop-smaller invariant-loop decreases-loop
+loop_less : tie.Need-loop-r-smaller invariant-loop decreases-loop
 loop_less c = search rules
 
-loop_again : tie.Need-loop-preserved invariant-loop decreases-loop
+loop_again : tie.Need-loop-r-preserved invariant-loop decreases-loop
 loop_again c = search rules
 
-same_length : tie.Need-same-length invariant-loop decreases-loop
+same_length : tie.Need-shape_of-area invariant-loop decreases-loop
 same_length c = search rules
 
 returns : tie.Need-returns invariant-loop decreases-loop

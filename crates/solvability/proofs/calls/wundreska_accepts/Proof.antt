@@ -19,71 +19,71 @@ use Rattle.solvability.proofs.calls.wundreska_accepts.Statement.{statement}
 use Rattle.solvability.proofs.calls.wundreska_accepts.Tie as tie
 
 -- where the call begins, where both areas are seen to be long enough, and where the file is answered
-abbrev begun : tie.After-slice-known → tie.Start
+abbrev begun : tie.After-slice_known-1 → tie.Start
 begun c = c.before.before.before
 
-abbrev long : tie.After-file-acceptance → tie.Else2
+abbrev long : tie.After-file_acceptance-r → tie.Else-claim-lt-CLAIM_LENGTH
 long c = c.before.before
 
-abbrev start : tie.After-file-acceptance → tie.Start
+abbrev start : tie.After-file_acceptance-r → tie.Start
 start c = begun (long c).before.before
 
 -- what is written
 abbrev Written : tie.Start → List ℕ → List ℕ → Type 0
 Written k = WrittenOver (AcceptanceOf (file_model k.args.file.now) k.args.claim.now) acceptance_bytes
 
-refuse_area_requires : tie.Need-refuse-area-requires
+refuse_area_requires : tie.Need-refuse_area-requires
 refuse_area_requires c κs = search rules
 
-returns : tie.Need-returns
+returns : tie.Need-returns-then-answer-lt-ACCEPTANCE_LENGTH
 returns c =
     let k = begun c.before.before in
     let a = k.args in
-    refused_short (closed fields a.file.now) (claim_question a.claim.now) acceptance_length (Written k) a.answer.now c.before.if1.true _ c.refuse-area.ensures
+    refused_short (closed fields a.file.now) (claim_question a.claim.now) acceptance_length (Written k) a.answer-1.now c.before.if-answer-lt-ACCEPTANCE_LENGTH.true _ c.refuse_area.ensures
 
-refuse_area_requires_2 : tie.Need-refuse-area-requires-2
+refuse_area_requires_2 : tie.Need-refuse_area-requires-then-claim-lt-CLAIM_LENGTH
 refuse_area_requires_2 c κs = search rules
 
-returns_2 : tie.Need-returns-2
+returns_2 : tie.Need-returns-then-claim-lt-CLAIM_LENGTH
 unfolding area_test
 returns_2 c =
     let k = begun c.before.before.before in
     let a = k.args in
-    refused_beside (closed fields a.file.now) [] (area_test claim_length (length a.claim.now)) acceptance_length (Written k) a.answer.now c.before.before.if1.false (lt-leb _ _ c.before.if2.true) _ c.refuse-area2.ensures
+    refused_beside (closed fields a.file.now) [] (area_test claim_length (length a.claim.now)) acceptance_length (Written k) a.answer-1.now c.before.before.if-answer-lt-ACCEPTANCE_LENGTH.false (lt-leb _ _ c.before.if-claim-lt-CLAIM_LENGTH.true) _ c.refuse_area-then-claim-lt-CLAIM_LENGTH.ensures
 
-read_claim_requires : tie.Need-read-claim-requires
+read_claim_requires : tie.Need-read_claim-requires
 read_claim_requires c κs = search rules
 
-file_acceptance_requires : tie.Need-file-acceptance-requires
+file_acceptance_requires : tie.Need-file_acceptance-r-requires
 file_acceptance_requires c κs = search rules
 
-returns_3 : tie.Need-returns-3
+returns_3 : tie.Need-returns-then-r-ne0
 unfolding judge
 returns_3 c =
     let f = c.before.before in
     let k = start f in
     let a = k.args in
-    refused_before (closed fields a.file.now) (claim_question a.claim.now) acceptance_length (Written k) a.answer.now _ f.file-acceptance.ensures.is_refusal c.if3.true
+    refused_before (closed fields a.file.now) (claim_question a.claim.now) acceptance_length (Written k) a.answer-1.now _ f.file_acceptance-r.ensures.is_refusal c.if-r-ne0.true
 
-put_acceptance_requires : tie.Need-put-acceptance-requires
+put_acceptance_requires : tie.Need-put_acceptance-requires
 put_acceptance_requires c κs = search rules
 
-same_length : tie.Need-same-length
+same_length : tie.Need-shape_of-answer
 same_length c = search rules
 
-returns_4 : tie.Need-returns-4
+returns_4 : tie.Need-returns
 unfolding judge
 returns_4 c =
     let d = c.before.before in
     let at-else = d.before.before in
     let f = at-else.before.before in
     let a = (start f).args in
-    let h = f.file-acceptance.ensures in
-    let r = f.file-acceptance.result in
-    let ok = sym h.is_refusal ∙ at-else.if3.false in
-    let enough = (long f).if2.false in
-    answer_put acceptance_bytes (closed fields a.file.now) (claim_question a.claim.now) r (answered_of_bytes r (f.before.read-claim.ensures.if_long enough) (h.if_accepted ok)) ok
-    (zero_unless _ area_short ((area_reads _ _).1 enough)) d.put-acceptance.ensures
+    let h = f.file_acceptance-r.ensures in
+    let r = f.file_acceptance-r.result in
+    let ok = sym h.is_refusal ∙ at-else.if-r-ne0.false in
+    let enough = (long f).if-claim-lt-CLAIM_LENGTH.false in
+    answer_put acceptance_bytes (closed fields a.file.now) (claim_question a.claim.now) r (answered_of_bytes r (f.before.read_claim.ensures.if_long enough) (h.if_accepted ok)) ok
+    (zero_unless _ area_short ((area_reads _ _).1 enough)) d.put_acceptance.ensures
 
 pub wundreska_accepts_spec : {M : Type 1} → statement M
 wundreska_accepts_spec =

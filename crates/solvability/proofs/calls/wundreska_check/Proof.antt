@@ -12,41 +12,41 @@ use Rattle.solvability.proofs.calls.wundreska_check.Statement.{statement}
 use Rattle.solvability.proofs.calls.wundreska_check.Tie as tie
 
 -- where the call begins, where the file is answered, where the answer is put, and where the file was accepted
-abbrev begun : tie.After-layered-file → tie.Start
+abbrev begun : tie.After-layered_file-r → tie.Start
 begun c = c.before.before.before
 
-abbrev answered : tie.After-struct-known → tie.After-layered-file
+abbrev answered : tie.After-struct_known-1 → tie.After-layered_file-r
 answered c = c.before
 
-abbrev put : tie.After-slice-known2 → tie.After-put-answer
+abbrev put : tie.After-slice_known-2-1 → tie.After-put_answer
 put c = c.before.before
 
-abbrev accepted : tie.After-slice-known2 → tie.Else1
+abbrev accepted : tie.After-slice_known-2-1 → tie.Else-r-ne0
 accepted c = (put c).before.before
 
-layered_file_requires : tie.Need-layered-file-requires
+layered_file_requires : tie.Need-layered_file-r-requires
 layered_file_requires c κs = search rules
 
-returns : tie.Need-returns
+returns : tie.Need-returns-then-r-ne0
 unfolding judge
 returns c =
     let f = answered c.before in
     let a = (begun f).args in
-    refused_before (closed fields a.file.now) [] answer_length (AnswerWritten (file_model a.file.now)) a.answer.now _ f.layered-file.ensures.is_refusal c.if1.true
+    refused_before (closed fields a.file.now) [] answer_length (AnswerWritten (file_model a.file.now)) a.answer-1.now _ f.layered_file-r.ensures.is_refusal c.if-r-ne0.true
 
-put_answer_requires : tie.Need-put-answer-requires
+put_answer_requires : tie.Need-put_answer-requires
 put_answer_requires c κs = search rules
 
-same_length : tie.Need-same-length
+same_length : tie.Need-shape_of-answer
 same_length c = search rules
 
-returns_2 : tie.Need-returns-2
+returns_2 : tie.Need-returns
 unfolding judge first_refusal
 returns_2 c =
     let f = answered (accepted c).before in
-    let h = f.layered-file.ensures in
-    let ok = sym h.is_refusal ∙ (accepted c).if1.false in
-    answer_put answer_bytes (closed fields (begun f).args.file.now) [] _ (h.if_accepted ok) ok refl (put c).put-answer.ensures
+    let h = f.layered_file-r.ensures in
+    let ok = sym h.is_refusal ∙ (accepted c).if-r-ne0.false in
+    answer_put answer_bytes (closed fields (begun f).args.file.now) [] _ (h.if_accepted ok) ok refl (put c).put_answer.ensures
 
 pub wundreska_check_spec : {M : Type 1} → statement M
 wundreska_check_spec = tie.close (tie.spec layered_file_requires returns put_answer_requires same_length returns_2)

@@ -20,52 +20,52 @@ abbrev Written : (file rp cp pp : List ℕ) → List ℕ → List ℕ → Type 0
 Written file rp cp pp = WrittenOver (DegreeAnswered (file_model file) (listed_powers (decode file).n rp cp pp)) degree_bytes
 
 -- where the call begins, where the file is answered, where the answer is put, and where the question was accepted
-abbrev begun : tie.After-slice-known → tie.Start
+abbrev begun : tie.After-slice_known-1 → tie.Start
 begun c = c.before.before.before.before.before
 
-abbrev answered : tie.After-struct-known → tie.After-file-degree
+abbrev answered : tie.After-struct_known-1 → tie.After-file_degree-r
 answered c = c.before
 
-abbrev put : tie.After-slice-known2 → tie.After-put-degree
+abbrev put : tie.After-slice_known-2-1 → tie.After-put_degree
 put c = c.before.before
 
-abbrev accepted : tie.After-slice-known2 → tie.Else2
+abbrev accepted : tie.After-slice_known-2-1 → tie.Else-r-ne0
 accepted c = (put c).before.before
 
-refuse_area_requires : tie.Need-refuse-area-requires
+refuse_area_requires : tie.Need-refuse_area-requires
 refuse_area_requires c κs = search rules
 
-returns : tie.Need-returns
+returns : tie.Need-returns-then-answer-lt-DEGREE_LENGTH
 returns c =
     let a = (begun c.before.before).args in
-    refused_short (closed fields a.file.now) (file_question a.file.now a.rowpowers.now a.columnpowers.now a.parameterpowers.now) degree_length (Written a.file.now a.rowpowers.now a.columnpowers.now a.parameterpowers.now) a.answer.now c.before.if1.true _ c.refuse-area.ensures
+    refused_short (closed fields a.file.now) (file_question a.file.now a.rowpowers.now a.columnpowers.now a.parameterpowers.now) degree_length (Written a.file.now a.rowpowers.now a.columnpowers.now a.parameterpowers.now) a.answer-1.now c.before.if-answer-lt-DEGREE_LENGTH.true _ c.refuse_area.ensures
 
-file_degree_requires : tie.Need-file-degree-requires
+file_degree_requires : tie.Need-file_degree-r-requires
 file_degree_requires c κs = search rules
 
-returns_2 : tie.Need-returns-2
+returns_2 : tie.Need-returns-then-r-ne0
 returns_2 c =
     let f = answered c.before in
     let at-else = f.before in
     let a = (begun at-else.before).args in
-    refused_around (closed fields a.file.now) (file_question a.file.now a.rowpowers.now a.columnpowers.now a.parameterpowers.now) degree_length (Written a.file.now a.rowpowers.now a.columnpowers.now a.parameterpowers.now) a.answer.now at-else.if1.left _ f.file-degree.ensures.is_refusal c.if2.true
+    refused_around (closed fields a.file.now) (file_question a.file.now a.rowpowers.now a.columnpowers.now a.parameterpowers.now) degree_length (Written a.file.now a.rowpowers.now a.columnpowers.now a.parameterpowers.now) a.answer-1.now at-else.if-answer-lt-DEGREE_LENGTH.false _ f.file_degree-r.ensures.is_refusal c.if-r-ne0.true
 
-put_degree_requires : tie.Need-put-degree-requires
+put_degree_requires : tie.Need-put_degree-requires
 put_degree_requires c κs = search rules
 
-same_length : tie.Need-same-length
+same_length : tie.Need-shape_of-answer
 same_length c = search rules
 
-returns_3 : tie.Need-returns-3
+returns_3 : tie.Need-returns
 returns_3 c =
     let f = answered (accepted c).before in
     let a = (begun f.before.before).args in
     let file = a.file.now in
     let question = file_question file a.rowpowers.now a.columnpowers.now a.parameterpowers.now in
-    let h = f.file-degree.ensures in
-    let ok = sym h.is_refusal ∙ (accepted c).if2.false in
+    let h = f.file_degree-r.ensures in
+    let ok = sym h.is_refusal ∙ (accepted c).if-r-ne0.false in
     let each = then_zero (closed fields file) question ok in
-    answer_put degree_bytes (closed fields file) question _ (h.if_accepted ok) each.0 each.1 (put c).put-degree.ensures
+    answer_put degree_bytes (closed fields file) question _ (h.if_accepted ok) each.0 each.1 (put c).put_degree.ensures
 
 pub wundreska_degree_spec : {M : Type 1} → statement M
 wundreska_degree_spec = tie.close (tie.spec refuse_area_requires returns file_degree_requires returns_2 put_degree_requires same_length returns_3)

@@ -13,52 +13,52 @@ use Rattle.solvability.proofs.calls.wundreska_reason.Statement.{statement}
 use Rattle.solvability.proofs.calls.wundreska_reason.Tie as tie
 
 -- where the call begins, where the file is answered, where the answer is put, and where the question was accepted
-abbrev begun : tie.After-slice-known → tie.Start
+abbrev begun : tie.After-slice_known-1 → tie.Start
 begun c = c.before.before
 
-abbrev answered : tie.After-struct-known → tie.After-file-reason
+abbrev answered : tie.After-struct_known-1 → tie.After-file_reason-r
 answered c = c.before
 
-abbrev put : tie.After-slice-known2 → tie.After-put-reason
+abbrev put : tie.After-slice_known-2-1 → tie.After-put_reason
 put c = c.before.before
 
-abbrev accepted : tie.After-slice-known2 → tie.Else2
+abbrev accepted : tie.After-slice_known-2-1 → tie.Else-r-ne0
 accepted c = (put c).before.before
 
-refuse_area_requires : tie.Need-refuse-area-requires
+refuse_area_requires : tie.Need-refuse_area-requires
 refuse_area_requires c κs = search rules
 
-returns : tie.Need-returns
+returns : tie.Need-returns-then-answer-lt-REASON_LENGTH
 returns c =
     let a = (begun c.before.before).args in
-    refused_short (closed fields a.file.now) (reason_question (file_model a.file.now) a.column) reason_length (WrittenOver (FileReason a.file.now a.column) reason_bytes) a.answer.now c.before.if1.true _ c.refuse-area.ensures
+    refused_short (closed fields a.file.now) (reason_question (file_model a.file.now) a.column) reason_length (WrittenOver (FileReason a.file.now a.column) reason_bytes) a.answer-1.now c.before.if-answer-lt-REASON_LENGTH.true _ c.refuse_area.ensures
 
-file_reason_requires : tie.Need-file-reason-requires
+file_reason_requires : tie.Need-file_reason-r-requires
 file_reason_requires c κs = search rules
 
-returns_2 : tie.Need-returns-2
+returns_2 : tie.Need-returns-then-r-ne0
 returns_2 c =
     let f = answered c.before in
     let at-else = f.before in
     let a = (begun at-else.before).args in
-    refused_around (closed fields a.file.now) (reason_question (file_model a.file.now) a.column) reason_length (WrittenOver (FileReason a.file.now a.column) reason_bytes) a.answer.now at-else.if1.left _ f.file-reason.ensures.is_refusal c.if2.true
+    refused_around (closed fields a.file.now) (reason_question (file_model a.file.now) a.column) reason_length (WrittenOver (FileReason a.file.now a.column) reason_bytes) a.answer-1.now at-else.if-answer-lt-REASON_LENGTH.false _ f.file_reason-r.ensures.is_refusal c.if-r-ne0.true
 
-put_reason_requires : tie.Need-put-reason-requires
+put_reason_requires : tie.Need-put_reason-requires
 put_reason_requires c κs = search rules
 
-same_length : tie.Need-same-length
+same_length : tie.Need-shape_of-answer
 same_length c = search rules
 
-returns_3 : tie.Need-returns-3
+returns_3 : tie.Need-returns
 returns_3 c =
     let f = answered (accepted c).before in
     let a = (begun f.before.before).args in
     let file = a.file.now in
     let question = reason_question (file_model file) a.column in
-    let h = f.file-reason.ensures in
-    let ok = sym h.is_refusal ∙ (accepted c).if2.false in
+    let h = f.file_reason-r.ensures in
+    let ok = sym h.is_refusal ∙ (accepted c).if-r-ne0.false in
     let each = then_zero (closed fields file) question ok in
-    answer_put reason_bytes (closed fields file) question _ (h.if_accepted ok) each.0 each.1 (put c).put-reason.ensures
+    answer_put reason_bytes (closed fields file) question _ (h.if_accepted ok) each.0 each.1 (put c).put_reason.ensures
 
 pub wundreska_reason_spec : {M : Type 1} → statement M
 wundreska_reason_spec = tie.close (tie.spec refuse_area_requires returns file_reason_requires returns_2 put_reason_requires same_length returns_3)
