@@ -41,24 +41,24 @@ ws k = row_numbers k.args.parameters.now
 side_small : (k : tie.Start) → whole k.args.claim.constants < 2 ^ width
 side_small k = let fits : Fits k.args.claim.constants = search rules in whole_below k.args.claim.constants fits
 
-set_small : (k : tie.Start) → whole k.args.claim.set-1 < 2 ^ width
-set_small k = let fits : Fits k.args.claim.set-1 = search rules in whole_below k.args.claim.set-1 fits
+set_small : (k : tie.Start) → whole k.args.claim.set < 2 ^ width
+set_small k = let fits : Fits k.args.claim.set = search rules in whole_below k.args.claim.set fits
 
 seats_small : (c : tie.After-seat_rows-seats) → whole c.seat_rows-seats.result.columns < 2 ^ width
-seats_small c = let fits : Fits c.seat_rows-seats.result.columns = search (rules, c.seat_rows-seats.type-inv) in whole_below c.seat_rows-seats.result.columns fits
+seats_small c = let fits : Fits c.seat_rows-seats.result.columns = search (rules, c.seat_rows-seats.type_inv) in whole_below c.seat_rows-seats.result.columns fits
 
 -- what the first three tests say
 side_in : (c : tie.Else-not-within-2) → within (begun c).args.n (whole (begun c).args.claim.constants) ≡ true
 side_in c = let e = c.before.before in sym e.before.within.ensures ∙ not-false _ e.if-not-within.false-raw
 
-set_in : (c : tie.Else-not-within-2) → within (begun c).args.n (whole (begun c).args.claim.set-1) ≡ true
+set_in : (c : tie.Else-not-within-2) → within (begun c).args.n (whole (begun c).args.claim.set) ≡ true
 set_in c = sym c.before.within-2.ensures ∙ not-false _ c.if-not-within-2.false-raw
 
-fit : (c : tie.Else-not-seats) → let a = (begun (within_n c)).args in RowsServe a.n a.b (row_numbers a.parameters.now) (members (whole a.claim.constants)) a.claim.rows-1
+fit : (c : tie.Else-not-seats) → let a = (begun (within_n c)).args in RowsServe a.n a.b (row_numbers a.parameters.now) (members (whole a.claim.constants)) a.claim.rows
 fit c = (seated c).seat_rows-seats.ensures.if_fit (not-false _ c.if-not-seats.false)
 
 are : (c : tie.Else-not-seats) → let a = (begun (within_n c)).args in
-    (x : ℕ) → (x ∈ members (whole (seated c).seat_rows-seats.result.columns)) ↔ ((x ∈ members (whole a.claim.constants)) ⊎ Named a.claim.rows-1 x)
+    (x : ℕ) → (x ∈ members (whole (seated c).seat_rows-seats.result.columns)) ↔ ((x ∈ members (whole a.claim.constants)) ⊎ Named a.claim.rows x)
 are c = (seated c).seat_rows-seats.ensures.columns_are (not-false _ c.if-not-seats.false)
 
 cast_rank : tie.Need-overflow_cast-rank
@@ -77,7 +77,7 @@ returns_2 : tie.Need-returns-then-not-within-2
 returns_2 c = let k = c.before.before.before.before.before.before.before.before.before.before in not_accepted (λ h. true≢false (sym (set_inside _ _ _ _ (cs k) (ws k) _ _ _ _ h) ∙ sym c.before.within-2.ensures ∙ not-true _ c.if-not-within-2.true-raw))
 
 seat_rows_requires : tie.Need-seat_rows-seats-requires
-seat_rows_requires c κs = let k = begun c in let long : length k.args.claim.rows-1 ≡ most_rows = search rules in (k.requires.n_most, long)
+seat_rows_requires c κs = let k = begun c in let long : length k.args.claim.rows ≡ most_rows = search rules in (k.requires.n_most, long)
 
 returns_3 : tie.Need-returns-then-not-seats
 returns_3 c = let k = begun c.before.before.before in not_accepted (λ h. c.before.before.seat_rows-seats.ensures.if_not (not-true _ c.if-not-seats.true) (rows_fit _ _ _ _ (cs k) (ws k) _ _ _ _ h))
@@ -126,7 +126,7 @@ returns_7 c =
     let e = tested sum in
     let k = begun (within_n e) in
     let a = k.args in
-    let h = accepted a.p a.n a.a a.b (cs k) (ws k) a.claim.rank (whole a.claim.constants) a.claim.rows-1 (whole a.claim.set-1) (side_small k) (side_in (within_n e)) (fit e) (whole (seated e).seat_rows-seats.result.columns) (seats_small (seated e)) (are e) (set_in (within_n e)) (set_small k)
+    let h = accepted a.p a.n a.a a.b (cs k) (ws k) a.claim.rank (whole a.claim.constants) a.claim.rows (whole a.claim.set) (side_small k) (side_in (within_n e)) (fit e) (whole (seated e).seat_rows-seats.result.columns) (seats_small (seated e)) (are e) (set_in (within_n e)) (set_small k)
     (omega (arith, fourth.before.size.ensures, fourth.if-size-rank.false))
     (omega (arith, r.constant_rank.ensures, last.before.size-2.ensures, last.if-constant_rank-size.false))
     (omega (arith, sum.set_sum-total.ensures, c.if-total-rank.false)) in

@@ -110,7 +110,7 @@ loop_again c =
     let k = turn f in
     let a = (begun k).args in
     rw (c.without-rest.ensures, (written c).put_row.ensures)
-    (needing_more (members (whole a.all)) (members (whole k.loop-sizes.rest)) (unlike a.rows.now (sized k).by_size-sizes.result) k.loop-sizes.needs-1 f.first-x.result (whole d.difference.result)
+    (needing_more (members (whole a.all)) (members (whole k.loop-sizes.rest)) (unlike a.rows.now (sized k).by_size-sizes.result) k.loop-sizes.needs f.first-x.result (whole d.difference.result)
     (there f).1 k.loop-sizes.invariant (row_is d))
 
 returns : tie.Need-returns invariant-loop decreases-loop
@@ -119,7 +119,7 @@ returns c =
     let l = k.loop-sizes in
     let a = (begun k).args in
     let gone : # width (members (whole l.rest)) ≡ 0 = eqb-true _ 0 (sym c.before.is_empty.ensures ∙ not-false _ c.loop-sizes-test.false-raw) in
-    λ n E b t h. needing_done n E b t (members (whole a.all)) (members (whole l.rest)) a.rows.now (sized k).by_size-sizes.result l.needs-1 h (sized k).by_size-sizes.ensures l.invariant
+    λ n E b t h. needing_done n E b t (members (whole a.all)) (members (whole l.rest)) a.rows.now (sized k).by_size-sizes.result l.needs h (sized k).by_size-sizes.ensures l.invariant
     (λ x e. nothing_in width (members (whole l.rest)) gone x (columns_below a.all x (search rules) (l.invariant.inside x e)) e)
 
 pub all_needs_spec : {M : Type 1} → statement M

@@ -98,7 +98,7 @@ loop_again c =
     let x = f.first-x.result in
     let t = there f in
     rw (c.without-rest.ensures, (written c).put_row.ensures)
-    (sizing_turn (members (whole a.all)) (members (whole l.rest)) a.rows.now l.table-1 x (whole m.with-more.result) z.size-k.result t.0 t.1 l.inv (size_is z)
+    (sizing_turn (members (whole a.all)) (members (whole l.rest)) a.rows.now l.table x (whole m.with-more.result) z.size-k.result t.0 t.1 l.invariant (size_is z)
     (m.with-more.ensures ∙ ap (λ (w : ℕ). inserted (members w) x) m.before.row-in-loop-rest.ensures))
 
 returns : tie.Need-returns invariant-loop decreases-loop
@@ -107,7 +107,7 @@ returns c =
     let l = k.loop-rest in
     let a = (begun k).args in
     let gone : # width (members (whole l.rest)) ≡ 0 = eqb-true _ 0 (sym c.before.is_empty.ensures ∙ not-false _ c.loop-rest-test.false-raw) in
-    sizing_done (members (whole a.all)) (members (whole l.rest)) a.rows.now l.table-1 l.invariant
+    sizing_done (members (whole a.all)) (members (whole l.rest)) a.rows.now l.table l.invariant
     (λ x e. nothing_in width (members (whole l.rest)) gone x (columns_below a.all x (search rules) (l.invariant.inside x e)) e)
 
 pub by_size_spec : {M : Type 1} → statement M

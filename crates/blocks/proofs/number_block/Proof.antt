@@ -46,7 +46,7 @@ first_requires : tie.Need-first-x-requires invariant-loop decreases-loop
 first_requires c κs = search rules
 
 slice_write_numbers : tie.Need-bounds-numbers-x invariant-loop decreases-loop
-slice_write_numbers c = let l = (turn c).loop-rest in omega (arith, l.inv.same_length, (begun (turn c)).requires c.first-x.result (l.inv.inside c.first-x.result (there c).1))
+slice_write_numbers c = let l = (turn c).loop-rest in omega (arith, l.invariant.same_length, (begun (turn c)).requires c.first-x.result (l.invariant.inside c.first-x.result (there c).1))
 
 without_requires : tie.Need-without-rest-requires invariant-loop decreases-loop
 without_requires c κs = search rules
@@ -59,7 +59,7 @@ loop_again c =
     let f = c.before in
     let l = (turn f).loop-rest in
     let a = (begun (turn f)).args in
-    rw c.without-rest.ensures (numbering_more (members (whole a.block)) (members (whole l.rest)) a.k a.numbers.now l.numbers f.first-x.result (there f).1 l.inv)
+    rw c.without-rest.ensures (numbering_more (members (whole a.block)) (members (whole l.rest)) a.k a.numbers.now l.numbers f.first-x.result (there f).1 l.invariant)
 
 same_length : tie.Need-shape_of-numbers invariant-loop decreases-loop
 same_length c = c.before.before.loop-rest.invariant.same_length

@@ -67,7 +67,7 @@ loop_again c =
     let l = (turn f).loop-rest in
     let a = (begun (turn f)).args in
     rw (c.without-rest.ensures, u.union-all.ensures)
-    (waking_more a.waiting.now (members (whole a.set)) (members (whole l.rest)) (members (whole l.all)) (members (whole r.row.result)) f.first-y.result l.inv (ap members r.row.ensures))
+    (waking_more a.waiting.now (members (whole a.set)) (members (whole l.rest)) (members (whole l.all)) (members (whole r.row.result)) f.first-y.result l.invariant (ap members r.row.ensures))
 
 returns : tie.Need-returns invariant-loop decreases-loop
 returns c =

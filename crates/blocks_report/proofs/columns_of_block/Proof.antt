@@ -47,10 +47,10 @@ loop_again c =
     let l = (turn c).loop-x in
     let a = (turn c).before.before.args in (
       search rules,
-      l.inv.1,
+      l.invariant.1,
       ⊎_elim
-          (λ w. rw (w.2, w.1.ensures, l.inv.2) (gathered_with a.t1 a.k l.x (omega arith) w.0.taken))
-          (λ w. rw (w.1, l.inv.2) (gathered_without a.t1 a.k l.x w.0.left))
+          (λ w. rw (w.2, w.1.ensures, l.invariant.2) (gathered_with a.t1 a.k l.x (omega arith) w.0.taken))
+          (λ w. rw (w.1, l.invariant.2) (gathered_without a.t1 a.k l.x w.0.left))
           c.if-numbers-x.branch,
     )
 

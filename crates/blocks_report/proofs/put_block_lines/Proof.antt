@@ -37,7 +37,7 @@ loop_again c =
     let turn = (line_put c).before.before in
     let l = turn.before.loop-k in
     let a = turn.before.before.before.args in
-    (omega arith, putting_next (block_line a.numbers l.k) _ l.inv.1 (lines_next a.numbers a.count l.k (omega arith)) (line_put c).put_block_line-place.ensures)
+    (omega arith, putting_next (block_line a.numbers l.k) _ l.invariant.1 (lines_next a.numbers a.count l.k (omega arith)) (line_put c).put_block_line-place.ensures)
 
 same_length : tie.Need-shape_of-out invariant-loop decreases-loop
 same_length c = putting_same c.before.loop-k.invariant.1

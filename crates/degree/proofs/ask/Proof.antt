@@ -35,7 +35,7 @@ square : (c : tie.After-are_low) → (start c).args.a + (start c).args.b ≡ (st
 square c = c.before.if-a-b.false
 
 -- the solver's answer
-solved_by : (c : tie.After-solve-s) → let a = (start (tested c)).args in (Q : ℕ → ℕ → (field_of a.p).F) → ConstantsShown a.p a.n a.a Q a.constants-1.now
+solved_by : (c : tie.After-solve-s) → let a = (start (tested c)).args in (Q : ℕ → ℕ → (field_of a.p).F) → ConstantsShown a.p a.n a.a Q a.constants.now
     → SolvedBy (layered (model_with a.p a.n a.a a.b Q (row_numbers a.parameters.now) a.rowpowers.now a.columnpowers.now a.parameterpowers.now)) c.solve-s.result
 solved_by c Q shown =
     let k = start (tested c) in
@@ -89,7 +89,7 @@ returns_3 c =
 
 -- where the descent begins: what it needs
 ready : (c : tie.Else-s-n) → let a = (start (tested c.before.before)).args in
-    Ready a.p a.n a.a a.b a.constants-1.now (row_numbers a.parameters.now) a.rowpowers.now a.columnpowers.now a.parameterpowers.now
+    Ready a.p a.n a.a a.b a.constants.now (row_numbers a.parameters.now) a.rowpowers.now a.columnpowers.now a.parameterpowers.now
 ready c =
     let s = c.before.before in
     let t = tested s in
@@ -97,7 +97,7 @@ ready c =
     accepted_ready k.requires.0 k.requires.1 k.requires.2 k.requires.3 (square t) (sym t.are_low.ensures ∙ not-false _ s.before.before.before.if-not-are_low.false-raw)
 
 -- the rank is n, and the constants are those of the list
-full : (c : tie.Else-s-n) → let a = (start (tested c.before.before)).args in (Q : ℕ → ℕ → (field_of a.p).F) → ConstantsShown a.p a.n a.a Q a.constants-1.now
+full : (c : tie.Else-s-n) → let a = (start (tested c.before.before)).args in (Q : ℕ → ℕ → (field_of a.p).F) → ConstantsShown a.p a.n a.a Q a.constants.now
     → rank (layered (model_with a.p a.n a.a a.b Q (row_numbers a.parameters.now) a.rowpowers.now a.columnpowers.now a.parameterpowers.now)) ≡ a.n
 full c Q shown = sym (solved_by c.before.before Q shown).is_rank ∙ c.if-s-n.false
 
@@ -105,7 +105,7 @@ descend_requires : tie.Need-descend-requires
 descend_requires c κs =
     let e = c.before in
     let a = (start (tested e.before.before)).args in
-    let Q = tableau_of a.p a.n a.constants-1.now in
+    let Q = tableau_of a.p a.n a.constants.now in
     (ready e, (Q, λ i x li lx. refl, full e Q (λ i x li lx. refl)))
 
 same_length_2 : tie.Need-shape_of-constants

@@ -110,7 +110,7 @@ slice_aggregate_ask c = search rules
 
 -- how many there are in the copy
 long : (c : tie.After-copied-rows) → length c.copied-rows.result ≡ most_constants
-long c = search (rules, c.copied-rows.type-inv)
+long c = search (rules, c.copied-rows.type_inv)
 
 ask_requires : tie.Need-ask-requires
 ask_requires c κs =

@@ -18,7 +18,7 @@ fits : (c : tie.Start) → Fits c.args.present
 fits c = search (rules, c.well-formed)
 
 -- the model is not refused
-accepted : (c : tie.Else-judged-ne0) → let a = (begun c.before).args in refusal a.p a.n a.a a.b a.constants.now (row_numbers a.parameters-1.now) none ≡ 0
+accepted : (c : tie.Else-judged-ne0) → let a = (begun c.before).args in refusal a.p a.n a.a a.b a.constants.now (row_numbers a.parameters.now) none ≡ 0
 unfolding lent
 accepted c = sym c.before.judge_model-judged.ensures ∙ c.if-judged-ne0.false
 
@@ -68,7 +68,7 @@ returns_3 c =
     let k = begun d.before in
     let a = k.args in
     edit_made a.p a.n a.a a.b _ _ _ (fits k) a.edit (sym (own_refused a.p a.n a.a a.b _ _ _ (fits k) a.edit (accepted d) _ e.before.judge_edit-own.ensures) ∙ e.if-own-ne0.false) _
-    (search (rules, c.changed_columns.type-inv)) c.changed_columns.ensures _ changed.change_rows.ensures
+    (search (rules, c.changed_columns.type_inv)) c.changed_columns.ensures _ changed.change_rows.ensures
 
 pub edit_model_spec : {M : Type 1} → statement M
 edit_model_spec =

@@ -24,7 +24,7 @@ returns_2 : tie.Need-returns
 returns_2 c =
     let d = c.before in
     let ok = sym d.before.judge_model-refusal.ensures ∙ d.if-refusal-ne0.false in
-    call_answered ok refl (below_shown _ _ (search (rules, c.below.type-inv)) (omega (arith, (model_accepted _ _ _ _ _ _ _ ok).n_most)) c.below.ensures)
+    call_answered ok refl (below_shown _ _ (search (rules, c.below.type_inv)) (omega (arith, (model_accepted _ _ _ _ _ _ _ ok).n_most)) c.below.ensures)
 
 pub open_model_spec : {M : Type 1} → statement M
 open_model_spec =

@@ -85,14 +85,14 @@ abbrev start : tie.After-fill → tie.Start
 start c = begun (accepted c).before.before
 
 -- the tableau when it is filled
-filled : (c : tie.After-fill) → TableauArray (start c).args.p c.fill.new.0
+filled : (c : tie.After-fill) → TableauArray (start c).args.p c.fill.new.t
 filled c =
     let a = (start c).args in
-    filled_tableau a.p a.n a.a 0 (whole a.held) a.constants.now [] c.fill.new.0 (good (accepted c).before) c.fill.ensures.0 c.fill.ensures.1
+    filled_tableau a.p a.n a.a 0 (whole a.held) a.constants.now [] c.fill.new.t (good (accepted c).before) c.fill.ensures.0 c.fill.ensures.1
 
 -- what is read off it
 answered : (c : tie.After-fill) (r : Dependence) → let a = (start c).args in
-    (r.valid ≡ true) × ((Q : ℕ → ℕ → (field_of a.p).F) → ShowsRows a.p a.n a.a Q c.fill.new.0 → DependenceShown a.p a.n a.a Q (members (whole a.held)) a.x r.outcome r.multipliers)
+    (r.valid ≡ true) × ((Q : ℕ → ℕ → (field_of a.p).F) → ShowsRows a.p a.n a.a Q c.fill.new.t → DependenceShown a.p a.n a.a Q (members (whole a.held)) a.x r.outcome r.multipliers)
     → DependenceCall a.p a.n a.a a.held a.x a.constants.now r
 answered c r h =
     let e = accepted c in

@@ -53,14 +53,14 @@ returns c =
     }
 
 -- the tableau when it is filled
-filled : (c : tie.After-fill) → TableauArray (begun (accepted c).before).args.p c.fill.new.0
+filled : (c : tie.After-fill) → TableauArray (begun (accepted c).before).args.p c.fill.new.t
 filled c =
     let a = (begun (accepted c).before).args in
-    filled_tableau a.p a.n a.a a.b (whole a.offered) a.constants.now (row_numbers a.parameters.now) c.fill.new.0 (good (accepted c)) c.fill.ensures.0 c.fill.ensures.1
+    filled_tableau a.p a.n a.a a.b (whole a.offered) a.constants.now (row_numbers a.parameters.now) c.fill.new.t (good (accepted c)) c.fill.ensures.0 c.fill.ensures.1
 
 -- what is reached over it
 shown : (c : tie.After-fill) (r : Reach) → let a = (begun (accepted c).before).args in let ws = row_numbers a.parameters.now in
-    (r.valid ≡ true) × ((G : Given a.p a.n a.b ws) → ShowsConstants a.p a.n a.a a.b ws G c.fill.new.0 → ((x : ℕ) → (x ∈ members (whole a.offered)) ↔ ((x < a.n) × (x ∈ G.E))) → ReachShown (model_of a.p a.n a.a a.b ws G) r.rows)
+    (r.valid ≡ true) × ((G : Given a.p a.n a.b ws) → ShowsConstants a.p a.n a.a a.b ws G c.fill.new.t → ((x : ℕ) → (x ∈ members (whole a.offered)) ↔ ((x < a.n) × (x ∈ G.E))) → ReachShown (model_of a.p a.n a.a a.b ws G) r.rows)
     → ReachCall a.p a.n a.a a.b a.offered a.constants.now ws r
 shown c r h =
     let k = accepted c in

@@ -44,7 +44,7 @@ abbrev in_set : tie.After-offer_all-placed → Set
 in_set c = members (whole c.offer_all-placed.result)
 
 offered : (c : tie.After-offer_all-placed) → let a = (start c).args in (Q : ℕ → ℕ → (field_of a.p).F) → ShowsRows a.p a.n a.a Q a.t.now
-    → Offered-all a.p a.n a.a 0 no_rows (offering_held a.p a.n no_rows Q (held (start c))) c.offer_all-placed.new.0 c.offer_all-placed.new.1.0 (in_set c)
+    → Offered-all a.p a.n a.a 0 no_rows (offering_held a.p a.n no_rows Q (held (start c))) c.offer_all-placed.new.t c.offer_all-placed.new.owner (in_set c)
 offered c Q sh =
     let k = start c in
     let a = k.args in

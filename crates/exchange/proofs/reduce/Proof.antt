@@ -22,13 +22,13 @@ begun c = c.before.before.before.before.before
 
 -- the test
 abbrev taken : tie.Start → Bool
-taken k = let a = k.args in reducible a.p a.n a.a a.weights.now a.levels.now a.constants-1.now
+taken k = let a = k.args in reducible a.p a.n a.a a.weights.now a.levels.now a.constants.now
 
 passed : (c : tie.Else-not-is_reducible) → taken (begun c.before) ≡ true
 passed c = sym c.before.is_reducible.ensures ∙ not-false _ c.if-not-is_reducible.false-raw
 
 -- what holds where it is passed
-good : (c : tie.Else-not-is_reducible) → let a = (begun c.before).args in Reducible a.p a.n a.a a.weights.now a.levels.now a.constants-1.now
+good : (c : tie.Else-not-is_reducible) → let a = (begun c.before).args in Reducible a.p a.n a.a a.weights.now a.levels.now a.constants.now
 good c = reducible_reads _ _ _ _ _ _ (passed c)
 
 -- where it is passed, seen from behind the filling, and where the call begins
@@ -39,14 +39,14 @@ abbrev start : tie.After-fill → tie.Start
 start c = begun (accepted c).before
 
 -- the tableau when it is filled
-filled : (c : tie.After-fill) → TableauArray (start c).args.p c.fill.new.0
+filled : (c : tie.After-fill) → TableauArray (start c).args.p c.fill.new.t
 filled c =
     let a = (start c).args in
-    filled_tableau a.p a.n a.a 0 0 a.constants-1.now [] c.fill.new.0 (good (accepted c)).admitted c.fill.ensures.0 c.fill.ensures.1
+    filled_tableau a.p a.n a.a 0 0 a.constants.now [] c.fill.new.t (good (accepted c)).admitted c.fill.ensures.0 c.fill.ensures.1
 
 -- the tableau when its rows are reduced, by either table of inverses
 worked : (c : tie.Joined-p-eq-LISTED_PRIME) → let a = (start c.before).args in
-    TableauArray a.p c.if-p-eq-LISTED_PRIME.t-1 × Reduced a.p a.n a.a a.weights.now a.levels.now a.a c.before.fill.new.0 c.if-p-eq-LISTED_PRIME.t-1
+    TableauArray a.p c.if-p-eq-LISTED_PRIME.t × Reduced a.p a.n a.a a.weights.now a.levels.now a.a c.before.fill.new.t c.if-p-eq-LISTED_PRIME.t
 worked c = ⊎_elim (λ w. rw w.5 w.4.ensures) (λ w. rw w.4 w.3.ensures) c.if-p-eq-LISTED_PRIME.branch
 
 is_reducible_requires : tie.Need-is_reducible-requires
@@ -112,8 +112,8 @@ returns_2 c =
     record {
       is_valid = sym e;
       if_not = λ z. absurd (true≢false (sym e ∙ z));
-      if_valid = λ z. rows_shown a.p a.n a.a (good (accepted filling)).admitted.prime _ j.if-p-eq-LISTED_PRIME.t-1 a.constants-1.now _ w.0.below
-          (w.1 (constant_at (modulus a.p).0 (modulus a.p).1 a.n a.constants-1.now)
+      if_valid = λ z. rows_shown a.p a.n a.a (good (accepted filling)).admitted.prime _ j.if-p-eq-LISTED_PRIME.t a.constants.now _ w.0.below
+          (w.1 (constant_at (modulus a.p).0 (modulus a.p).1 a.n a.constants.now)
           (λ i x li lx. ap (residue_of a.p) (filling.fill.ensures.1.done i x li lx))) copied.copy_back.ensures;
     }
 

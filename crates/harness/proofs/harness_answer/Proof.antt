@@ -47,7 +47,7 @@ unfolding answer_refusal
 returns c =
     let f = c.before.before in
     let k = begun f.before in
-    refused_before (answer_tests (holds k)) [] answer_length (AnswerWritten (open_model (holds k))) k.args.answer-1.now _ (asked f).is_refusal c.if-r-ne0.true
+    refused_before (answer_tests (holds k)) [] answer_length (AnswerWritten (open_model (holds k))) k.args.answer.now _ (asked f).is_refusal c.if-r-ne0.true
 
 put_answer_requires : tie.Need-put_answer-requires
 put_answer_requires c κs = search rules

@@ -48,7 +48,7 @@ returns c =
     let f = c.before.before in
     let k = begun f.before in
     let a = k.args in
-    refused_before (tests k (held k)) [] multipliers_length (WrittenOver (MultipliersAnswered a.p a.n a.a a.constants.now (members (held k)) a.column) multipliers_bytes) a.answer-1.now _ (asked f).is_refusal c.if-r-ne0.true
+    refused_before (tests k (held k)) [] multipliers_length (WrittenOver (MultipliersAnswered a.p a.n a.a a.constants.now (members (held k)) a.column) multipliers_bytes) a.answer.now _ (asked f).is_refusal c.if-r-ne0.true
 
 put_multipliers_requires : tie.Need-put_multipliers-requires
 put_multipliers_requires c κs = search rules

@@ -45,11 +45,11 @@ abbrev judged : tie.After-rows-1 → tie.After-verdict_of-verdict
 judged c = (copied c).before.before
 
 -- the solver's answer has a place for each row, and its sets are sets
-rows_long : (c : tie.After-solve-s) → length c.solve-s.result.rows-1 ≡ most_rows
-rows_long c = search (rules, c.solve-s.type-inv.1.1.1.1.1.1.1)
+rows_long : (c : tie.After-solve-s) → length c.solve-s.result.rows ≡ most_rows
+rows_long c = search (rules, c.solve-s.type_inv.1.1.1.1.1.1.1)
 
-sets_fit : (c : tie.After-solve-s) → Fits c.solve-s.result.placed-1 × Fits c.solve-s.result.short-1
-sets_fit c = let sets = c.solve-s.type-inv.1.1.1.1 in (search (rules, sets.0), search (rules, sets.1.1.0))
+sets_fit : (c : tie.After-solve-s) → Fits c.solve-s.result.placed × Fits c.solve-s.result.short
+sets_fit c = let sets = c.solve-s.type_inv.1.1.1.1 in (search (rules, sets.0), search (rules, sets.1.1.0))
 
 -- the columns offered are a set
 offered_fits : (c : tie.After-solve-s) → Fits (entry c).args.offered

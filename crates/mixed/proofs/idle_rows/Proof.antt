@@ -72,8 +72,8 @@ loop_again c =
     let s = c.before.serves_original in (
       search rules,
       ⊎_elim
-          (λ w. rw (w.2, w.1.ensures) (idle_more a.m a.t1 l.i (members (whole l.idle)) (omega arith) (s.ensures.1 (not-true _ w.0.taken)) l.inv.1))
-          (λ w. rw w.1 (idle_same a.m a.t1 l.i (members (whole l.idle)) (s.ensures.0 (not-false _ w.0.left)) l.inv.1))
+          (λ w. rw (w.2, w.1.ensures) (idle_more a.m a.t1 l.i (members (whole l.idle)) (omega arith) (s.ensures.1 (not-true _ w.0.taken)) l.invariant.1))
+          (λ w. rw w.1 (idle_same a.m a.t1 l.i (members (whole l.idle)) (s.ensures.0 (not-false _ w.0.left)) l.invariant.1))
           c.if-not-serves_original.branch,
     )
 

@@ -68,8 +68,8 @@ form_solved c =
     (form_admissible a.p a.a a.n a.constants.now (row_numbers a.parameters.now) h.0 h.1 _ _ _ constants.0 room constants.1 all) _ _ _
     (shows_form a.p a.a a.n a.constants.now (row_numbers a.parameters.now) h.0 h.1 _ _ _ constants.0 room constants.1 all parameters.1)
 
-sets_fit : (c : tie.After-solve-s) → Fits c.solve-s.result.short-1
-sets_fit c = search (rules, c.solve-s.type-inv.1.1.1.1.1.1.0)
+sets_fit : (c : tie.After-solve-s) → Fits c.solve-s.result.short
+sets_fit c = search (rules, c.solve-s.type_inv.1.1.1.1.1.1.0)
 
 judge_mixed_requires : tie.Need-judge_mixed-number-requires
 judge_mixed_requires c κs = search rules

@@ -20,7 +20,7 @@ abbrev begun : tie.After-solve-s → tie.Start
 begun c = c.before.before.before.before
 
 short_fits : (c : tie.After-solve-s) → Fits c.solve-s.result.short
-short_fits c = search (rules, c.solve-s.type-inv.1.1.1.1.1.1.0)
+short_fits c = search (rules, c.solve-s.type_inv.1.1.1.1.1.1.0)
 
 -- the answer of the solver
 solved_by : (c : tie.After-solve-s) → let a = (begun c).args in

@@ -50,7 +50,7 @@ loop_again c =
     let turn = (multiplier_put c).before.before in
     let l = turn.before.loop-x in
     let multipliers = turn.before.before.before.args.multipliers in
-    (omega arith, l.inv.1, putting_next (pair_unless 0 l.x (get_or multipliers l.x 0)) _ l.inv.2 (pairs_next 0 l.x multipliers (omega arith)) (multiplier_put c).put_pair_unless-place.ensures)
+    (omega arith, l.invariant.1, putting_next (pair_unless 0 l.x (get_or multipliers l.x 0)) _ l.invariant.2 (pairs_next 0 l.x multipliers (omega arith)) (multiplier_put c).put_pair_unless-place.ensures)
 
 same_length : tie.Need-shape_of-out invariant-loop decreases-loop
 same_length c = putting_same c.before.loop-x.invariant.2

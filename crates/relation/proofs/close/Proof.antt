@@ -45,7 +45,7 @@ empty_requires : tie.Need-empty-done-requires invariant-loop decreases-loop
 empty_requires c κs = search rules
 
 loop_holds : tie.Need-loop-rest-init invariant-loop decreases-loop
-loop_holds c = closing_start (members (whole c.before.before.args.over)) (members (whole c.empty-done.result)) c.before.before.args.rows-1.now (empty_none c.empty-done.ensures)
+loop_holds c = closing_start (members (whole c.before.before.args.over)) (members (whole c.empty-done.result)) c.before.before.args.rows.now (empty_none c.empty-done.ensures)
 
 is_empty_requires : tie.Need-is_empty-requires invariant-loop decreases-loop
 is_empty_requires c κs = search rules
@@ -79,8 +79,8 @@ loop_again c =
     let t = f.pick_spread-x.ensures in
     let r = row_found c in
     rw (c.without-rest.ensures, c.before.with-done.ensures, (written c).put_row.ensures)
-    (closing_more (members (whole a.over)) (members (whole l.rest)) (members (whole l.done)) a.rows-1.now l.rows-1 l.inv f.pick_spread-x.result t.0 t.1 (whole r.reached-all.result)
-    (r.reached-all.ensures (row_of a.rows-1.now) l.inv.partly) (λ y e. columns_below r.reached-all.result y (search (rules, r.reached-all.ok)) e))
+    (closing_more (members (whole a.over)) (members (whole l.rest)) (members (whole l.done)) a.rows.now l.rows l.invariant f.pick_spread-x.result t.0 t.1 (whole r.reached-all.result)
+    (r.reached-all.ensures (row_of a.rows.now) l.invariant.partly) (λ y e. columns_below r.reached-all.result y (search (rules, r.reached-all.ok)) e))
 
 same_length : tie.Need-shape_of-rows invariant-loop decreases-loop
 same_length c = c.before.before.loop-rest.invariant.others.same_length
@@ -90,7 +90,7 @@ returns c =
     let l = c.before.before.loop-rest in
     let a = (begun c.before.before).args in
     let gone : # width (members (whole l.rest)) ≡ 0 = eqb-true _ 0 (sym c.before.is_empty.ensures ∙ not-false _ c.loop-rest-test.false-raw) in
-    closing_done (members (whole a.over)) (members (whole l.rest)) (members (whole l.done)) a.rows-1.now l.rows-1 l.invariant
+    closing_done (members (whole a.over)) (members (whole l.rest)) (members (whole l.done)) a.rows.now l.rows l.invariant
     (λ x e. nothing_in width (members (whole l.rest)) gone x (columns_below a.over x (search rules) (l.invariant.inside x e)) e)
 
 pub close_spec : {M : Type 1} → statement M

@@ -42,7 +42,7 @@ there f =
     ((rw (sym f.first-x.ensures) at t).0, (rw (sym f.first-x.ensures) at t).1)
 
 loop_holds : tie.Need-loop-set-init invariant-loop decreases-loop
-loop_holds c = joining_start (members (whole c.before.args.at)) (members (whole c.before.args.set)) c.before.args.rows-1.now
+loop_holds c = joining_start (members (whole c.before.args.at)) (members (whole c.before.args.set)) c.before.args.rows.now
 
 is_empty_requires : tie.Need-is_empty-requires invariant-loop decreases-loop
 is_empty_requires c κs = search rules
@@ -72,7 +72,7 @@ loop_again c =
     let u = made c in
     let a = (turn f).before.before.args in
     rw (c.without-rest.ensures, (written c).put_row.ensures)
-    (joining_more (members (whole a.at)) (members (whole l.rest)) (members (whole a.set)) a.rows-1.now l.rows-1 l.inv f.first-x.result (there f).1 (whole u.union-joined.result)
+    (joining_more (members (whole a.at)) (members (whole l.rest)) (members (whole a.set)) a.rows.now l.rows l.invariant f.first-x.result (there f).1 (whole u.union-joined.result)
     (u.union-joined.ensures ∙ ap (λ (w : ℕ). members w ∪ members (whole a.set)) u.before.row.ensures))
 
 same_length : tie.Need-shape_of-rows invariant-loop decreases-loop
@@ -83,7 +83,7 @@ returns c =
     let l = c.before.before.loop-set in
     let a = c.before.before.before.before.args in
     let gone : # width (members (whole l.rest)) ≡ 0 = eqb-true _ 0 (sym c.before.is_empty.ensures ∙ not-false _ c.loop-set-test.false-raw) in
-    joining_done (members (whole a.at)) (members (whole l.rest)) (members (whole a.set)) a.rows-1.now l.rows-1 l.invariant
+    joining_done (members (whole a.at)) (members (whole l.rest)) (members (whole a.set)) a.rows.now l.rows l.invariant
     (λ x e. nothing_in width (members (whole l.rest)) gone x (columns_below a.at x (search rules) (l.invariant.inside x e)) e)
 
 pub join_spec : {M : Type 1} → statement M

@@ -83,7 +83,7 @@ loop_less c =
     let t = f.pick_done-y.ensures in
     rw c.union-found.ensures
     (unread_less (members (whole l.found)) (members (whole l.front)) (members (whole r.row-row.result)) (members (whole h.ahead-front.result)) f.pick_done-y.result h.before.contains.result
-    t.0 t.1 l.inv.1 h.ahead-front.ensures)
+    t.0 t.1 l.invariant.1 h.ahead-front.ensures)
 
 loop_again : tie.Need-loop-done-preserved invariant-loop decreases-loop
 loop_again c =
@@ -100,9 +100,9 @@ loop_again c =
     let known = h.before.contains.result in
     let is_row : row ≡ row_of (begun (turn f)).args.rows.now y = ap members r.row-row.ensures in
     rw c.union-found.ensures (
-      search (rules, h.ahead-front.type-inv),
-      inside_more found front row left y known l.inv.1 h.ahead-front.ensures,
-      λ R p. reaching_more R (begun (turn f)).args.x found front row left y known (l.inv.2 R p) t.1
+      search (rules, h.ahead-front.type_inv),
+      inside_more found front row left y known l.invariant.1 h.ahead-front.ensures,
+      λ R p. reaching_more R (begun (turn f)).args.x found front row left y known (l.invariant.2 R p) t.1
           (λ e. rw is_row (p.finished y (sym h.before.contains.ensures ∙ e)))
           (λ e v. ap (λ (S : Set). S v) is_row ∙ p.left y (sym h.before.contains.ensures ∙ e) v)
           h.ahead-front.ensures,

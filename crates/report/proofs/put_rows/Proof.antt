@@ -46,7 +46,7 @@ loop_again c =
     let turn = (row_put c).before.before in
     let l = turn.before.loop-r in
     let rows = turn.before.before.before.args.rows in
-    (omega arith, l.inv.1, putting_next (pair_unless no_column l.r (get_or rows l.r 0)) _ l.inv.2 (pairs_next no_column l.r rows (omega arith)) (row_put c).put_pair_unless-place.ensures)
+    (omega arith, l.invariant.1, putting_next (pair_unless no_column l.r (get_or rows l.r 0)) _ l.invariant.2 (pairs_next no_column l.r rows (omega arith)) (row_put c).put_pair_unless-place.ensures)
 
 same_length : tie.Need-shape_of-out invariant-loop decreases-loop
 same_length c = putting_same c.before.loop-r.invariant.2

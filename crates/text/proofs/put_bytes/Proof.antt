@@ -48,7 +48,7 @@ loop_again c =
     let k = turn c in
     let l = k.before.loop-i in
     let t = (begun k.before).args.text.now in
-    (omega arith, putting_next (get_or t l.i 0 ∷ []) _ l.inv.1 (drop-cons t l.i 0 k.loop-i-test.true ∙ rw (add-one l.i) refl) (byte_put c).put_byte-place.ensures)
+    (omega arith, putting_next (get_or t l.i 0 ∷ []) _ l.invariant.1 (drop-cons t l.i 0 k.loop-i-test.true ∙ rw (add-one l.i) refl) (byte_put c).put_byte-place.ensures)
 
 same_length : tie.Need-shape_of-out invariant-loop decreases-loop
 same_length c = putting_same c.before.loop-i.invariant.1

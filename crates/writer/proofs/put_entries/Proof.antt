@@ -32,8 +32,8 @@ abbrev first : List ℕ → List ℕ
 first r = get_or r 0 0 % 256 ∷ get_or r 0 0 / 256 ∷ []
 
 -- while entries are left, there is room for the next one
-room : (c : tie.In-loop-rest invariant-loop decreases-loop) → let l = c.before.loop-rest in (l.at + 2 ≤ length l.out-1) × (2 ≤ length (take (length l.out-1 - l.at) (drop l.at l.out-1)))
-room c = let l = c.before.loop-rest in room_left (first l.rest-1.now) _ l.invariant (entry_bytes_next l.rest-1.now c.loop-rest-test.true)
+room : (c : tie.In-loop-rest invariant-loop decreases-loop) → let l = c.before.loop-rest in (l.at + 2 ≤ length l.out) × (2 ≤ length (take (length l.out - l.at) (drop l.at l.out)))
+room c = let l = c.before.loop-rest in room_left (first l.rest.now) _ l.invariant (entry_bytes_next l.rest.now c.loop-rest-test.true)
 
 loop_holds : tie.Need-loop-rest-init invariant-loop decreases-loop
 loop_holds c = wrote_none _ _ c.before.before.requires
@@ -72,8 +72,8 @@ loop_again : tie.Need-loop-rest-preserved invariant-loop decreases-loop
 loop_again c =
     let d = put c.before in
     let l = (turn d).before.loop-rest in
-    let r = l.rest-1.now in
-    wrote_put (first r) _ _ l.inv (entry_bytes_next r (turn d).loop-rest-test.true ∙ ap (λ (s : List ℕ). first r ++ entry_bytes s) (sym (tail_part 1 r))) d.put_two-at.ensures
+    let r = l.rest.now in
+    wrote_put (first r) _ _ l.invariant (entry_bytes_next r (turn d).loop-rest-test.true ∙ ap (λ (s : List ℕ). first r ++ entry_bytes s) (sym (tail_part 1 r))) d.put_two-at.ensures
 
 same_length : tie.Need-shape_of-out invariant-loop decreases-loop
 same_length c = c.before.loop-rest.invariant.same

@@ -33,7 +33,7 @@ returns : tie.Need-returns-then-not-contains
 unfolding entry_at entry_bytes
 returns c =
     let s = entry c.before in
-    subst (λ (t : List ℕ). Put t s.args.out-1.now s.args.out-1.now 0) (ap (bytes s) (sym (sym c.before.contains.ensures ∙ not-true _ c.if-not-contains.true-raw))) (record { many_is = refl; bytes_are = over_none _ })
+    subst (λ (t : List ℕ). Put t s.args.out.now s.args.out.now 0) (ap (bytes s) (sym (sym c.before.contains.ensures ∙ not-true _ c.if-not-contains.true-raw))) (record { many_is = refl; bytes_are = over_none _ })
 
 mul_put_two : tie.Need-offset_bounds-row-c
 mul_put_two c = search rules

@@ -75,7 +75,7 @@ part_put_picked_end : tie.Need-slice_bounds-put_picked-end
 part_put_picked_end c = search rules
 
 put_picked_requires : tie.Need-put_picked-requires
-put_picked_requires c κs = omega (arith, room c.before, left_length (head_put c.before).put_head-at.result (head_put c.before).put_head-at.new.0)
+put_picked_requires c κs = omega (arith, room c.before, left_length (head_put c.before).put_head-at.result (head_put c.before).put_head-at.new.out)
 
 add_result : tie.Need-overflow_add-result
 add_result c = let d = c.before.before in let h = d.before.before in let s = entry (sized (head_put h)) in omega (arith, (head_put h).put_head-at.ensures.many_is, d.put_picked.ensures.many_is, long s, s.requires.2, s.good)
@@ -90,8 +90,8 @@ returns c =
     let h = head_put d.before.before in
     let z = sized h in
     let s = entry z in
-    let head : Put (field_bytes number_tag (2 * parameter_count (length s.args.row.now) (whole s.args.set)) []) s.args.out-1.now h.put_head-at.last.0 h.put_head-at.result =
-    subst (λ (k : ℕ). Put (field_bytes number_tag (2 * k) []) s.args.out-1.now h.put_head-at.last.0 h.put_head-at.result) (count z) h.put_head-at.ensures in
+    let head : Put (field_bytes number_tag (2 * parameter_count (length s.args.row.now) (whole s.args.set)) []) s.args.out.now h.put_head-at.last.0 h.put_head-at.result =
+    subst (λ (k : ℕ). Put (field_bytes number_tag (2 * k) []) s.args.out.now h.put_head-at.last.0 h.put_head-at.result) (count z) h.put_head-at.ensures in
     put_next head d.put_picked.ensures
 
 pub put_numbers_spec : {M : Type 1} → statement M

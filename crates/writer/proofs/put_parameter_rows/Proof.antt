@@ -47,12 +47,12 @@ next c = let s = entry c.before in parameter_rows_next s.args.n s.args.b c.befor
 
 -- while rows are left, there is room for it
 room : (c : tie.In-loop-r invariant-loop decreases-loop) → let l = c.before.loop-r in
-    (l.at + length (row_bytes c) ≤ length l.out-1) × (length (row_bytes c) ≤ length (take (length l.out-1 - l.at) (drop l.at l.out-1)))
+    (l.at + length (row_bytes c) ≤ length l.out) × (length (row_bytes c) ≤ length (take (length l.out - l.at) (drop l.at l.out)))
 room c = room_left (row_bytes c) _ c.before.loop-r.invariant.0 (next c)
 
 -- the row is put there
 written : (c : tie.After-put_parameter_row-at invariant-loop decreases-loop) → let l = (turn c).before.loop-r in
-    Put (row_bytes (turn c)) (take (length l.out-1 - l.at) (drop l.at l.out-1)) c.put_parameter_row-at.new.0 c.put_parameter_row-at.result
+    Put (row_bytes (turn c)) (take (length l.out - l.at) (drop l.at l.out)) c.put_parameter_row-at.new.out c.put_parameter_row-at.result
 written c = rw c.before.row.ensures at c.put_parameter_row-at.ensures
 
 loop_holds : tie.Need-loop-r-init invariant-loop decreases-loop

@@ -42,7 +42,7 @@ next k = let a = (entry k).args in let S = members (whole a.set) in
     ap entry_bytes (picked_next S a.row.now k.before.loop-c.c k.loop-c-test.true) ∙ entry_bytes_append (entry_at S a.row.now k.before.loop-c.c) _
 
 -- there is room for them
-room : (k : tie.In-loop-c invariant-loop decreases-loop) → let l = k.before.loop-c in (l.at + length (own k) ≤ length l.out-1) × (length (own k) ≤ length (take (length l.out-1 - l.at) (drop l.at l.out-1)))
+room : (k : tie.In-loop-c invariant-loop decreases-loop) → let l = k.before.loop-c in (l.at + length (own k) ≤ length l.out) × (length (own k) ≤ length (take (length l.out - l.at) (drop l.at l.out)))
 room k = room_left (own k) _ k.before.loop-c.invariant (next k)
 
 loop_holds : tie.Need-loop-c-init invariant-loop decreases-loop

@@ -52,8 +52,8 @@ long c =
     ∙ sym (handed_over_length a.p a.n a.a a.b a.constants.now ws (lent a.numbered a.numbers.now) h.constants_lent h.parameters_lent h.numbers_lent)
 
 -- the area holds it
-holds : (c : tie.Else-out-file_length) → let s = entry (passed c.before) in length (encode (model s)) ≤ length s.args.out-1.now
-holds c = subst (λ (k : ℕ). k ≤ length (entry (passed c.before)).args.out-1.now) (long c.before) c.if-out-file_length.false
+holds : (c : tie.Else-out-file_length) → let s = entry (passed c.before) in length (encode (model s)) ≤ length s.args.out.now
+holds c = subst (λ (k : ℕ). k ≤ length (entry (passed c.before)).args.out.now) (long c.before) c.if-out-file_length.false
 
 judge_model_requires : tie.Need-judge_model-r-requires
 judge_model_requires c κs = search rules
@@ -68,7 +68,7 @@ file_length_requires : tie.Need-file_length-requires
 file_length_requires c κs = let h = accepted c.before in (h.n_most, h.a_most, c.rows_length-rows.ensures.1)
 
 returns_2 : tie.Need-returns-then-out-file_length
-returns_2 c = writing_short _ _ _ _ _ _ _ _ (refused (passed c.before)) (subst (λ (k : ℕ). length (entry (passed c.before)).args.out-1.now < k) (long c.before) c.if-out-file_length.true)
+returns_2 c = writing_short _ _ _ _ _ _ _ _ (refused (passed c.before)) (subst (λ (k : ℕ). length (entry (passed c.before)).args.out.now < k) (long c.before) c.if-out-file_length.true)
 
 cast_put_file : tie.Need-overflow_cast-p
 cast_put_file c = omega (arith, (accepted (passed c.before.before)).p_most)

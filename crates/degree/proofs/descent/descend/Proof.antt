@@ -50,20 +50,20 @@ start c = begun (raised (levelled c))
 
 -- the first state
 first_state : (c : tie.After-tops-levels invariant-loop decreases-loop) → let k = begun (raised c) in let a = k.args in
-    (Q : ℕ → ℕ → (field_of a.p).F) → ConstantsShown a.p a.n a.a Q a.constants-1.now
+    (Q : ℕ → ℕ → (field_of a.p).F) → ConstantsShown a.p a.n a.a Q a.constants.now
     → rank (layered (model_with a.p a.n a.a a.b Q (row_numbers a.parameters.now) a.rowpowers.now a.columnpowers.now a.parameterpowers.now)) ≡ a.n
-    → Descending a.p a.n a.a a.b Q (row_numbers a.parameters.now) a.rowpowers.now a.columnpowers.now a.parameterpowers.now a.constants-1.now
+    → Descending a.p a.n a.a a.b Q (row_numbers a.parameters.now) a.rowpowers.now a.columnpowers.now a.parameterpowers.now a.constants.now
     c.tops-levels.result (raised c).first_heights-heights.result 0
 first_state c Q shown full =
     let f = raised c in
     let w = c.before.before.before.before in
     descending_starts _ _ _ _ Q _ _ _ _ _ (begun f).requires.0 shown full _ w.before.before.below-all.ensures _ _ w.weights-weights.result f.first_heights-heights.ensures w.weights-weights.ensures c.tops-levels.ensures
-    (search (rules, c.tops-levels.type-inv)) (search (rules, f.first_heights-heights.ok))
+    (search (rules, c.tops-levels.type_inv)) (search (rules, f.first_heights-heights.ok))
 
 -- the state of a turn, of the constants that are known to be there
 now_state : (c : tie.At-loop-s invariant-loop decreases-loop) → let k = start c in let a = k.args in let l = c.loop-s in
-    Descending a.p a.n a.a a.b k.requires.1.0 (row_numbers a.parameters.now) a.rowpowers.now a.columnpowers.now a.parameterpowers.now l.constants-1 l.levels-1 l.heights-1 l.risen
-    × SolvedBy (tight_part a.p a.n a.a a.b k.requires.1.0 (row_numbers a.parameters.now) a.rowpowers.now a.columnpowers.now a.parameterpowers.now l.constants-1 l.levels-1 l.heights-1) l.s
+    Descending a.p a.n a.a a.b k.requires.1.0 (row_numbers a.parameters.now) a.rowpowers.now a.columnpowers.now a.parameterpowers.now l.constants l.levels l.heights l.risen
+    × SolvedBy (tight_part a.p a.n a.a a.b k.requires.1.0 (row_numbers a.parameters.now) a.rowpowers.now a.columnpowers.now a.parameterpowers.now l.constants l.levels l.heights) l.s
 now_state c = let k = start c in c.loop-s.invariant.3 k.requires.1.0 k.requires.1.1 k.requires.1.2
 
 first_heights_requires : tie.Need-first_heights-heights-requires invariant-loop decreases-loop
@@ -120,8 +120,8 @@ loop_holds : tie.Need-loop-s-init invariant-loop decreases-loop
 loop_holds c =
     let t = c.before.before.before.before in (
       refl,
-      search (rules, (raised t).first_heights-heights.type-inv),
-      search (rules, t.tops-levels.type-inv),
+      search (rules, (raised t).first_heights-heights.type_inv),
+      search (rules, t.tops-levels.type_inv),
       λ Q shown full. let d = first_state t Q shown full in (d, c.solve_tight-s.ensures Q _ 0 d),
     )
 
@@ -138,16 +138,16 @@ entered c = c.before.before.before.before.before
 -- the short set is small in every state of which the loop speaks
 turn_small : (c : tie.After-heights-in-loop-s-1 invariant-loop decreases-loop) → let m = entered c in let a = (start m).args in let l = m.loop-s in
     (Q : ℕ → ℕ → (field_of a.p).F)
-    → Descending a.p a.n a.a a.b Q (row_numbers a.parameters.now) a.rowpowers.now a.columnpowers.now a.parameterpowers.now l.constants-1 l.levels-1 l.heights-1 l.risen
-    → SolvedBy (tight_part a.p a.n a.a a.b Q (row_numbers a.parameters.now) a.rowpowers.now a.columnpowers.now a.parameterpowers.now l.constants-1 l.levels-1 l.heights-1) l.s
-    → sum (tight_part a.p a.n a.a a.b Q (row_numbers a.parameters.now) a.rowpowers.now a.columnpowers.now a.parameterpowers.now l.constants-1 l.levels-1 l.heights-1) (members (whole l.s.short)) < a.n
+    → Descending a.p a.n a.a a.b Q (row_numbers a.parameters.now) a.rowpowers.now a.columnpowers.now a.parameterpowers.now l.constants l.levels l.heights l.risen
+    → SolvedBy (tight_part a.p a.n a.a a.b Q (row_numbers a.parameters.now) a.rowpowers.now a.columnpowers.now a.parameterpowers.now l.constants l.levels l.heights) l.s
+    → sum (tight_part a.p a.n a.a a.b Q (row_numbers a.parameters.now) a.rowpowers.now a.columnpowers.now a.parameterpowers.now l.constants l.levels l.heights) (members (whole l.s.short)) < a.n
 turn_small c Q d h =
     let m = entered c in
     let a = (start m).args in
     let l = m.loop-s in
     short_set_is_small (model_with a.p a.n a.a a.b Q (row_numbers a.parameters.now) a.rowpowers.now a.columnpowers.now a.parameterpowers.now) first_most l.risen
-    (tableau_of a.p a.n l.constants-1) (λ q. get_or l.levels-1 q 0) (λ x. get_or l.heights-1 x 0) d.after
-    l.s.rank (members (whole l.s.placed)) (members (whole l.s.constants-1)) (members (whole l.s.short)) l.s.rows h c.before.before.before.loop-s-test.true
+    (tableau_of a.p a.n l.constants) (λ q. get_or l.levels q 0) (λ x. get_or l.heights x 0) d.after
+    l.s.rank (members (whole l.s.placed)) (members (whole l.s.constants)) (members (whole l.s.short)) l.s.rows h c.before.before.before.loop-s-test.true
 
 turn_requires : tie.Need-turn-rise-requires invariant-loop decreases-loop
 turn_requires c κs =
@@ -191,8 +191,8 @@ loop_less c =
     omega (arith, risen_small _ _ _ _ _ _ _ _ _ _ _ _ _ w.0, (t.turn-rise.ensures k.requires.1.0 k.args.rowpowers.now m.loop-s.risen w.0 (turn_small t.before k.requires.1.0 w.0 w.1)).0)
 
 -- a turn keeps the number of constants
-long : (c : tie.After-constants-1 invariant-loop decreases-loop) → length c.before.turn-rise.new.1.1.1.1.0 ≡ length (start (entered c.before.before)).args.constants-1.now
-long c = search (rules, (entered c.before.before).loop-s.invariant.0, c.constants-1.given)
+long : (c : tie.After-constants-1 invariant-loop decreases-loop) → length c.before.turn-rise.new.1.1.1.1.0 ≡ length (start (entered c.before.before)).args.constants.now
+long c = search (rules, (entered c.before.before).loop-s.invariant.0, c.constants.given)
 
 loop_again : tie.Need-loop-s-preserved invariant-loop decreases-loop
 loop_again c =
@@ -244,7 +244,7 @@ same_length c = search (rules, (ended c.before.before.before).loop-s.invariant.0
 
 -- how many rows the answer has
 rows_long : (c : tie.After-found invariant-loop decreases-loop) → length c.found.result.rows ≡ most_rows
-rows_long c = search (rules, c.found.type-inv)
+rows_long c = search (rules, c.found.type_inv)
 
 returns : tie.Need-returns invariant-loop decreases-loop
 returns c =

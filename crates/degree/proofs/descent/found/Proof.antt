@@ -18,12 +18,12 @@ small : (k : tie.Start) → let a = k.args in
 small k =
     let a = k.args in
     let h = k.requires.0 in (
-      omega (arith, total_below a.a 15 (λ i. get_or a.rowpowers.now i 0) h.powers_low, h.rows-1),
+      omega (arith, total_below a.a 15 (λ i. get_or a.rowpowers.now i 0) h.powers_low, h.rows),
       omega (arith, total_below a.n 65535 (λ q. get_or a.levels.now q 0) h.levels_low, h.columns),
     )
 
 sum_powers_requires : tie.Need-sum_powers-requires
-sum_powers_requires c κs = let h = (begun c).requires.0 in (h.powers_lent, h.rows-1, h.powers_low)
+sum_powers_requires c κs = let h = (begun c).requires.0 in (h.powers_lent, h.rows, h.powers_low)
 
 sum_requires : tie.Need-sum-requires
 sum_requires c κs = let h = (begun c.before).requires.0 in (h.levels_lent, h.columns, h.levels_low)

@@ -29,20 +29,20 @@ abbrev start : tie.After-tops-tops → tie.Start
 start c = begun (weighed (reduction c)).before
 
 -- the heights are small
-low : (k : tie.Start) → (x : ℕ) → x < k.args.n → get_or k.args.heights-1.now x 0 ≤ 60000
+low : (k : tie.Start) → (x : ℕ) → x < k.args.n → get_or k.args.heights.now x 0 ≤ 60000
 low k x l = omega (arith, heights_small _ _ _ _ _ _ _ _ _ _ _ _ _ k.requires.3 x l)
 
 -- how many weights and tops there are
 many_weights : (c : tie.After-weights-weights) → length c.weights-weights.result ≡ most_columns
-many_weights c = search (rules, c.weights-weights.type-inv)
+many_weights c = search (rules, c.weights-weights.type_inv)
 
 many_tops : (c : tie.After-tops-tops) → length c.tops-tops.result ≡ most_columns
-many_tops c = search (rules, c.tops-tops.type-inv)
+many_tops c = search (rules, c.tops-tops.type_inv)
 
 -- the rows are reduced
 rows_shown : (c : tie.After-reduce) → let a = (begun (weighed c).before).args in
-    RowsShown a.p a.n a.a (reduced (field_of a.p) a.n (λ x. get_or (weighed c).weights-weights.result x 0) (λ h. get_or a.levels-1.now h 0) (tableau_of a.p a.n a.constants-1.now) a.a)
-    a.constants-1.now c.reduce.new.1.1.1.1.1.0
+    RowsShown a.p a.n a.a (reduced (field_of a.p) a.n (λ x. get_or (weighed c).weights-weights.result x 0) (λ h. get_or a.levels.now h 0) (tableau_of a.p a.n a.constants.now) a.a)
+    a.constants.now c.reduce.new.1.1.1.1.1.0
 rows_shown c =
     let k = begun (weighed c).before in
     let a = k.args in

@@ -95,8 +95,8 @@ loop_again c =
     let kept = members (whole l.kept) in
     rw c.without-rest.ensures
     (⊎_elim
-    (λ w. rw (w.2, w.1.ensures) (keeping_goes a.from a.level a.powers.now a.heights.now row rest kept x w.0.taken l.inv))
-    (λ w. rw w.1 (keeping_stays a.from a.level a.powers.now a.heights.now row rest kept x (there f).1 w.0.left l.inv))
+    (λ w. rw (w.2, w.1.ensures) (keeping_goes a.from a.level a.powers.now a.heights.now row rest kept x w.0.taken l.invariant))
+    (λ w. rw w.1 (keeping_stays a.from a.level a.powers.now a.heights.now row rest kept x (there f).1 w.0.left l.invariant))
     c.before.if-powers-from.branch)
 
 returns : tie.Need-returns invariant-loop decreases-loop

@@ -97,9 +97,9 @@ loop_again c =
     let l = (turn f).loop-rest in
     let x = f.first-x.result in
     rw c.without-rest.ensures (
-      length-set l.heights x v.result ∙ l.inv.0,
-      (λ z e. l.inv.1 z (removed_old (members (whole l.rest)) x z e)),
-      low_more (begun (turn f)).args.n x v.result l.heights (height_there f) v.ensures.0 v.ensures.1 l.inv.2,
+      length-set l.heights x v.result ∙ l.invariant.0,
+      (λ z e. l.invariant.1 z (removed_old (members (whole l.rest)) x z e)),
+      low_more (begun (turn f)).args.n x v.result l.heights (height_there f) v.ensures.0 v.ensures.1 l.invariant.2,
     )
 
 same_length : tie.Need-shape_of-heights invariant-loop decreases-loop

@@ -82,8 +82,8 @@ loop_again c =
     let x = f.first-x.result in
     rw c.without-rest.ensures
     (⊎_elim
-    (λ w. rw w.1 (seeking_more x (low f) (there f).1 w.0.taken l.inv))
-    (λ w. rw w.1 (seeking_same x w.0.left l.inv))
+    (λ w. rw w.1 (seeking_more x (low f) (there f).1 w.0.taken l.invariant))
+    (λ w. rw w.1 (seeking_same x w.0.left l.invariant))
     c.before.if-w-top.branch)
 
 returns : tie.Need-returns invariant-loop decreases-loop

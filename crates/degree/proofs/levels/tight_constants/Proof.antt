@@ -65,7 +65,7 @@ loop_again c =
     let k = c.before.before.before.before.before in
     let a = (begun k).args in
     let t = c.before.tight_row.ensures in
-    let more = tight_constants_more a.n k.loop-h.h a.constants.now a.weights.now a.levels.now k.loop-h.out-1 _ k.loop-h.invariant.2 t in
+    let more = tight_constants_more a.n k.loop-h.h a.constants.now a.weights.now a.levels.now k.loop-h.out _ k.loop-h.invariant.2 t in
     (search rules, t.same_length ∙ k.loop-h.invariant.1, more)
 
 returns : tie.Need-returns invariant-loop decreases-loop

@@ -72,7 +72,7 @@ loop_again : tie.Need-loop-r-preserved invariant-loop decreases-loop
 loop_again c =
     let k = c.before.before.before.before.before.before.before in
     let a = (begun k).args in
-    let out = k.loop-r.out-1 in
+    let out = k.loop-r.out in
     let put = c.before.put_row.ensures in
     let row = c.before.before.before.at_level-row in
     let own = c.before.before.before.before.before.row.ensures in (

@@ -33,9 +33,9 @@ bytes c i = search (rules, c.shared_slice_known-1.given i)
 
 -- what was read is the area's file
 rows : (c : tie.After-read_rows-sizes)
-    → RowsReading (area_file (area c)) own_constants own_parameters c.read_rows-sizes.result c.read_rows-sizes.new.1.0 (row_numbers c.read_rows-sizes.new.1.1.0)
+    → RowsReading (area_file (area c)) own_constants own_parameters c.read_rows-sizes.result c.read_rows-sizes.new.parameters (row_numbers c.read_rows-sizes.new.1.1.0)
 rows c =
-    subst (λ (s : List ℕ). RowsReading s own_constants own_parameters c.read_rows-sizes.result c.read_rows-sizes.new.1.0 (row_numbers c.read_rows-sizes.new.1.1.0))
+    subst (λ (s : List ℕ). RowsReading s own_constants own_parameters c.read_rows-sizes.result c.read_rows-sizes.new.parameters (row_numbers c.read_rows-sizes.new.1.1.0))
     c.before.before.before.file_in-file.ensures c.read_rows-sizes.ensures
 
 file_in_requires : tie.Need-file_in-file-requires

@@ -33,13 +33,13 @@ returns : tie.Need-returns-then-sizes-ne0
 returns c =
     let at_read = read c.before in
     let a = (known at_read).before.args in
-    open_refused a.file.now a.area-1.now (bytes (known at_read)) at_read.read_rows-sizes.ensures c.if-sizes-ne0.true
+    open_refused a.file.now a.area.now (bytes (known at_read)) at_read.read_rows-sizes.ensures c.if-sizes-ne0.true
 
 returns_2 : tie.Need-returns-then-area-lt-SET_BYTES
 returns_2 c =
     let at_read = read c.before.before in
     let a = (known at_read).before.args in
-    open_short a.file.now a.area-1.now (bytes (known at_read)) at_read.read_rows-sizes.ensures c.before.if-sizes-ne0.false c.if-area-lt-SET_BYTES.true
+    open_short a.file.now a.area.now (bytes (known at_read)) at_read.read_rows-sizes.ensures c.before.if-sizes-ne0.false c.if-area-lt-SET_BYTES.true
 
 slice_aggregate_write_file : tie.Need-slice_bounds-write_file-end
 slice_aggregate_write_file c = search rules
@@ -69,7 +69,7 @@ returns_3 c =
     let at_long = long written in
     let at_read = read at_long.before.before in
     let a = (known at_read).before.args in
-    unwritten a.file.now a.area-1.now (bytes (known at_read)) at_read.read_rows-sizes.ensures at_long.before.if-sizes-ne0.false at_long.if-area-lt-SET_BYTES.false written.write_file-written.ensures c.if-written-ne0.true
+    unwritten a.file.now a.area.now (bytes (known at_read)) at_read.read_rows-sizes.ensures at_long.before.if-sizes-ne0.false at_long.if-area-lt-SET_BYTES.false written.write_file-written.ensures c.if-written-ne0.true
 
 below_requires : tie.Need-below-requires
 below_requires c κs = search rules
@@ -90,8 +90,8 @@ returns_4 c =
     let at_long = long written in
     let at_read = read at_long.before.before in
     let a = (known at_read).before.args in
-    let fits : Fits at-below.below.result = search (rules, at-below.below.type-inv) in
-    opens a.file.now a.area-1.now (bytes (known at_read)) at_read.read_rows-sizes.ensures at_long.before.if-sizes-ne0.false at_long.if-area-lt-SET_BYTES.false written.write_file-written.ensures done.if-written-ne0.false
+    let fits : Fits at-below.below.result = search (rules, at-below.below.type_inv) in
+    opens a.file.now a.area.now (bytes (known at_read)) at_read.read_rows-sizes.ensures at_long.before.if-sizes-ne0.false at_long.if-area-lt-SET_BYTES.false written.write_file-written.ensures done.if-written-ne0.false
     fits at-below.below.ensures put.put_set.ensures
 
 pub open_area_spec : {M : Type 1} → statement M

@@ -21,7 +21,7 @@ enum_known_edit_4 c = search rules
 
 returns : tie.Need-returns-in-TakeOff
 unfolding column_of
-returns c = sym (ap (λ (e : Edit). column_of (meant e)) c.before.edit-1.given.1)
+returns c = sym (ap (λ (e : Edit). column_of (meant e)) c.before.edit.given.1)
 
 returns_2 : tie.Need-returns-in-PutBack
 unfolding column_of

@@ -54,8 +54,8 @@ loop_again c =
     let cs = (turn c).before.args.constants.now in (
       omega arith,
       ⊎_elim
-          (λ w. rw w.1 (largest_more cs l.i l.top w.0.taken l.inv.1))
-          (λ w. rw w.1 (largest_same cs l.i l.top w.0.left l.inv.1))
+          (λ w. rw w.1 (largest_more cs l.i l.top w.0.taken l.invariant.1))
+          (λ w. rw w.1 (largest_same cs l.i l.top w.0.left l.invariant.1))
           c.if-v-top.branch,
     )
 

@@ -37,7 +37,7 @@ empty_requires : tie.Need-empty-ends-requires invariant-loop decreases-loop
 empty_requires c κs = search rules
 
 loop_holds : tie.Need-loop-q-init invariant-loop decreases-loop
-loop_holds c = let a = c.before.before.before.args in (search rules, rw (empty_none c.empty-ends.ensures) (linked_none a.n (touched a.a a.t.now (row_numbers a.parameters.now)) (owner_at a.owner.now) (members (whole a.offered)) a.into-1.now))
+loop_holds c = let a = c.before.before.before.args in (search rules, rw (empty_none c.empty-ends.ensures) (linked_none a.n (touched a.a a.t.now (row_numbers a.parameters.now)) (owner_at a.owner.now) (members (whole a.offered)) a.into.now))
 
 element_copy_out_widened : tie.Need-bounds-owner-q invariant-loop decreases-loop
 element_copy_out_widened c = search rules
@@ -79,7 +79,7 @@ loop_again c =
       λ w. at x ∙ and_in (r.before.row_touches.ensures x (below x w.0) ∙ w.1) w.0,
     ) in (
       search rules,
-      linked_more a.n tch (owner_at a.owner.now) offered l.q a.into-1.now l.into-1 put.note-ends.new.0 (members (whole l.ends)) (members (whole put.note-ends.result)) touching l.inv.1 same
+      linked_more a.n tch (owner_at a.owner.now) offered l.q a.into.now l.into put.note-ends.new.into (members (whole l.ends)) (members (whole put.note-ends.result)) touching l.invariant.1 same
           (rw is_own at put.note-ends.ensures),
     )
 

@@ -52,8 +52,8 @@ loop_again c =
     let ey : y ≡ owner_at a.owner.now l.q = c.before.widened-y.ensures.0 in (
       search rules,
       ⊎_elim
-          (λ w. rw (w.2, w.1.ensures ∙ ap (inserted (members (whole l.side))) ey) (side_more a.n l.q a.owner.now (members (whole l.side)) l.inv.1 (omega arith) (rw ey at w.0.taken)))
-          (λ w. rw w.1 (side_skip a.n l.q a.owner.now (members (whole l.side)) l.inv.1 (rw ey at w.0.left)))
+          (λ w. rw (w.2, w.1.ensures ∙ ap (inserted (members (whole l.side))) ey) (side_more a.n l.q a.owner.now (members (whole l.side)) l.invariant.1 (omega arith) (rw ey at w.0.taken)))
+          (λ w. rw w.1 (side_skip a.n l.q a.owner.now (members (whole l.side)) l.invariant.1 (rw ey at w.0.left)))
           c.if-y-n.branch,
     )
 

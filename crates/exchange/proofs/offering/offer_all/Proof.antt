@@ -61,7 +61,7 @@ module _ (f : tie.After-first-j invariant-loop decreases-loop) (G : Given (entry
 -- what placing it gives
 placing : (c : tie.After-place invariant-loop decreases-loop) → let f = chosen c in let a = (entry f).args in
     (G : Given a.p a.n a.b (row_numbers a.parameters.now)) (m : Offers a.p a.n a.a a.b (row_numbers a.parameters.now) (members (whole a.offered)) a.t.now a.owner.now G)
-    → Placing a.p a.n a.a a.b (row_numbers a.parameters.now) G (turn f.before).loop-rest.t (turn f.before).loop-rest.owner c.place.new.0 c.place.new.1.0 f.first-j.result c.place.result (so_far f G m).held
+    → Placing a.p a.n a.a a.b (row_numbers a.parameters.now) G (turn f.before).loop-rest.t (turn f.before).loop-rest.owner c.place.new.t c.place.new.owner f.first-j.result c.place.result (so_far f G m).held
 placing c G m =
     let f = chosen c in
     let d = so_far f G m in

@@ -53,9 +53,9 @@ loop_again c =
       search rules,
       record {
         owners = below_more (λ k. get_or (set l.rows l.r v) k 0 ≡ shown_column a.n (owner_at a.owner.now (a.a + k))) l.r
-            (λ k m. get_or-set_other l.rows l.r k v 0 (λ z. omega arith) ∙ l.inv.2.owners k m)
+            (λ k m. get_or-set_other l.rows l.r k v 0 (λ z. omega arith) ∙ l.invariant.2.owners k m)
             (get_or-set_same l.rows l.r v 0 inside ∙ c.column_shown.ensures);
-        past = λ k m h. get_or-set_other l.rows l.r k v 0 (λ z. omega arith) ∙ l.inv.2.past k (omega arith) h;
+        past = λ k m h. get_or-set_other l.rows l.r k v 0 (λ z. omega arith) ∙ l.invariant.2.past k (omega arith) h;
       },
     )
 

@@ -62,8 +62,8 @@ loop_again c =
     let ey : y ≡ owner_at a.owner.now l.q = c.before.widened-y.ensures.0 in (
       search rules,
       ⊎_elim
-          (λ w. rw w.2 (entries_more a.n a.x a.t.now a.owner.now l.q l.entries-1 l.inv.1 y ey k.requires.0.columns w.0.taken))
-          (λ w. rw w.1 (entries_skip a.n a.x a.t.now a.owner.now l.q l.entries-1 l.inv.1 (rw ey at w.0.left)))
+          (λ w. rw w.2 (entries_more a.n a.x a.t.now a.owner.now l.q l.entries l.invariant.1 y ey k.requires.0.columns w.0.taken))
+          (λ w. rw w.1 (entries_skip a.n a.x a.t.now a.owner.now l.q l.entries l.invariant.1 (rw ey at w.0.left)))
           c.if-y-n.branch,
     )
 

@@ -63,7 +63,7 @@ loop_again c =
     let a = (turn w).before.args in
     let ey : w.widened-y.result ≡ owner_at a.owner.now l.q = w.widened-y.ensures.0 in (
       search rules,
-      below_more (λ h. a.n ≤ owner_at a.owner.now h → cell a.t.now h a.x ≡ 0) l.q l.inv.1
+      below_more (λ h. a.n ≤ owner_at a.owner.now h → cell a.t.now h a.x ≡ 0) l.q l.invariant.1
           (λ f. ⊎_elim (λ v. v.2.left) (λ v. absurd (omega (arith, v.left))) c.if-y-n.branch),
     )
 

@@ -91,7 +91,7 @@ search_again c =
       l.invariant.0,
       (λ ws x e. rows_down a.n a.rows (touched a.a a.t.now ws) o (members (whole l.next)) x q a.a
           (⊎_elim (λ left. absurd (nothing_in width (members (whole l.rest)) gone x (columns_below a.front x (search rules) e) left)) (λ read. read) (l.invariant.3 ws x e))
-          (rw up (rows_kept a.n a.rows (touched a.a a.t.now ws) o (members (whole k.next)) (members (whole l.next)) x k.q a.a l.invariant.2 (k.inv.2 ws x e)))),
+          (rw up (rows_kept a.n a.rows (touched a.a a.t.now ws) o (members (whole k.next)) (members (whole l.next)) x k.q a.a l.invariant.2 (k.invariant.2 ws x e)))),
       l.invariant.4,
     )
 
@@ -140,11 +140,11 @@ loop_again c =
     let lo : o q < a.n = omega (arith, read.widened-y.ensures.0) in
     let e : members (whole c.before.with-next.result) ≡ inserted old (o q) = c.before.with-next.ensures ∙ ap (inserted old) read.widened-y.ensures.0 in
     rw e (
-      l.inv.0,
+      l.invariant.0,
       rw (empty_none c.empty-rest.ensures) (λ x d. absurd (false≢true d)),
-      (λ x h. inserted_old old (o q) x (l.inv.2 x h)),
+      (λ x h. inserted_old old (o q) x (l.invariant.2 x h)),
       (λ ws x h. inr (λ d. (lo, inserted_same old (o q) (omega arith)))),
-      λ ws. owners_more a.n a.rows (touched a.a a.t.now ws) o (members (whole a.front)) old s.first-x.result q (l.inv.4 ws) (in_front s) (omega arith)
+      λ ws. owners_more a.n a.rows (touched a.a a.t.now ws) o (members (whole a.front)) old s.first-x.result q (l.invariant.4 ws) (in_front s) (omega arith)
           (touched_nonzero a.a a.t.now ws q s.first-x.result (omega arith) read.before.before.if-t-i-ne0.true) lo,
     )
 
@@ -166,14 +166,14 @@ loop_again_2 c =
     let x = s.first-x.result in
     let R = members (whole l.rest) in
     rw c.without-rest.ensures (
-      l.inv.0,
-      (λ y e. l.inv.1 y (removed_old R x y e)),
-      l.inv.2,
+      l.invariant.0,
+      (λ y e. l.invariant.1 y (removed_old R x y e)),
+      l.invariant.2,
       (λ ws y e. ⊎_elim
           (λ left. elim (ℕ_discrete y x) [ yes d ↦ inr (λ t. absurd (not_touched_zero a.a a.t.now ws q x (omega arith) c.before.if-t-i-ne0.false (rw d at t))) | no nd ↦ inl (removed_other R x y left nd) ])
           (λ read. inr read)
-          (l.inv.3 ws y e)),
-      l.inv.4,
+          (l.invariant.3 ws y e)),
+      l.invariant.4,
     )
 
 returns : tie.Need-returns-after-search invariant-loop decreases-loop invariant-search decreases-search
@@ -194,7 +194,7 @@ returns_2 c =
     λ ws. record {
       at_end = λ h. (in_front s, touched_nonzero a.a a.t.now ws q s.first-x.result (omega arith) c.before.before.before.if-t-i-ne0.true, omega (arith, c.before.widened-y.ensures.0));
       all_read = λ h. absurd (omega arith);
-      from = l.inv.4 ws;
+      from = l.invariant.4 ws;
     }
 
 pub scan_constants_spec : {M : Type 1} → statement M

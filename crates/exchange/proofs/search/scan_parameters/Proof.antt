@@ -78,9 +78,9 @@ returns c =
       at_end = λ h. absurd (omega arith);
       all_read = λ h x e k lk mk d. elim (dec_lt k ((begun (turn c.before)).args.a + l.end)) [
         | yes before ↦ absurd (between c.before t x k e lk before (λ s. absurd (omega arith)) d)
-        | no behind ↦ l.inv.2 t x e k (omega arith) mk d
+        | no behind ↦ l.invariant.2 t x e k (omega arith) mk d
       ];
-      from = l.inv.3 t;
+      from = l.invariant.3 t;
     }
 
 add_q : tie.Need-overflow_add-q invariant-search decreases-search
@@ -119,7 +119,7 @@ returns_2 c =
     λ t. record {
       at_end = λ h. (and_left (F x) _ inside, touched_row a.a t ws r x (and_right (F x) _ inside), omega (arith, read.widened-y.ensures.0));
       all_read = λ h. absurd (omega arith);
-      from = l.inv.3 t;
+      from = l.invariant.3 t;
     }
 
 with_requires : tie.Need-with-next-requires invariant-search decreases-search
@@ -146,12 +146,12 @@ search_again c =
     let some = (touching_iff width (λ i. members (get_or ws i 0)) F r).0 ((last_one row).inside (omega arith)) in
     rw e (
       omega arith,
-      l.inv.1,
+      l.invariant.1,
       (λ t x i. rows_past a.n a.rows (touched a.a t ws) o (inserted old (o q)) x q (a.a + l.end) a.rows
           (λ d. (lo, inserted_same old (o q) (omega arith)))
           (λ k lk mk. between row t x k i (omega arith) mk (λ s. lk))
-          (rows_kept a.n a.rows (touched a.a t ws) o old (inserted old (o q)) x (a.a + l.end) a.rows kept (l.inv.2 t x i))),
-      λ t. owners_more a.n a.rows (touched a.a t ws) o F old some.0 q (l.inv.3 t) some.2.0 (omega arith) (touched_row a.a t ws r some.0 some.2.1) lo,
+          (rows_kept a.n a.rows (touched a.a t ws) o old (inserted old (o q)) x (a.a + l.end) a.rows kept (l.invariant.2 t x i))),
+      λ t. owners_more a.n a.rows (touched a.a t ws) o F old some.0 q (l.invariant.3 t) some.2.0 (omega arith) (touched_row a.a t ws r some.0 some.2.1) lo,
     )
 
 pub scan_parameters_spec : {M : Type 1} → statement M

@@ -40,8 +40,8 @@ unfolding constant_test
 returns c =
     let k = turn c.before in
     let l = k.before.loop-rest in
-    let r = l.rest-1.now in
-    passing_fails l.inv (first_rest r k.loop-rest-test.true) (le-ltb (get_or r 0 0) (bound k.before) (omega (arith, c.before.widened.ensures)))
+    let r = l.rest.now in
+    passing_fails l.invariant (first_rest r k.loop-rest-test.true) (le-ltb (get_or r 0 0) (bound k.before) (omega (arith, c.before.widened.ensures)))
 
 sub_rest : tie.Need-slice_bounds-rest-count invariant-loop decreases-loop
 sub_rest c = search rules
@@ -60,8 +60,8 @@ loop_again c =
     let d = c.before.before in
     let k = turn d in
     let l = k.before.loop-rest in
-    let r = l.rest-1.now in
-    passing_next l.inv (first_rest r k.loop-rest-test.true) (lt-ltb (get_or r 0 0) (bound k.before) (omega (arith, d.widened.ensures))) (tail_part 1 r)
+    let r = l.rest.now in
+    passing_next l.invariant (first_rest r k.loop-rest-test.true) (lt-ltb (get_or r 0 0) (bound k.before) (omega (arith, d.widened.ensures))) (tail_part 1 r)
 
 returns_2 : tie.Need-returns invariant-loop decreases-loop
 unfolding constant_test

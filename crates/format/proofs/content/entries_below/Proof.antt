@@ -46,8 +46,8 @@ unfolding constant_test
 returns c =
     let k = turn c.before in
     let l = k.before.loop-rest in
-    let r = l.rest-1.now in
-    passing_fails l.inv (entries_next r k.loop-rest-test.true) (le-ltb (get_or r 0 0 + 256 * get_or r 1 0) (bound k.before) (omega (arith, c.before.two.ensures)))
+    let r = l.rest.now in
+    passing_fails l.invariant (entries_next r k.loop-rest-test.true) (le-ltb (get_or r 0 0 + 256 * get_or r 1 0) (bound k.before) (omega (arith, c.before.two.ensures)))
 
 sub_rest : tie.Need-slice_bounds-rest-count invariant-loop decreases-loop
 sub_rest c = search rules
@@ -66,8 +66,8 @@ loop_again c =
     let d = c.before.before in
     let k = turn d in
     let l = k.before.loop-rest in
-    let r = l.rest-1.now in
-    passing_next l.inv (entries_next r k.loop-rest-test.true) (lt-ltb (get_or r 0 0 + 256 * get_or r 1 0) (bound k.before) (omega (arith, d.two.ensures))) (ap entries (tail_part 2 r))
+    let r = l.rest.now in
+    passing_next l.invariant (entries_next r k.loop-rest-test.true) (lt-ltb (get_or r 0 0 + 256 * get_or r 1 0) (bound k.before) (omega (arith, d.two.ensures))) (ap entries (tail_part 2 r))
 
 returns_2 : tie.Need-returns invariant-loop decreases-loop
 unfolding constant_test

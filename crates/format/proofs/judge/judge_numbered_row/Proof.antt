@@ -57,7 +57,7 @@ inside n s e = unless_zero _ _ (then_zero (head_tests parameter_tag (parameter_s
 count : (c : tie.After-of_bytes-set) → let a = (entry (judged c)).args in # width (members (whole c.of_bytes-set.result)) ≡ parameter_count a.n ((parameter_row a.n).dec a.rest.now)
 count c =
     let a = (entry (judged c)).args in
-    let fits : Fits c.of_bytes-set.result = search (rules, c.of_bytes-set.type-inv) in
+    let fits : Fits c.of_bytes-set.result = search (rules, c.of_bytes-set.type_inv) in
     count_within a.n (whole c.of_bytes-set.result) (whole_below _ fits) (ap (within a.n) (set c) ∙ inside a.n a.rest.now (passed c)) ∙ ap (parameter_count a.n) (set c)
 
 judge_parameter_row_requires : tie.Need-judge_parameter_row-row-requires
@@ -105,9 +105,9 @@ returns_2 c =
     let j = judged e in
     let a = (entry j).args in
     let t = next_part j.judge_parameter_row-row.ensures e.before.before.if-row-ne0.false (ends e) in
-    let own = subst (λ (u : List ℕ). NumbersJudged (number_field d.before.before.size.result) (λ before ks. before ++ ks) u a.table-1.now d.judge_numbers.new.1.1.0 d.judge_numbers.result) t d.judge_numbers.ensures in
+    let own = subst (λ (u : List ℕ). NumbersJudged (number_field d.before.before.size.result) (λ before ks. before ++ ks) u a.table.now d.judge_numbers.new.1.1.0 d.judge_numbers.result) t d.judge_numbers.ensures in
     let counted = d.before.before.size.ensures ∙ count e in
-    let mine = subst (λ (k : ℕ). NumbersJudged (number_field k) (λ before ks. before ++ ks) ((parameter_row a.n).rest a.rest.now) a.table-1.now d.judge_numbers.new.1.1.0 d.judge_numbers.result) counted own in
+    let mine = subst (λ (k : ℕ). NumbersJudged (number_field k) (λ before ks. before ++ ks) ((parameter_row a.n).rest a.rest.now) a.table.now d.judge_numbers.new.1.1.0 d.judge_numbers.result) counted own in
     record {
       same_length = mine.same_length;
       judged = λ before h. after_passed ((parameter_row a.n).tests a.rest.now) (passed e) (mine.judged before h);

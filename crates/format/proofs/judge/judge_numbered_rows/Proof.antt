@@ -32,8 +32,8 @@ turn c = c.before.before
 
 -- the row is judged after the numbers that the table keeps
 row : (c : tie.After-judge_numbered_row-row invariant-loop decreases-loop) → let l = (turn c).before.loop-todo in let a = (turn c).before.before.before.args in
-    Judgement ((numbered_row a.n l.inv.0).tests l.rest-1.now) ((numbered_row a.n l.inv.0).rest-1 l.rest-1.now) c.judge_numbered_row-row.result
-row c = let l = (turn c).before.loop-todo in c.judge_numbered_row-row.ensures.judged l.inv.0 l.inv.1
+    Judgement ((numbered_row a.n l.invariant.0).tests l.rest.now) ((numbered_row a.n l.invariant.0).rest l.rest.now) c.judge_numbered_row-row.result
+row c = let l = (turn c).before.loop-todo in c.judge_numbered_row-row.ensures.judged l.invariant.0 l.invariant.1
 
 loop_holds : tie.Need-loop-todo-init invariant-loop decreases-loop
 loop_holds c = ([], keeps_none _ (λ i. zeros 1024 i), chain_all, refl)
@@ -76,7 +76,7 @@ loop_again c =
     let z = k.before.if-row-ne0.false in
     let j = row d in
     let e = d.judge_numbered_row-row.ensures in
-    (_, e.kept l.inv.0 l.inv.1 z, chain_next l.inv.2 (turn d).loop-todo-test.true _ (accepted j z) (next_part j z (numbered_ends _ _ _)), e.same_length ∙ l.inv.3)
+    (_, e.kept l.invariant.0 l.invariant.1 z, chain_next l.invariant.2 (turn d).loop-todo-test.true _ (accepted j z) (next_part j z (numbered_ends _ _ _)), e.same_length ∙ l.invariant.3)
 
 returns_2 : tie.Need-returns invariant-loop decreases-loop
 unfolding numbered_rows

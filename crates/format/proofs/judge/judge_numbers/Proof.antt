@@ -64,7 +64,7 @@ returns_3 c =
           content_passed number_tag (number_body a.count before) a.rest.now head.judge_head-head.ensures z body.said_body.ensures.bytes_are
           (zero_unless _ _ (sym (met.meet_entries.ensures.told before h) ∙ passed));
       kept = λ before h _.
-          subst (λ (t : List ℕ). Keeps (before ++ entries t) met.meet_entries.new.0)
+          subst (λ (t : List ℕ). Keeps (before ++ entries t) met.meet_entries.new.table)
           (body_is number_tag (number_body a.count before) a.rest.now head.judge_head-head.ensures z body.said_body.ensures.bytes_are)
           (met.meet_entries.ensures.kept before h passed);
     }

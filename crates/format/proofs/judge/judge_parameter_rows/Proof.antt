@@ -32,7 +32,7 @@ entry k = k.before.before
 
 -- what the turn has not read yet
 abbrev unread : tie.After-struct_known-in-loop-todo-1 invariant-loop decreases-loop → List ℕ
-unread c = (turn (judged c)).loop-todo.rest-1.now
+unread c = (turn (judged c)).loop-todo.rest.now
 
 loop_holds : tie.Need-loop-todo-init invariant-loop decreases-loop
 loop_holds c = todo_all
@@ -44,7 +44,7 @@ returns : tie.Need-returns-then-row-ne0 invariant-loop decreases-loop
 returns c = let d = c.before.before in todo_refused (turn d).loop-todo.invariant d.before.loop-todo-test.true d.judge_parameter_row-row.ensures c.if-row-ne0.true
 
 -- what follows a row is the end of the unread rest
-ends : (c : tie.After-struct_known-in-loop-todo-1 invariant-loop decreases-loop) → let a = (entry (turn (judged c))).args in Ends ((parameter_row a.n).rest-1 (unread c)) (unread c)
+ends : (c : tie.After-struct_known-in-loop-todo-1 invariant-loop decreases-loop) → let a = (entry (turn (judged c))).args in Ends ((parameter_row a.n).rest (unread c)) (unread c)
 unfolding parameter_row
 ends c = let a = (entry (turn (judged c))).args in field_ends parameter_tag (parameter_body a.n) (unread c)
 

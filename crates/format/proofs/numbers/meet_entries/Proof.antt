@@ -30,12 +30,12 @@ abbrev turn : tie.After-meet_four invariant-loop decreases-loop → tie.In-loop-
 turn c = c.before.before
 
 -- the table is as long as it was
-long : (k : tie.At-loop-rest invariant-loop decreases-loop) → length k.loop-rest.table-1 ≡ table_words
+long : (k : tie.At-loop-rest invariant-loop decreases-loop) → length k.loop-rest.table ≡ table_words
 long k = meeting_length k.loop-rest.invariant ∙ (entry k).requires
 
 -- its numbers are the first of the rest
-next : (c : tie.After-meet_four invariant-loop decreases-loop) → let r = (turn c).before.loop-rest.rest-1.now in entries r ≡ entries (take 8 r) ++ entries (drop 8 r)
-next c = (entries_four (turn c).before.loop-rest.rest-1.now (turn c).loop-rest-test.true).1
+next : (c : tie.After-meet_four invariant-loop decreases-loop) → let r = (turn c).before.loop-rest.rest.now in entries r ≡ entries (take 8 r) ++ entries (drop 8 r)
+next c = (entries_four (turn c).before.loop-rest.rest.now (turn c).loop-rest-test.true).1
 
 loop_holds : tie.Need-loop-rest-init invariant-loop decreases-loop
 loop_holds c = meeting_all
@@ -64,7 +64,7 @@ loop_less c = simp (length-take, length-drop) (omega arith)
 loop_again : tie.Need-loop-rest-preserved invariant-loop decreases-loop
 loop_again c =
     let d = c.before.before.before.before in
-    let r = (turn d).before.loop-rest.rest-1.now in
+    let r = (turn d).before.loop-rest.rest.now in
     meeting_next (turn d).before.loop-rest.invariant _ _ (next d ∙ ap (λ (t : List ℕ). entries (take 8 r) ++ entries t) (sym (tail_part 8 r))) (subst (Meets _ _ _) (not-false _ c.before.if-not-meet_four.false-raw) d.meet_four.ensures)
 
 meet_rest_requires : tie.Need-meet_rest-requires invariant-loop decreases-loop

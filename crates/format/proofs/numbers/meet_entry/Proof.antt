@@ -20,7 +20,7 @@ unfolding entry_at
 returns c =
     let a = c.before.before.before.before.args in
     let none : entry_at (members (whole a.set)) a.row.now a.c ≡ [] = ap (λ (b : Bool). cond b (get_or a.row.now a.c 0 ∷ []) []) (sym c.before.contains.ensures ∙ not-true _ c.if-not-contains.true-raw) in
-    rw none (meets_none a.table-1.now)
+    rw none (meets_none a.table.now)
 
 mul_meet_number : tie.Need-offset_bounds-row-c
 mul_meet_number c = search rules

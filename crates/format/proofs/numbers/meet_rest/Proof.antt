@@ -34,10 +34,10 @@ turn c = c.before.before.before.before
 
 -- its number is the first of the rest
 abbrev first : tie.After-meet invariant-loop decreases-loop → ℕ
-first c = let r = (turn c).before.loop-rest.rest-1.now in get_or r 0 0 + 256 * get_or r 1 0
+first c = let r = (turn c).before.loop-rest.rest.now in get_or r 0 0 + 256 * get_or r 1 0
 
-next : (c : tie.After-meet invariant-loop decreases-loop) → let r = (turn c).before.loop-rest.rest-1.now in entries r ≡ (first c ∷ []) ++ entries (drop 2 r)
-next c = entries_next (turn c).before.loop-rest.rest-1.now (turn c).loop-rest-test.true
+next : (c : tie.After-meet invariant-loop decreases-loop) → let r = (turn c).before.loop-rest.rest.now in entries r ≡ (first c ∷ []) ++ entries (drop 2 r)
+next c = entries_next (turn c).before.loop-rest.rest.now (turn c).loop-rest-test.true
 
 loop_holds : tie.Need-loop-rest-init invariant-loop decreases-loop
 loop_holds c = meeting_all
@@ -72,7 +72,7 @@ loop_less c = simp (length-take, length-drop) (omega arith)
 loop_again : tie.Need-loop-rest-preserved invariant-loop decreases-loop
 loop_again c =
     let d = met_first c in
-    let r = (turn d).before.loop-rest.rest-1.now in
+    let r = (turn d).before.loop-rest.rest.now in
     meeting_next (turn d).before.loop-rest.invariant _ _ (next d ∙ ap (λ (t : List ℕ). (first d ∷ []) ++ entries t) (sym (tail_part 2 r))) (subst (Meets _ _ _) (not-false _ c.before.if-not-meet.false-raw) d.meet.ensures)
 
 same_length_2 : tie.Need-shape_of-table invariant-loop decreases-loop

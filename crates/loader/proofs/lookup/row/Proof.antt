@@ -29,7 +29,7 @@ abbrev entry : tie.After-said_length-size → tie.Start
 entry c = (accepted c).before.before.before
 
 -- where the row lies: so many bytes before the end, as long as its head says
-place : (c : tie.After-said_length-size) → let a = (entry c).args in let s = a.file.now in let left = (counted c).left_after-left.result-1 in let size = c.said_length-size.result-1 in
+place : (c : tie.After-said_length-size) → let a = (entry c).args in let s = a.file.now in let left = (counted c).left_after-left.result in let size = c.said_length-size.result in
     (lookup_start s a.i ≡ length s - left + head_bytes) × (lookup_length s a.i ≡ size) × (head_bytes + size ≤ left) × (left ≤ length s)
 place c =
     let a = (entry c).args in
@@ -88,8 +88,8 @@ returns_2 : tie.Need-returns
 returns_2 c =
     let l = place c.before in
     let a = (entry c.before).args in
-    let at = length a.file.now - (counted c.before).left_after-left.result-1 in
-    let size = c.before.said_length-size.result-1 in
+    let at = length a.file.now - (counted c.before).left_after-left.result in
+    let size = c.before.said_length-size.result in
     let q : at + head_bytes + size - (at + head_bytes) ≡ size = omega arith in
     let len : length (take (at + head_bytes + size - (at + head_bytes)) (drop (at + head_bytes) a.file.now)) ≡ size = rw q (length-take-le size _ (rw length-drop (omega arith))) in
     (lookup_part _ _ _ _ l.0 (l.1 ∙ sym q), refl, omega (arith, l.0), len ∙ sym l.1)

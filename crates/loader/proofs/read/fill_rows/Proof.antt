@@ -61,7 +61,7 @@ sizes : (c : tie.Else-sizes-ne0) → Sizes-are (file c) (entry c).args.sizes
 sizes c = sizes_accepted (entry c).requires (accepted c)
 
 -- the area of the parameter rows holds them
-parameters_held : (c : tie.Else-rows-b) → let a = (entry (passed c.before)).args in a.sizes.b ≤ length (row_numbers a.parameters-1.now)
+parameters_held : (c : tie.Else-rows-b) → let a = (entry (passed c.before)).args in a.sizes.b ≤ length (row_numbers a.parameters.now)
 parameters_held c = rw c.before.rows.ensures at c.if-rows-b.false
 
 -- the rows stand behind two fields
@@ -162,9 +162,9 @@ returns_4 c =
     let a = (entry d).args in
     let z = a.sizes in
     let t = rows found in
-    let constants = (constants_read behind).read_constants.ensures ∙ ap (λ (u : List ℕ). over (constants_said z.a u) a.constants-1.now) t in
+    let constants = (constants_read behind).read_constants.ensures ∙ ap (λ (u : List ℕ). over (constants_said z.a u) a.constants.now) t in
     let left = left_part (said_rests_ends z.a _) behind.left_after-2.ensures ∙ ap (said_rests z.a) t in
-    let parameters = e.read_parameters.ensures ∙ ap₂ (λ (k : ℕ) (u : List ℕ). over (parameters_said k z.b u) (row_numbers a.parameters-1.now)) e.before.fields_of_row.ensures left in
+    let parameters = e.read_parameters.ensures ∙ ap₂ (λ (k : ℕ) (u : List ℕ). over (parameters_said k z.b u) (row_numbers a.parameters.now)) e.before.fields_of_row.ensures left in
     rw d.if-sizes-ne0.false (reading_done _ _ _ (accepted d) (sizes d) (constants_held held).if-constants-a.false (parameters_held found.before) _ _ constants parameters)
 
 pub fill_rows_spec : {M : Type 1} → statement M

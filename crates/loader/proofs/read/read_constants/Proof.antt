@@ -34,12 +34,12 @@ turn c = c.before.before.before
 
 -- while rows are left, the area has room for the next one
 room : (c : tie.In-loop-todo invariant-loop decreases-loop) → let l = c.before.loop-todo in
-    (l.at + length (entries (said_body l.rest.now)) ≤ length l.out-1) × (length (entries (said_body l.rest.now)) ≤ length (take (length l.out-1 - l.at) (drop l.at l.out-1)))
+    (l.at + length (entries (said_body l.rest.now)) ≤ length l.out) × (length (entries (said_body l.rest.now)) ≤ length (take (length l.out - l.at) (drop l.at l.out)))
 room c = let l = c.before.loop-todo in room_left (entries (said_body l.rest.now)) _ l.invariant (constants_next l.todo l.rest.now (omega arith))
 
 -- its constants are put there
 read : (c : tie.After-read_entries-at invariant-loop decreases-loop) → let l = (turn c).before.loop-todo in
-    Put (entries (said_body l.rest.now)) (take (length l.out-1 - l.at) (drop l.at l.out-1)) c.read_entries-at.new.0 c.read_entries-at.result
+    Put (entries (said_body l.rest.now)) (take (length l.out - l.at) (drop l.at l.out)) c.read_entries-at.new.out c.read_entries-at.result
 read c = rw c.before.said_body.ensures.bytes_are at c.read_entries-at.ensures
 
 loop_holds : tie.Need-loop-todo-init invariant-loop decreases-loop
@@ -80,7 +80,7 @@ loop_again c =
     let d = row_read c.before in
     let l = (turn d).before.loop-todo in
     let r = l.rest.now in
-    wrote_put (entries (said_body r)) _ _ l.inv (constants_next l.todo r (omega arith) ∙ ap (λ (s : List ℕ). entries (said_body r) ++ constants_said (l.todo - 1) s) (sym c.said_rest-next.ensures.bytes_are)) (read d)
+    wrote_put (entries (said_body r)) _ _ l.invariant (constants_next l.todo r (omega arith) ∙ ap (λ (s : List ℕ). entries (said_body r) ++ constants_said (l.todo - 1) s) (sym c.said_rest-next.ensures.bytes_are)) (read d)
 
 same_length : tie.Need-shape_of-out invariant-loop decreases-loop
 same_length c = c.before.loop-todo.invariant.same

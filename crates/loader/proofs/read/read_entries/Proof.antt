@@ -28,7 +28,7 @@ turn c = c.before.before.before
 room : (c : tie.After-two invariant-loop decreases-loop) → let l = (turn c).before.loop-rest in l.at + 1 ≤ length l.out
 room c =
     let l = (turn c).before.loop-rest in
-    omega (arith, ap length (entries_next l.rest-1.now (turn c).loop-rest-test.true), l.inv.room)
+    omega (arith, ap length (entries_next l.rest.now (turn c).loop-rest-test.true), l.invariant.room)
 
 loop_holds : tie.Need-loop-rest-init invariant-loop decreases-loop
 loop_holds c = wrote_none _ _ c.before.before.requires
@@ -70,9 +70,9 @@ loop_again : tie.Need-loop-rest-preserved invariant-loop decreases-loop
 loop_again c =
     let k = turn c.before in
     let l = k.before.loop-rest in
-    let r = l.rest-1.now in
+    let r = l.rest.now in
     let x = c.before.two in
-    wrote_set x.result _ l.inv
+    wrote_set x.result _ l.invariant
     (entries_next r k.loop-rest-test.true ∙ ap (λ (y : ℕ). y ∷ entries (drop 2 r)) (sym x.ensures.0) ∙ ap (λ (s : List ℕ). x.result ∷ entries s) (sym (tail_part 2 r)))
 
 same_length : tie.Need-shape_of-out invariant-loop decreases-loop

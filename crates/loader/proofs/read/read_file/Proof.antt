@@ -23,7 +23,7 @@ abbrev tested : tie.After-fill_rows-read → tie.After-numbers_held
 tested c = c.before.before.before.before
 
 -- the area of the numbers holds them
-held : (c : tie.After-fill_rows-read) → let t = tested c in room_test (sized t).read_sizes-sizes.result (length (entry t).args.numbers-1.now) ≡ true
+held : (c : tie.After-fill_rows-read) → let t = tested c in room_test (sized t).read_sizes-sizes.result (length (entry t).args.numbers.now) ≡ true
 held c = sym (tested c).numbers_held.ensures ∙ not-false _ c.before.before.before.if-not-numbers_held.false-raw
 
 -- where the file is numbered, its own sizes were read
@@ -47,8 +47,8 @@ returns c =
     let t = c.before.before in
     let z = c.no_sizes.ensures in
     let a = (entry t).args in
-    let q = room_short (sized t).read_sizes-sizes.ensures (length a.numbers-1.now) (sym t.numbers_held.ensures ∙ not-true _ c.before.if-not-numbers_held.true-raw) in
-    rw (z.0, z.1, z.2, z.3, z.4, z.5) (file_short a.file.now a.constants-1.now (row_numbers a.parameters-1.now) a.numbers-1.now q.0 q.1)
+    let q = room_short (sized t).read_sizes-sizes.ensures (length a.numbers.now) (sym t.numbers_held.ensures ∙ not-true _ c.before.if-not-numbers_held.true-raw) in
+    rw (z.0, z.1, z.2, z.3, z.4, z.5) (file_short a.file.now a.constants.now (row_numbers a.parameters.now) a.numbers.now q.0 q.1)
 
 fill_rows_requires : tie.Need-fill_rows-read-requires
 fill_rows_requires c κs = c.before.before.before.before.before.read_sizes-sizes.ensures
@@ -59,7 +59,7 @@ put_numbers_requires c κs =
     let x = (sized (tested d)).read_sizes-sizes.ensures in
     let q = due d c.before.if-read.true in
     let room = room_enough x _ (held d) q.is_numbered_too in
-    let len = length (entry (tested d)).args.numbers-1.now in (
+    let len = length (entry (tested d)).args.numbers.now in (
       subst (λ (k : ℕ). k < 256) (sym q.a_same) x.a_small,
       subst (λ (k : ℕ). k < 256) (sym q.n_same) x.n_small,
       subst (λ (k : ℕ). k ≤ len) (sym (ap₂ (λ (b : ℕ) (n : ℕ). b * n) q.b_same q.n_same)) room,

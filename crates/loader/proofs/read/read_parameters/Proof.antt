@@ -82,14 +82,14 @@ loop_again c =
     let body = (body_read e).said_body in
     let k = (turn e).before in
     let l = k.loop-at in
-    let r = l.rest-1.now in
+    let r = l.rest.now in
     let a = (entry k).args in
     let w = whole of-bytes.result in
     let q : a.b - l.at - 1 ≡ a.b - (l.at + 1) = omega arith in
     let is_row : number (take room_bytes (said_body r)) ≡ w = ap (λ (t : List ℕ). number (take room_bytes t)) (sym body.ensures.bytes_are) ∙ sym of-bytes.ensures.is_number in
-    let written = ap row_numbers is-put ∙ rows_with_row l.out-1 l.at w in
+    let written = ap row_numbers is-put ∙ rows_with_row l.out l.at w in
     let next = left_part (said_rests_ends a.step r) e.left_after.ensures in
-    (rw written (wrote_set w _ l.inv.0 (parameters_next (a.b - l.at) r a.step (omega (arith, (turn e).loop-at-test.true)) ∙ rw (q, is_row, ← next) refl)), omega (arith, (turn e).loop-at-test.true), ap length is-put ∙ with_row_length l.out-1 l.at w ∙ l.inv.2)
+    (rw written (wrote_set w _ l.invariant.0 (parameters_next (a.b - l.at) r a.step (omega (arith, (turn e).loop-at-test.true)) ∙ rw (q, is_row, ← next) refl)), omega (arith, (turn e).loop-at-test.true), ap length is-put ∙ with_row_length l.out l.at w ∙ l.invariant.2)
 
 same_length : tie.Need-shape_of-out invariant-loop decreases-loop
 same_length c = c.before.loop-at.invariant.2
