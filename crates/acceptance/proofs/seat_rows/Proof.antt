@@ -35,7 +35,7 @@ row_seat c =
     let l = turn c in
     let a = (begun l).args in
     subst (λ (x : ℕ). RowSeated a.n a.b (row_numbers a.parameters.now) (members (whole l.loop-r.seated)) l.loop-r.r x c.seat_row-s.result)
-    (read_below a.t5 l.loop-r.r 0 no_column (omega (arith, (begun l).requires.1, c.before.loop-r-test.true))) c.seat_row-s.ensures
+    (read_below a.t5 l.loop-r.r 0 no_column (omega (arith, (begun l).requires.1, c.loop-r-test.true))) c.seat_row-s.ensures
 
 loop_holds : tie.Need-loop-r-init invariant-loop decreases-loop
 loop_holds c = (omega arith, none_seated _ _ _ _ _ _ (λ x. refl))

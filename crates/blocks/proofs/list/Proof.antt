@@ -49,7 +49,7 @@ begun k = k.before.before.before
 -- a column is left
 left : (f : tie.After-first-x invariant-loop decreases-loop) → Some width (λ x. x ∈ members (whole (turn f).loop-waiting.rest))
 left f =
-    let some : # width (members (whole (turn f).loop-waiting.rest)) ≢ 0 = eqb-false _ 0 (sym f.before.before.is_empty.ensures ∙ not_in _ f.before.loop-waiting-test.true-raw) in
+    let some : # width (members (whole (turn f).loop-waiting.rest)) ≢ 0 = eqb-false _ 0 (sym f.is_empty.ensures ∙ not_in _ f.loop-waiting-test.true-raw) in
     let t = least_there width _ some in
     (_, t.0, t.1)
 
@@ -75,8 +75,8 @@ there f =
 
 -- what it needs and is left
 missing_is : (e : tie.After-is_empty-in-loop-waiting invariant-loop decreases-loop) → let f = chosen e in let k = turn f in
-    members (whole e.before.intersection-missing.result) ≡ rest k ∩ row_of (begun k).args.needs.now f.first-x.result
-missing_is e = let k = turn (chosen e) in e.before.intersection-missing.ensures ∙ ap (λ (w : ℕ). rest k ∩ members w) e.before.before.row-before.ensures
+    members (whole e.intersection-missing.result) ≡ rest k ∩ row_of (begun k).args.needs.now f.first-x.result
+missing_is e = let k = turn (chosen e) in e.intersection-missing.ensures ∙ ap (λ (w : ℕ). rest k ∩ members w) e.row-before.ensures
 
 -- where nothing is, it is the least that is permitted
 module _ (d : tie.After-difference-block invariant-loop decreases-loop) where
@@ -99,11 +99,11 @@ module _ (d : tie.After-difference-block invariant-loop decreases-loop) where
   block_is : members (whole d.difference-block.result) ≡ row_of (begun round).args.rows.now column ∩ ∁ (row_of (begun round).args.needs.now column)
   block_is =
       let r = (permitted d).before.before.before in
-      d.difference-block.ensures ∙ ap (λ (w : ℕ). members w ∩ ∁ (members (whole r.row-before.result))) d.before.row.ensures
+      d.difference-block.ensures ∙ ap (λ (w : ℕ). members w ∩ ∁ (members (whole r.row-before.result))) d.row.ensures
       ∙ ap (λ (w : ℕ). row_of (begun round).args.rows.now column ∩ ∁ (members w)) r.row-before.ensures
 
 loop_holds : tie.Need-loop-waiting-init invariant-loop decreases-loop
-loop_holds c = let a = c.before.before.args in (watched_start a.needs.now (members (whole a.all)), λ n E b t h w. listing_start n E b t (members (whole a.all)) a.rows.now a.needs.now h w)
+loop_holds c = let a = c.args in (watched_start a.needs.now (members (whole a.all)), λ n E b t h w. listing_start n E b t (members (whole a.all)) a.rows.now a.needs.now h w)
 
 is_empty_requires : tie.Need-is_empty-requires invariant-loop decreases-loop
 is_empty_requires c κs = search rules
@@ -164,7 +164,7 @@ loop_less c =
     let k = round d in
     let o = (begun k).requires in
     let fewer = fewer_left o.0 o.1 o.2 o.3 (columns k) (begun k).args.rows.now (begun k).args.needs.now o.4 o.5 k.loop-waiting.k (rest k) k.loop-waiting.numbers (so_far k) (left (chosen (permitted d).before)) (column d) (next_is d o.0 o.1 o.2 o.3 o.4 o.5) (members (whole d.difference-block.result)) (block_is d) width (there (chosen (permitted d).before)).0 in
-    let less : # width (members (whole c.before.before.before.before.difference-rest.result)) < # width (rest k) = rw c.before.before.before.before.difference-rest.ensures fewer in
+    let less : # width (members (whole c.difference-rest.result)) < # width (rest k) = rw c.difference-rest.ensures fewer in
     omega (arith, less, #-le width (members (whole c.intersection-awake.result)))
 
 loop_again : tie.Need-loop-waiting-preserved-then-is_empty invariant-loop decreases-loop
@@ -175,7 +175,7 @@ loop_again c =
     let k = round d in
     let a = (begun k).args in
     let S = members (whole d.difference-block.result) in
-    rw (c.intersection-awake.ensures, c.before.union.ensures, w.before.before.difference-rest.ensures) (
+    rw (c.intersection-awake.ensures, c.union.ensures, w.difference-rest.ensures) (
       watched_listed a.needs.now (rest k) (members (whole k.loop-waiting.awake)) S (members (whole w.woken.result)) k.loop-waiting.waiting k.loop-waiting.invariant.0 w.woken.ensures,
       λ n E b t h v. listing_more n E b t (columns k) a.rows.now a.needs.now h v k.loop-waiting.k (rest k) k.loop-waiting.numbers (k.loop-waiting.invariant.1 n E b t h v) (left (chosen (permitted d).before))
           (column d) (next_is d n E b t h v) S (block_is d) p.number_block.last.0 p.number_block.ensures,
@@ -209,8 +209,8 @@ loop_again_2 c =
     let k = turn f in
     let a = (begun k).args in
     let o = (begun k).requires in
-    let missing = members (whole e.before.intersection-missing.result) in
-    let some : # width missing ≢ 0 = eqb-false _ 0 (sym e.is_empty-in-loop-waiting.ensures ∙ y.before.before.if-is_empty.false) in
+    let missing = members (whole e.intersection-missing.result) in
+    let some : # width missing ≢ 0 = eqb-false _ 0 (sym e.is_empty-in-loop-waiting.ensures ∙ y.if-is_empty.false) in
     let t = least_there width missing some in
     let it : y.first.result ∈ missing = (rw (sym y.first.ensures) at t).1 in
     let needed : y.first.result ∈ rest k ∩ row_of a.needs.now f.first-x.result = sym (ap (λ (S : Set). S y.first.result) (missing_is e)) ∙ it in
@@ -224,7 +224,7 @@ returns : tie.Need-returns invariant-loop decreases-loop
 returns c =
     let k = c.before.before in
     let l = k.loop-waiting in
-    let gone : # width (rest k) ≡ 0 = eqb-true _ 0 (sym c.before.is_empty.ensures ∙ not-false _ c.loop-waiting-test.false-raw) in
+    let gone : # width (rest k) ≡ 0 = eqb-true _ 0 (sym c.is_empty.ensures ∙ not-false _ c.loop-waiting-test.false-raw) in
     λ n E b t h w. listing_done n E b t (columns k) (begun k).args.rows.now (begun k).args.needs.now h w l.k (rest k) l.numbers (l.invariant.1 n E b t h w) gone _ refl refl refl
 
 pub list_spec : {M : Type 1} → statement M

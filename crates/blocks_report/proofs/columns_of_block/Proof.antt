@@ -45,7 +45,7 @@ loop_less c = search rules
 loop_again : tie.Need-loop-x-preserved invariant-loop decreases-loop
 loop_again c =
     let l = (turn c).loop-x in
-    let a = (turn c).before.before.args in (
+    let a = (turn c).args in (
       search rules,
       l.invariant.1,
       ⊎_elim
@@ -56,8 +56,8 @@ loop_again c =
 
 returns : tie.Need-returns invariant-loop decreases-loop
 returns c =
-    let l = c.before.loop-x in
-    let a = c.before.before.before.args in
+    let l = c.loop-x in
+    let a = c.args in
     let done : l.x ≡ length a.t1 = omega arith in
     l.invariant.2 ∙ ap (gathered a.t1 a.k) done ∙ gathered_all a.t1 a.k
 

@@ -33,7 +33,7 @@ abbrev set_put : tie.At-loop-at invariant-loop decreases-loop → tie.After-put_
 set_put k = k.before.before.before
 
 abbrev byte_put : tie.After-put_set invariant-loop decreases-loop → tie.After-struct_known-2-1 invariant-loop decreases-loop
-byte_put c = c.before.before
+byte_put c = c.before.before.before
 
 abbrev with_room : tie.After-struct_known-2-1 invariant-loop decreases-loop → tie.Else-out-lt-DEGREE_LENGTH invariant-loop decreases-loop
 with_room c = c.before.before.before
@@ -125,7 +125,7 @@ loop_less c = omega arith
 
 loop_again : tie.Need-loop-at-preserved invariant-loop decreases-loop
 loop_again c =
-    let l = c.before.loop-at in
+    let l = c.loop-at in
     let k = begun (with_room (byte_put (set_put c.before))) in
     let rows = k.args.answer.rows in
     let next : drop l.at rows ≡ get_or rows l.at 0 ∷ drop (l.at + 1) rows = drop-cons rows l.at 0 (omega (arith, long k, c.loop-at-test.true)) ∙ rw add-one refl in

@@ -23,7 +23,7 @@ use Rattle.exchange.proofs.column_dependence.Tie as tie
 
 -- where the call begins, seen from behind its first test
 abbrev begun : tie.After-is_admissible → tie.Start
-begun c = c.before.before.before
+begun c = c.before.before.before.before
 
 -- the first test, and the second
 abbrev admitted : tie.Start → Bool
@@ -69,7 +69,7 @@ returns_2 : tie.Need-returns-then-x-n
 returns_2 c =
     let t = c.before in
     let k = begun t.before.before in
-    let e : admitted k ≡ true = sym (tested t.before.before) ∙ not-false _ t.before.if-not-is_admissible.false-raw in
+    let e : admitted k ≡ true = sym (tested t.before.before) ∙ not-false _ t.if-not-is_admissible.false-raw in
     refused k c.without_multipliers-then-x-n.result (both k ∙ rw (e, le-ltb k.args.x k.args.n t.if-x-n.true) refl) c.without_multipliers-then-x-n.ensures
 
 fill_requires : tie.Need-fill-requires
@@ -98,7 +98,7 @@ answered c r h =
     let e = accepted c in
     let k = start c in
     let a = k.args in
-    let yes : asked k ≡ true = both k ∙ rw (sym (tested e.before.before) ∙ not-false _ e.before.if-not-is_admissible.false-raw, lt-ltb a.x a.n e.if-x-n.false) refl in
+    let yes : asked k ≡ true = both k ∙ rw (sym (tested e.before.before) ∙ not-false _ e.if-not-is_admissible.false-raw, lt-ltb a.x a.n e.if-x-n.false) refl in
     record {
       is_valid = h.0 ∙ sym yes;
       if_not = λ z. absurd (true≢false (sym yes ∙ z));
@@ -120,7 +120,7 @@ read_column_requires c κs =
     let f = table.before.before in
     let e = accepted f in
     let g = good e.before in
-    (filled f, rw table.before.if-p-eq-LISTED_PRIME.true table.listed_inverses-inverses.ensures.1, g.fits.columns, g.fits.constant_rows, g.inside, g.prime, e.if-x-n.false)
+    (filled f, rw table.if-p-eq-LISTED_PRIME.true table.listed_inverses-inverses.ensures.1, g.fits.columns, g.fits.constant_rows, g.inside, g.prime, e.if-x-n.false)
 
 returns_3 : tie.Need-returns-then-p-eq-LISTED_PRIME
 returns_3 c = answered c.before.before.before.before.before c.read_column.result c.read_column.ensures

@@ -31,7 +31,7 @@ accepted c = c.before.before
 
 -- what holds where the model is taken
 taken : (c : tie.Else-not-is_admissible) → let a = (begun c.before).args in admissible a.p a.n a.a a.b (whole a.offered) a.constants.now (row_numbers a.parameters.now) ≡ true
-taken c = sym c.before.is_admissible.ensures ∙ not-false _ c.if-not-is_admissible.false-raw
+taken c = sym c.is_admissible.ensures ∙ not-false _ c.if-not-is_admissible.false-raw
 
 good : (c : tie.Else-not-is_admissible) → let a = (begun c.before).args in Admissible a.p a.n a.a a.b (whole a.offered) a.constants.now (row_numbers a.parameters.now)
 good c = let a = (begun c.before).args in admissible_reads a.p a.n a.a a.b (whole a.offered) a.constants.now (row_numbers a.parameters.now) (taken c)
@@ -45,7 +45,7 @@ no_reach_requires c κs = search rules
 returns : tie.Need-returns-then-not-is_admissible
 returns c =
     let a = (begun c.before.before).args in
-    let refused : admissible a.p a.n a.a a.b (whole a.offered) a.constants.now (row_numbers a.parameters.now) ≡ false = sym c.before.before.is_admissible.ensures ∙ not-true _ c.before.if-not-is_admissible.true-raw in
+    let refused : admissible a.p a.n a.a a.b (whole a.offered) a.constants.now (row_numbers a.parameters.now) ≡ false = sym c.is_admissible.ensures ∙ not-true _ c.if-not-is_admissible.true-raw in
     record {
       is_valid = c.no_reach.ensures.0 ∙ sym refused;
       if_not = λ z. c.no_reach.ensures.1;
@@ -95,7 +95,7 @@ reach_rows_requires c κs =
     let table = c.before.before in
     let k = table.before.before in
     let g = good (accepted k) in
-    (filled k, rw table.before.if-p-eq-LISTED_PRIME.true table.listed_inverses-inverses.ensures.1, g.fits.columns, g.fits.constant_rows, g.fits.parameter_rows, g.inside, g.prime)
+    (filled k, rw table.if-p-eq-LISTED_PRIME.true table.listed_inverses-inverses.ensures.1, g.fits.columns, g.fits.constant_rows, g.fits.parameter_rows, g.inside, g.prime)
 
 returns_2 : tie.Need-returns-then-p-eq-LISTED_PRIME
 returns_2 c = shown c.before.before.before.before.before c.reach_rows.result c.reach_rows.ensures

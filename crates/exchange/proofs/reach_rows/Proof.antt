@@ -24,7 +24,7 @@ abbrev linked : tie.After-close → tie.After-link-ends
 linked c = (joined c).before.before.before
 
 abbrev started : tie.After-close → tie.After-join
-started c = (linked c).before.before.before.before.before
+started c = (linked c).before.before.before.before
 
 abbrev missed : tie.After-close → tie.After-difference-missing
 missed c = (started c).before.before

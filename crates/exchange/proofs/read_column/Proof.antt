@@ -56,7 +56,7 @@ offered c Q sh =
 all_placed : (c : tie.Else-not-is_empty) → let o = c.before.before.before in (y : ℕ) → y ∈ held (start o) → y ∈ in_set o
 all_placed c y e =
     let o = c.before.before.before in
-    let gone : # width (held (start o) ∩ ∁ (in_set o)) ≡ 0 = ap (# width) (sym c.before.before.difference-missing.ensures) ∙ eqb-true _ 0 (sym c.before.is_empty.ensures ∙ not-false _ c.if-not-is_empty.false-raw) in
+    let gone : # width (held (start o) ∩ ∁ (in_set o)) ≡ 0 = ap (# width) (sym c.difference-missing.ensures) ∙ eqb-true _ 0 (sym c.is_empty.ensures ∙ not-false _ c.if-not-is_empty.false-raw) in
     none_missing (held (start o)) (in_set o) gone (λ x m. omega (arith, held_below (start o) x m, (start o).requires.2)) y e
 
 cast_owner : tie.Need-overflow_cast-owner
@@ -90,7 +90,7 @@ returns c =
     let o = t.before.before.before in
     let k = start o in
     let a = k.args in
-    let some : # width (held k ∩ ∁ (in_set o)) ≢ 0 = λ z. eqb-false _ 0 (sym t.before.is_empty.ensures ∙ not-true _ t.if-not-is_empty.true-raw) (ap (# width) t.before.before.difference-missing.ensures ∙ z) in
+    let some : # width (held k ∩ ∁ (in_set o)) ≢ 0 = λ z. eqb-false _ 0 (sym t.is_empty.ensures ∙ not-true _ t.if-not-is_empty.true-raw) (ap (# width) t.difference-missing.ensures ∙ z) in
     let y = one_missing (held k) (in_set o) some in (
       c.without_multipliers.ensures.0,
       λ Q sh. held_columns_dependent a.p a.n a.a k.requires.5 no_rows _ _ (offering_held a.p a.n no_rows Q (held k)) (in_set o) (offered o Q sh) o.offer_all-placed.ensures.0.below
@@ -112,7 +112,7 @@ returns_2 c =
     let a = k.args in (
       c.without_multipliers-then-not-is_zero_where_free.ensures.0,
       λ Q sh. column_independent a.p a.n a.a k.requires.5 no_rows _ _ (offering_held a.p a.n no_rows Q (held k)) (in_set o) (offered o Q sh) o.offer_all-placed.ensures.0.below
-          (held_below k) a.x k.requires.6 (all_placed e) (z.is_zero_where_free.ensures.if_false (not-true _ c.before.if-not-is_zero_where_free.true-raw)) c.without_multipliers-then-not-is_zero_where_free.result
+          (held_below k) a.x k.requires.6 (all_placed e) (z.is_zero_where_free.ensures.if_false (not-true _ c.if-not-is_zero_where_free.true-raw)) c.without_multipliers-then-not-is_zero_where_free.result
           c.without_multipliers-then-not-is_zero_where_free.ensures.1,
     )
 

@@ -18,14 +18,14 @@ use Rattle.exchange.proofs.reduce.Tie as tie
 
 -- where the call begins, seen from behind its test
 abbrev begun : tie.After-is_reducible → tie.Start
-begun c = c.before.before.before.before.before
+begun c = c.before.before.before.before
 
 -- the test
 abbrev taken : tie.Start → Bool
 taken k = let a = k.args in reducible a.p a.n a.a a.weights.now a.levels.now a.constants.now
 
 passed : (c : tie.Else-not-is_reducible) → taken (begun c.before) ≡ true
-passed c = sym c.before.is_reducible.ensures ∙ not-false _ c.if-not-is_reducible.false-raw
+passed c = sym c.is_reducible.ensures ∙ not-false _ c.if-not-is_reducible.false-raw
 
 -- what holds where it is passed
 good : (c : tie.Else-not-is_reducible) → let a = (begun c.before).args in Reducible a.p a.n a.a a.weights.now a.levels.now a.constants.now
@@ -33,7 +33,7 @@ good c = reducible_reads _ _ _ _ _ _ (passed c)
 
 -- where it is passed, seen from behind the filling, and where the call begins
 abbrev accepted : tie.After-fill → tie.Else-not-is_reducible
-accepted c = c.before.before.before
+accepted c = c.before.before
 
 abbrev start : tie.After-fill → tie.Start
 start c = begun (accepted c).before
@@ -46,7 +46,7 @@ filled c =
 
 -- the tableau when its rows are reduced, by either table of inverses
 worked : (c : tie.Joined-p-eq-LISTED_PRIME) → let a = (start c.before).args in
-    TableauArray a.p c.if-p-eq-LISTED_PRIME.t × Reduced a.p a.n a.a a.weights.now a.levels.now a.a c.before.fill.new.t c.if-p-eq-LISTED_PRIME.t
+    TableauArray a.p c.if-p-eq-LISTED_PRIME.t × Reduced a.p a.n a.a a.weights.now a.levels.now a.a c.fill.new.t c.if-p-eq-LISTED_PRIME.t
 worked c = ⊎_elim (λ w. rw w.5 w.4.ensures) (λ w. rw w.4 w.3.ensures) c.if-p-eq-LISTED_PRIME.branch
 
 is_reducible_requires : tie.Need-is_reducible-requires
@@ -57,7 +57,7 @@ same_length c = search rules
 
 returns : tie.Need-returns-then-not-is_reducible
 returns c =
-    let e : taken (begun c.before) ≡ false = sym c.before.is_reducible.ensures ∙ not-true _ c.if-not-is_reducible.true-raw in
+    let e : taken (begun c.before) ≡ false = sym c.is_reducible.ensures ∙ not-true _ c.if-not-is_reducible.true-raw in
     record { is_valid = sym e; if_not = λ z. refl; if_valid = λ z. absurd (true≢false (sym z ∙ e)) }
 
 fill_requires : tie.Need-fill-requires
@@ -80,7 +80,7 @@ reduce_rows_requires c κs =
     let f = table.before.before in
     let g = good (accepted f) in
     let m = g.admitted in
-    (filled f, rw table.before.if-p-eq-LISTED_PRIME.true table.listed_inverses-inverses.ensures.1, m.fits.columns, m.fits.constant_rows, g.weighed, g.levelled, m.prime)
+    (filled f, rw table.if-p-eq-LISTED_PRIME.true table.listed_inverses-inverses.ensures.1, m.fits.columns, m.fits.constant_rows, g.weighed, g.levelled, m.prime)
 
 cast_reduce_rows_2 : tie.Need-overflow_cast-p-else-p-eq-LISTED_PRIME
 cast_reduce_rows_2 c = omega (arith, (good (accepted c.before.before.before)).admitted.short_prime)

@@ -79,7 +79,7 @@ returns_3 c =
     let h = f.model_acceptance-r.ensures in
     let r = f.model_acceptance-r.result in
     let ok = sym h.is_refusal ∙ at-else.if-r-ne0.false in
-    answer_put acceptance_bytes (tests k) (claim_question k.args.claim.now) r (answered_of_bytes r (f.before.read_claim-c.ensures.if_long enough.if-claim-lt-CLAIM_LENGTH.false) (h.if_accepted ok)) ok
+    answer_put acceptance_bytes (tests k) (claim_question k.args.claim.now) r (answered_of_bytes r (f.read_claim-c.ensures.if_long enough.if-claim-lt-CLAIM_LENGTH.false) (h.if_accepted ok)) ok
     (zero_unless _ area_short ((area_reads _ _).1 enough.if-claim-lt-CLAIM_LENGTH.false)) d.put_acceptance.ensures
 
 pub harness_accepts_spec : {M : Type 1} → statement M

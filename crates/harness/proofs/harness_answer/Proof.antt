@@ -34,7 +34,7 @@ asked c =
     let k = begun c.before in
     let r = c.open_answer-r.result in
     subst (λ (w : ℕ). RankCall (answer_refusal (holding k w)) r.refusal (Refused r) (Answered (open_model (holding k w)) r))
-    c.before.of_bytes-set.ensures.is_number c.open_answer-r.ensures
+    c.of_bytes-set.ensures.is_number c.open_answer-r.ensures
 
 of_bytes_requires : tie.Need-of_bytes-set-requires
 of_bytes_requires c κs = search rules

@@ -35,7 +35,7 @@ asked c =
     let k = begun c.before in
     let r = c.model_multipliers-r.result in
     subst (λ (w : ℕ). RankCall (first_refusal (tests k w)) r.refusal (MultipliersRefused r) (MultipliersAnswered k.args.p k.args.n k.args.a k.args.constants.now (members w) k.args.column r))
-    c.before.of_bytes-set.ensures.is_number c.model_multipliers-r.ensures
+    c.of_bytes-set.ensures.is_number c.model_multipliers-r.ensures
 
 of_bytes_requires : tie.Need-of_bytes-set-requires
 of_bytes_requires c κs = search rules

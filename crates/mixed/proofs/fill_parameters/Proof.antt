@@ -60,7 +60,7 @@ loop_less c = search rules
 
 loop_again : tie.Need-loop-i-preserved invariant-loop decreases-loop
 loop_again c =
-    let put = c.before.before.put_row in
+    let put = c.put_row in
     let made = (completed c).with in
     let moved = (raised c).raised-own in
     let own = (read c).row in
@@ -80,11 +80,11 @@ loop_again c =
     )
 
 same_length : tie.Need-shape_of-words invariant-loop decreases-loop
-same_length c = c.before.loop-i.invariant.3
+same_length c = c.loop-i.invariant.3
 
 returns : tie.Need-returns invariant-loop decreases-loop
 returns c =
-    let l = c.before.loop-i in
+    let l = c.loop-i in
     (l.invariant.1, λ k m. l.invariant.2 k (omega arith))
 
 pub fill_parameters_spec : {M : Type 1} → statement M

@@ -68,8 +68,8 @@ loop_less c = search rules
 loop_again : tie.Need-loop-i-preserved invariant-loop decreases-loop
 loop_again c =
     let l = (turn c).loop-i in
-    let a = (turn c).before.before.args in
-    let s = c.before.serves_original in (
+    let a = (turn c).args in
+    let s = c.serves_original in (
       search rules,
       ⊎_elim
           (λ w. rw (w.2, w.1.ensures) (idle_more a.m a.t1 l.i (members (whole l.idle)) (omega arith) (s.ensures.1 (not-true _ w.0.taken)) l.invariant.1))
@@ -79,8 +79,8 @@ loop_again c =
 
 returns : tie.Need-returns invariant-loop decreases-loop
 returns c =
-    let done : c.before.loop-i.i ≡ c.before.before.before.args.m = omega arith in
-    rw done at c.before.loop-i.invariant.1
+    let done : c.loop-i.i ≡ c.args.m = omega arith in
+    rw done at c.loop-i.invariant.1
 
 pub idle_rows_spec : {M : Type 1} → statement M
 idle_rows_spec =

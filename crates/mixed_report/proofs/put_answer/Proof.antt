@@ -24,7 +24,7 @@ verdict_put c = c.before.before
 
 -- where the area is lent for the line of the rank
 abbrev rank_lent : tie.After-put_number_line-after_rank → tie.After-put_number_line-arg-1
-rank_lent c = c.before.before.before
+rank_lent c = c.before.before.before.before
 
 put_verdict_line_requires : tie.Need-put_verdict_line-after_verdict-requires
 put_verdict_line_requires c κs = search rules

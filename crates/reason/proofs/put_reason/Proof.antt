@@ -23,7 +23,7 @@ abbrev begun : tie.Else-out-lt-REASON_LENGTH → tie.Start
 begun c = c.before.before
 
 abbrev with_room : tie.After-put_set → tie.Else-out-lt-REASON_LENGTH
-with_room c = c.before.before.before
+with_room c = c.before.before.before.before
 
 abbrev set_put : tie.After-flag → tie.After-put_set
 set_put c = c.before.before.before
@@ -55,12 +55,12 @@ first_part c =
 
 -- all bytes
 written : (c : tie.After-slice_known-3-1) → let f = flagged c in let p = set_put f in let a = (begun (with_room p)).args in let d = set p.put_set.last.0 12 f.flag.result in
-    Wrote (reason_bytes a.answer) [] a.out.now (take 13 d ++ (c.before.before.put_each.new.out ++ drop (length d - 13) (drop 13 d))) (13 + 2 * most_columns)
+    Wrote (reason_bytes a.answer) [] a.out.now (take 13 d ++ (c.put_each.new.out ++ drop (length d - 13) (drop 13 d))) (13 + 2 * most_columns)
 written c =
     let f = flagged c in
     let k = begun (with_room (set_put f)) in
     let m = entry_bytes k.args.answer.multipliers in
-    wrote_room m [] _ (2 * most_columns) (first_part f) (sym (append-nil m)) c.before.before.put_each.ensures.bytes_are (long k).1
+    wrote_room m [] _ (2 * most_columns) (first_part f) (sym (append-nil m)) c.put_each.ensures.bytes_are (long k).1
 
 returns : tie.Need-returns-then-out-lt-REASON_LENGTH
 returns c = put_refused reason_length _ _ c.if-out-lt-REASON_LENGTH.true

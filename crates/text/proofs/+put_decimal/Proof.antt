@@ -56,7 +56,7 @@ put_decimal_same_length : (t : ℕ) → put-decimal-lts.Need-same-length (
   put_decimal_below t,
   put-decimal.Post,
 ) (put_decimal_at t) put-decimal.Post
-put_decimal_same_length t c = puts_same c.before.before.put_byte.ensures
+put_decimal_same_length t c = puts_same c.put_byte.ensures
 
 put_decimal_returns : (t : ℕ) → put-decimal-lts.Need-returns (
   digit-reads.Asked,
@@ -69,7 +69,7 @@ put_decimal_returns : (t : ℕ) → put-decimal-lts.Need-returns (
 put_decimal_returns t c =
     let last = c.before.before.before in
     let small = last.before.before in
-    puts_as (ap (λ (d : ℕ). d ∷ []) last.digit.ensures ∙ sym (decimal_small small.before.before.args.x small.if-x-lt10.true)) c.before.before.put_byte.ensures
+    puts_as (ap (λ (d : ℕ). d ∷ []) last.digit.ensures ∙ sym (decimal_small small.args.x small.if-x-lt10.true)) c.put_byte.ensures
 
 put_decimal_put_decimal_requires : (t : ℕ) → put-decimal-lts.Need-put-decimal-requires (
   digit-reads.Asked,
@@ -128,9 +128,9 @@ put_decimal_returns_2 t c =
     let back = last.before.before in
     let tens = back.before.before in
     let large = tens.before.before in
-    let x = large.before.before.args.x in
+    let x = large.args.x in
     let whole : decimal (x / 10) ++ (last.digit-2.result ∷ []) ≡ decimal x = ap (λ (d : ℕ). decimal (x / 10) ++ (d ∷ [])) last.digit-2.ensures ∙ sym (decimal_large x large.if-x-lt10.false) in
-    puts_as whole (puts_then tens.put_decimal-after_tens.ensures c.before.before.put_byte-2.ensures)
+    puts_as whole (puts_then tens.put_decimal-after_tens.ensures c.put_byte-2.ensures)
 
 pub +put-decimal-spec : {M : Type 1} → statement M
 +put-decimal-spec = close μ-put-decimal λ t. put-decimal-lts.spec (

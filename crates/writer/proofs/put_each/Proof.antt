@@ -20,7 +20,7 @@ begun c = c.before.before.before
 returns : tie.Need-returns-then-out-numbers
 unfolding area_test
 returns c =
-    let a = c.before.before.before.args in
+    let a = c.args in
     let short : length a.out.now < length (entry_bytes a.numbers.now) = omega (arith, (entries_back a.numbers.now).0) in
     record { refusal_is = first_fails _ _ _ (lt-leb _ _ short); bytes_are = over_no_room _ _ short }
 

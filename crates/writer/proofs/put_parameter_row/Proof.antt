@@ -38,7 +38,7 @@ room c =
 
 -- the size is not large
 size_small : (c : tie.After-parameter_size-size) → c.parameter_size-size.result ≤ set_bytes
-size_small c = rw c.parameter_size-size.ensures (parameter_size_most c.before.before.args.n)
+size_small c = rw c.parameter_size-size.ensures (parameter_size_most c.args.n)
 
 parameter_size_requires : tie.Need-parameter_size-size-requires
 parameter_size_requires c κs = search rules

@@ -40,10 +40,10 @@ abbrev begun : tie.After-first_heights-heights invariant-loop decreases-loop →
 begun c = c.before.before.before.before.before.before
 
 abbrev raised : tie.After-tops-levels invariant-loop decreases-loop → tie.After-first_heights-heights invariant-loop decreases-loop
-raised c = c.before.before.before.before.before.before.before
+raised c = c.before.before.before.before.before.before
 
 abbrev levelled : tie.At-loop-s invariant-loop decreases-loop → tie.After-tops-levels invariant-loop decreases-loop
-levelled c = c.before.before.before.before.before
+levelled c = c.before.before.before.before
 
 abbrev start : tie.At-loop-s invariant-loop decreases-loop → tie.Start invariant-loop decreases-loop
 start c = begun (raised (levelled c))
@@ -57,7 +57,7 @@ first_state : (c : tie.After-tops-levels invariant-loop decreases-loop) → let 
 first_state c Q shown full =
     let f = raised c in
     let w = c.before.before.before.before in
-    descending_starts _ _ _ _ Q _ _ _ _ _ (begun f).requires.0 shown full _ w.before.before.below-all.ensures _ _ w.weights-weights.result f.first_heights-heights.ensures w.weights-weights.ensures c.tops-levels.ensures
+    descending_starts _ _ _ _ Q _ _ _ _ _ (begun f).requires.0 shown full _ w.below-all.ensures _ _ w.weights-weights.result f.first_heights-heights.ensures w.weights-weights.ensures c.tops-levels.ensures
     (search (rules, c.tops-levels.type_inv)) (search (rules, f.first_heights-heights.ok))
 
 -- the state of a turn, of the constants that are known to be there
@@ -68,7 +68,7 @@ now_state c = let k = start c in c.loop-s.invariant.3 k.requires.1.0 k.requires.
 
 first_heights_requires : tie.Need-first_heights-heights-requires invariant-loop decreases-loop
 first_heights_requires c κs =
-    let r = c.before.before.before.before.before.requires.0 in
+    let r = c.requires.0 in
     (r.columns, r.column_powers_lent, r.column_powers_low, r.powers_lent, r.rows_within, r.powers_low)
 
 below_requires : tie.Need-below-all-requires invariant-loop decreases-loop
@@ -147,7 +147,7 @@ turn_small c Q d h =
     let l = m.loop-s in
     short_set_is_small (model_with a.p a.n a.a a.b Q (row_numbers a.parameters.now) a.rowpowers.now a.columnpowers.now a.parameterpowers.now) first_most l.risen
     (tableau_of a.p a.n l.constants) (λ q. get_or l.levels q 0) (λ x. get_or l.heights x 0) d.after
-    l.s.rank (members (whole l.s.placed)) (members (whole l.s.constants)) (members (whole l.s.short)) l.s.rows h c.before.before.before.loop-s-test.true
+    l.s.rank (members (whole l.s.placed)) (members (whole l.s.constants)) (members (whole l.s.short)) l.s.rows h c.loop-s-test.true
 
 turn_requires : tie.Need-turn-rise-requires invariant-loop decreases-loop
 turn_requires c κs =
@@ -191,7 +191,7 @@ loop_less c =
     omega (arith, risen_small _ _ _ _ _ _ _ _ _ _ _ _ _ w.0, (t.turn-rise.ensures k.requires.1.0 k.args.rowpowers.now m.loop-s.risen w.0 (turn_small t.before k.requires.1.0 w.0 w.1)).0)
 
 -- a turn keeps the number of constants
-long : (c : tie.After-constants-1 invariant-loop decreases-loop) → length c.before.turn-rise.new.1.1.1.1.0 ≡ length (start (entered c.before.before)).args.constants.now
+long : (c : tie.After-constants-1 invariant-loop decreases-loop) → length c.turn-rise.new.1.1.1.1.0 ≡ length (start (entered c.before.before)).args.constants.now
 long c = search (rules, (entered c.before.before).loop-s.invariant.0, c.constants.given)
 
 loop_again : tie.Need-loop-s-preserved invariant-loop decreases-loop

@@ -17,13 +17,13 @@ abbrev begun : tie.After-weights-arg → tie.Start
 begun c = c.before.before.before.before.before.before.before
 
 abbrev weighed : tie.After-reduce → tie.After-weights-weights
-weighed c = c.before.before.before.before
+weighed c = c.before.before.before
 
 abbrev reduction : tie.After-tops-tops → tie.After-reduce
-reduction c = c.before.before.before.before.before.before
+reduction c = c.before.before.before.before
 
 abbrev topped : tie.After-rise-rise → tie.After-tops-tops
-topped c = c.before.before.before
+topped c = c.before.before
 
 abbrev start : tie.After-tops-tops → tie.Start
 start c = begun (weighed (reduction c)).before

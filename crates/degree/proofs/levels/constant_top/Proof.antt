@@ -56,8 +56,8 @@ loop_again c =
 
 returns : tie.Need-returns invariant-loop decreases-loop
 returns c =
-    let done : c.before.loop-x.x ≡ c.before.before.args.n = omega arith in
-    rw done at c.before.loop-x.invariant.1
+    let done : c.loop-x.x ≡ c.args.n = omega arith in
+    rw done at c.loop-x.invariant.1
 
 pub constant_top_spec : {M : Type 1} → statement M
 constant_top_spec =

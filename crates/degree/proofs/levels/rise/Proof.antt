@@ -44,7 +44,7 @@ loop_again c =
     let r = c.before in
     let k = r.before.before.before.before in
     let l = k.loop-q in
-    let a = k.before.before.before.args in
+    let a = k.args in
     let s = r.room-r.result in
     let more = rise_more l.q a.levels.now a.tops.now l.least s in (
       search rules,
@@ -57,7 +57,7 @@ loop_again c =
 returns : tie.Need-returns invariant-loop decreases-loop
 returns c =
     let k = c.before in
-    let done : k.loop-q.q ≡ k.before.before.before.args.lines = omega arith in
+    let done : k.loop-q.q ≡ k.args.lines = omega arith in
     rw done at k.loop-q.invariant.1
 
 pub rise_spec : {M : Type 1} → statement M

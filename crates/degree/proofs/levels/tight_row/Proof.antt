@@ -42,7 +42,7 @@ mul_out : tie.Need-offset_bounds-out-i invariant-loop decreases-loop
 mul_out c = search rules
 
 slice_write_out : tie.Need-bounds-out-i invariant-loop decreases-loop
-slice_write_out c = omega (arith, c.before.before.before.before.loop-x.invariant.1.same_length)
+slice_write_out c = omega (arith, c.loop-x.invariant.1.same_length)
 
 add_x : tie.Need-overflow_step-x invariant-loop decreases-loop
 add_x c = search rules
@@ -54,7 +54,7 @@ loop_again : tie.Need-loop-x-preserved invariant-loop decreases-loop
 loop_again c =
     let k = c.before.before.before.before in
     let l = k.loop-x in
-    let a = k.before.args in
+    let a = k.args in
     let w = get_or a.weights.now l.x 0 in
     let v = get_or a.constants.now (a.from + l.x) 0 in
     let kept : c.if-weights-x.out ≡ cond (eqb w a.level) v 0 =
@@ -66,12 +66,12 @@ loop_again c =
     (search rules, tight_row_more l.x a.from a.level a.constants.now a.weights.now a.out.now l.out _ room kept l.invariant.1)
 
 same_length : tie.Need-shape_of-out invariant-loop decreases-loop
-same_length c = c.before.loop-x.invariant.1.same_length
+same_length c = c.loop-x.invariant.1.same_length
 
 returns : tie.Need-returns invariant-loop decreases-loop
 returns c =
-    let done : c.before.loop-x.x ≡ c.before.before.args.n = omega arith in
-    rw done at c.before.loop-x.invariant.1
+    let done : c.loop-x.x ≡ c.args.n = omega arith in
+    rw done at c.loop-x.invariant.1
 
 pub tight_row_spec : {M : Type 1} → statement M
 tight_row_spec =

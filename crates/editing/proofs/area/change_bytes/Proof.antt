@@ -47,7 +47,7 @@ change_place_requires : tie.Need-change_place-requires
 change_place_requires c κs =
     let named = c.before.before.before.before in
     let k = named.before.before.before in
-    (omega (arith, c.before.row_start.ensures, c.parameter_size.ensures, (row_room named).1), omega (arith, c.parameter_size.ensures, parameter_size_most k.args.n))
+    (omega (arith, c.row_start.ensures, c.parameter_size.ensures, (row_room named).1), omega (arith, c.parameter_size.ensures, parameter_size_most k.args.n))
 
 enum_known_edit_2 : tie.Need-enum_known-edit-in-ClearPlace-1
 enum_known_edit_2 c = search rules
@@ -65,7 +65,7 @@ change_place_requires_2 : tie.Need-change_place-requires-in-ClearPlace
 change_place_requires_2 c κs =
     let named = c.before.before.before.before in
     let k = named.before.before.before in
-    (omega (arith, c.before.row_start-in-ClearPlace.ensures, c.parameter_size-in-ClearPlace.ensures, (row_room_2 named).1), omega (arith, c.parameter_size-in-ClearPlace.ensures, parameter_size_most k.args.n))
+    (omega (arith, c.row_start-in-ClearPlace.ensures, c.parameter_size-in-ClearPlace.ensures, (row_room_2 named).1), omega (arith, c.parameter_size-in-ClearPlace.ensures, parameter_size_most k.args.n))
 
 enum_told : tie.Need-enum_told-1
 enum_told c = search rules
@@ -97,7 +97,7 @@ returns c =
     let k = named.before.before.before in
     let area = k.args.area.now in
     put.change_place.ensures
-    ∙ ap₂ (λ (at size : ℕ). row_done at size area named.edit.given.0.1.0 true) sized.before.row_start.ensures sized.parameter_size.ensures
+    ∙ ap₂ (λ (at size : ℕ). row_done at size area named.edit.given.0.1.0 true) sized.row_start.ensures sized.parameter_size.ensures
     ∙ sym (ap (λ (e : Edit). bytes_done k.args.n k.args.a (whole k.args.present) area (meant e)) named.edit.given.1)
 
 same_length_2 : tie.Need-shape_of-area-in-ClearPlace
@@ -112,7 +112,7 @@ returns_2 c =
     let k = named.before.before.before in
     let area = k.args.area.now in
     put.change_place-in-ClearPlace.ensures
-    ∙ ap₂ (λ (at size : ℕ). row_done at size area named.edit-in-ClearPlace-1.given.0.1.0 false) sized.before.row_start-in-ClearPlace.ensures sized.parameter_size-in-ClearPlace.ensures
+    ∙ ap₂ (λ (at size : ℕ). row_done at size area named.edit-in-ClearPlace-1.given.0.1.0 false) sized.row_start-in-ClearPlace.ensures sized.parameter_size-in-ClearPlace.ensures
     ∙ sym (ap (λ (e : Edit). bytes_done k.args.n k.args.a (whole k.args.present) area (meant e)) named.edit-in-ClearPlace-1.given.1)
 
 same_length_3 : tie.Need-shape_of-area-in-TakeOff

@@ -51,7 +51,7 @@ loop_less c = search rules
 loop_again : tie.Need-loop-i-preserved invariant-loop decreases-loop
 loop_again c =
     let l = (turn c).loop-i in
-    let cs = (turn c).before.args.constants.now in (
+    let cs = (turn c).args.constants.now in (
       omega arith,
       ⊎_elim
           (λ w. rw w.1 (largest_more cs l.i l.top w.0.taken l.invariant.1))
@@ -61,8 +61,8 @@ loop_again c =
 
 returns : tie.Need-returns invariant-loop decreases-loop
 returns c =
-    let done : c.before.loop-i.i ≡ c.before.before.args.k = omega arith in
-    rw done at c.before.loop-i.invariant.1
+    let done : c.loop-i.i ≡ c.args.k = omega arith in
+    rw done at c.loop-i.invariant.1
 
 pub largest_spec : {M : Type 1} → statement M
 largest_spec =

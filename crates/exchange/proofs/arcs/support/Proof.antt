@@ -21,7 +21,7 @@ empty_requires : tie.Need-empty-set-requires invariant-loop decreases-loop
 empty_requires c κs = search rules
 
 loop_holds : tie.Need-loop-x-init invariant-loop decreases-loop
-loop_holds c = (search rules, rw (empty_none c.empty-set.ensures) (support_none c.before.args.t.now c.before.args.q))
+loop_holds c = (search rules, rw (empty_none c.empty-set.ensures) (support_none c.args.t.now c.args.q))
 
 mul_i : tie.Need-overflow_mul-i invariant-loop decreases-loop
 mul_i c = search rules
@@ -46,8 +46,8 @@ loop_less c = search rules
 
 loop_again : tie.Need-loop-x-preserved invariant-loop decreases-loop
 loop_again c =
-    let l = c.before.before.before.loop-x in
-    let a = c.before.before.before.before.before.args in (
+    let l = c.loop-x in
+    let a = c.args in (
       search rules,
       ⊎_elim
           (λ w. rw (w.2, w.1.ensures) (support_more a.t.now a.q l.x (members (whole l.set)) l.invariant.1 (omega arith) w.0.taken))
@@ -57,8 +57,8 @@ loop_again c =
 
 returns : tie.Need-returns invariant-loop decreases-loop
 returns c =
-    let done : c.before.loop-x.x ≡ c.before.before.before.args.n = omega arith in
-    rw done at c.before.loop-x.invariant.1
+    let done : c.loop-x.x ≡ c.args.n = omega arith in
+    rw done at c.loop-x.invariant.1
 
 pub support_spec : {M : Type 1} → statement M
 support_spec =

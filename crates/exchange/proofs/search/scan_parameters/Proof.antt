@@ -35,7 +35,7 @@ begun l = l.before.before.before
 
 -- where it is known which row touches the set, seen from behind its owner
 abbrev found : tie.After-widened-y invariant-search decreases-search → tie.After-last_touching-r invariant-search decreases-search
-found c = c.before.before.before
+found c = c.before.before.before.before
 
 -- the row is the last below `end` that touches the set
 last_one : (c : tie.After-last_touching-r invariant-search decreases-search) → let a = (begun (turn c)).args in LastMember (turn c).search.end c.last_touching-r.result (rows_touching (row_numbers a.parameters.now) (members (whole a.front)))
@@ -65,7 +65,7 @@ sub_end c = search rules
 
 search_holds : tie.Need-search-init invariant-search decreases-search
 search_holds c =
-    let a = c.before.before.args in
+    let a = c.args in
     (omega arith, refl, (λ t x e k l m. absurd (omega arith)), λ t. rw (empty_none c.empty-next.ensures) (owners_none a.n a.rows _ _ (members (whole a.front))))
 
 last_touching_requires : tie.Need-last_touching-r-requires invariant-search decreases-search
@@ -114,7 +114,7 @@ returns_2 c =
     let common = F ∩ members (get_or ws r 0) in
     let there : (least width common < width) × (least width common ∈ common) = least_any width common ((last_one row).inside (omega arith)) in
     let x = c.first-column.result in
-    let is_least : x ≡ least width common = c.first-column.ensures ∙ ap (least width) (c.before.intersection-common.ensures ∙ ap (λ (w : ℕ). F ∩ members w) c.before.before.row.ensures) in
+    let is_least : x ≡ least width common = c.first-column.ensures ∙ ap (least width) (c.intersection-common.ensures ∙ ap (λ (w : ℕ). F ∩ members w) c.row.ensures) in
     let inside : x ∈ common = rw is_least there.1 in
     λ t. record {
       at_end = λ h. (and_left (F x) _ inside, touched_row a.a t ws r x (and_right (F x) _ inside), omega (arith, read.widened-y.ensures.0));

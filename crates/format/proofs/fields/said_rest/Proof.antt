@@ -34,7 +34,7 @@ unfolding said_rest
 returns c =
     let d = c.before.before in
     let s = (entry d).args.rest in
-    let m = d.before.past_head-body in
+    let m = d.past_head-body in
     let b = m.result.now in
     let size : d.said_length-size.result ≡ said_length s.now = d.said_length-size.ensures.0 in
     let e = m.ensures.bytes_are in
@@ -56,7 +56,7 @@ unfolding said_rest
 returns_2 c =
     let d = c.before.before in
     let s = (entry d).args.rest in
-    let m = d.before.past_head-body in
+    let m = d.past_head-body in
     part_next m.ensures (ends_drop head_bytes s.now) _ (omega arith) (ap (λ (k : ℕ). drop k (drop head_bytes s.now)) (sym d.said_length-size.ensures.0)) refl refl refl
 
 pub said_rest_spec : {M : Type 1} → statement M

@@ -37,7 +37,7 @@ refuse_answer_requires c κs = search rules
 returns : tie.Need-returns-then-answer-lt-ANSWER_LENGTH
 returns c =
     let a = (begun c.before.before).args in
-    refused_short (closed unnumbered_fields (area_file a.area.now)) (held a.area.now) answer_length (AnswerWritten (open_model (area_open a.area.now))) a.answer.now c.before.if-answer-lt-ANSWER_LENGTH.true _ c.refuse_answer.ensures
+    refused_short (closed unnumbered_fields (area_file a.area.now)) (held a.area.now) answer_length (AnswerWritten (open_model (area_open a.area.now))) a.answer.now c.if-answer-lt-ANSWER_LENGTH.true _ c.refuse_answer.ensures
 
 answer_area_requires : tie.Need-answer_area-answered-requires
 answer_area_requires c κs = search rules

@@ -38,7 +38,7 @@ refuse_area_requires c κs = search rules
 returns : tie.Need-returns-then-answer-lt-DEGREE_LENGTH
 returns c =
     let a = (begun c.before.before).args in
-    refused_short (closed fields a.file.now) (file_question a.file.now a.rowpowers.now a.columnpowers.now a.parameterpowers.now) degree_length (Written a.file.now a.rowpowers.now a.columnpowers.now a.parameterpowers.now) a.answer.now c.before.if-answer-lt-DEGREE_LENGTH.true _ c.refuse_area.ensures
+    refused_short (closed fields a.file.now) (file_question a.file.now a.rowpowers.now a.columnpowers.now a.parameterpowers.now) degree_length (Written a.file.now a.rowpowers.now a.columnpowers.now a.parameterpowers.now) a.answer.now c.if-answer-lt-DEGREE_LENGTH.true _ c.refuse_area.ensures
 
 file_degree_requires : tie.Need-file_degree-r-requires
 file_degree_requires c κs = search rules

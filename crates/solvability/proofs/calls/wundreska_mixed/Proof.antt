@@ -29,7 +29,7 @@ refuse_area_requires c κs = search rules
 returns : tie.Need-returns-then-answer-lt-MIXED_LENGTH
 returns c =
     let a = (begun c.before.before).args in
-    refused_short (closed fields a.file.now) (mixed_question a.file.now) mixed_length (MixedWritten (file_mixed a.file.now)) a.answer.now c.before.if-answer-lt-MIXED_LENGTH.true _ c.refuse_area.ensures
+    refused_short (closed fields a.file.now) (mixed_question a.file.now) mixed_length (MixedWritten (file_mixed a.file.now)) a.answer.now c.if-answer-lt-MIXED_LENGTH.true _ c.refuse_area.ensures
 
 mixed_file_requires : tie.Need-mixed_file-r-requires
 mixed_file_requires c κs = search rules
