@@ -87,12 +87,12 @@ size_requires c κs = search rules
 
 returns_4 : tie.Need-returns-then-size-rank
 returns_4 c =
-    let e = c.before.before in
+    let e = c.before.before.before in
     let k = begun (within_n e) in
     not_accepted (λ h. omega (arith, c.if-size-rank.true, c.size.ensures, as_many _ _ _ _ (cs k) (ws k) _ _ _ _ (side_small k) (side_in (within_n e)) (fit e) _ (seats_small (seated e)) (are e) h))
 
 constant_rank_requires : tie.Need-constant_rank-requires
-constant_rank_requires c κs = let e = c.before.before in (constants_accepted (begun (within_n e)).requires, side_in (within_n e))
+constant_rank_requires c κs = let e = c.before.before.before in (constants_accepted (begun (within_n e)).requires, side_in (within_n e))
 
 size_requires_2 : tie.Need-size-requires-2
 size_requires_2 c κs = search rules
@@ -100,12 +100,12 @@ size_requires_2 c κs = search rules
 returns_5 : tie.Need-returns-then-constant_rank-size
 returns_5 c =
     let r = c.before.before in
-    let e = r.before.before.before in
+    let e = r.before.before.before.before in
     let k = begun (within_n e) in
     not_accepted (λ h. omega (arith, c.if-constant_rank-size.true, r.constant_rank.ensures, c.size-2.ensures, independent _ _ _ _ (cs k) (ws k) _ _ _ _ (side_small k) (side_in (within_n e)) (fit e) _ (seats_small (seated e)) (are e) h))
 
 set_sum_requires : tie.Need-set_sum-total-requires
-set_sum_requires c κs = let e = c.before.before.before.before.before in ((begun (within_n e)).requires, set_in (within_n e))
+set_sum_requires c κs = let e = c.before.before.before.before.before.before in ((begun (within_n e)).requires, set_in (within_n e))
 
 -- where the set is summed: what was tested before it
 abbrev tested : tie.After-set_sum-total → tie.Else-not-seats

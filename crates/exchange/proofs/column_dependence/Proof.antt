@@ -126,17 +126,17 @@ returns_3 : tie.Need-returns-then-p-eq-LISTED_PRIME
 returns_3 c = answered c.before.before.before.before.before c.read_column.result c.read_column.ensures
 
 cast_read_column_2 : tie.Need-overflow_cast-p-2
-cast_read_column_2 c = omega (arith, (good (accepted c.before.before.before).before).short_prime)
+cast_read_column_2 c = omega (arith, (good (accepted c.before.before.before.before).before).short_prime)
 
 read_column_requires_2 : tie.Need-read_column-requires-2
 read_column_requires_2 c κs =
-    let f = c.before.before.before in
+    let f = c.before.before.before.before in
     let e = accepted f in
     let g = good e.before in
     (filled f, record { entry = λ i l. absurd (omega arith) }, g.fits.columns, g.fits.constant_rows, g.inside, g.prime, e.if-x-n.false)
 
 returns_4 : tie.Need-returns
-returns_4 c = answered c.before.before.before.before c.read_column-2.result c.read_column-2.ensures
+returns_4 c = answered c.before.before.before.before.before c.read_column-2.result c.read_column-2.ensures
 
 pub column_dependence_spec : {M : Type 1} → statement M
 column_dependence_spec =

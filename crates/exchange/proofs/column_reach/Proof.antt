@@ -101,16 +101,16 @@ returns_2 : tie.Need-returns-then-p-eq-LISTED_PRIME
 returns_2 c = shown c.before.before.before.before.before c.reach_rows.result c.reach_rows.ensures
 
 cast_reach_rows_2 : tie.Need-overflow_cast-p-2
-cast_reach_rows_2 c = omega (arith, (good (accepted c.before.before.before)).short_prime)
+cast_reach_rows_2 c = omega (arith, (good (accepted c.before.before.before.before)).short_prime)
 
 reach_rows_requires_2 : tie.Need-reach_rows-requires-2
 reach_rows_requires_2 c κs =
-    let k = c.before.before.before in
+    let k = c.before.before.before.before in
     let g = good (accepted k) in
     (filled k, record { entry = λ i l. absurd (omega arith) }, g.fits.columns, g.fits.constant_rows, g.fits.parameter_rows, g.inside, g.prime)
 
 returns_3 : tie.Need-returns
-returns_3 c = shown c.before.before.before.before c.reach_rows-2.result c.reach_rows-2.ensures
+returns_3 c = shown c.before.before.before.before.before c.reach_rows-2.result c.reach_rows-2.ensures
 
 pub column_reach_spec : {M : Type 1} → statement M
 column_reach_spec =

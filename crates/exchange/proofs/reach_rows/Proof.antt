@@ -98,7 +98,7 @@ returns c =
           let d = offers.ensures.1 G (offers_start a.p a.n a.a a.b ws a.t.now (replicate lines a.n) free all G sh m) in
           reach_shown a.p a.n a.a a.b ws G t o (members (whole offers.result)) d all m k.requires.2
           (held_shows a.p a.n a.a a.b ws G t o offers.ensures.0 d.held) (members (whole (linked close).link-ends.result))
-          (started close).join.new.rows (linked close).link-ends.new.1.1.1.1.1.1.1.0 (joined close).join-2.new.rows close.close.new.rows
+          (started close).join.new.rows (linked close).link-ends.new.into (joined close).join-2.new.rows close.close.new.rows
           (rw (missed close).difference-missing.ensures at (started close).join.ensures) (linked close).link-ends.ensures (joined close).join-2.ensures close.close.ensures,
     )
 

@@ -26,7 +26,7 @@ abbrev begun : tie.After-offer_all-arg-2-1 → tie.Start
 begun c = c.before.before.before.before
 
 abbrev start : tie.After-offer_all-placed → tie.Start
-start c = begun c.before
+start c = begun c.before.before
 
 -- the held columns
 abbrev held : tie.Start → Set
@@ -64,7 +64,7 @@ cast_owner c = search rules
 
 offer_all_requires : tie.Need-offer_all-placed-requires
 offer_all_requires c κs =
-    let k = begun c in
+    let k = begun c.before in
     let a = k.args in (
       record {
         lengths = record { tableau = k.requires.0.full; owners = refl; columns = k.requires.2; constant_rows = k.requires.3; constants_among = omega arith; all_rows = omega arith };
@@ -106,7 +106,7 @@ without_multipliers_requires_2 c κs = search rules
 returns_2 : tie.Need-returns-then-not-is_zero_where_free
 returns_2 c =
     let z = c.before.before in
-    let e = z.before.before.before in
+    let e = z.before.before in
     let o = e.before.before.before in
     let k = start o in
     let a = k.args in (
@@ -123,7 +123,7 @@ returns_3 : tie.Need-returns
 returns_3 c =
     let f = c.before.before.before in
     let z = f.before in
-    let e = z.before.before.before in
+    let e = z.before in
     let o = e.before.before.before in
     let k = start o in
     let a = k.args in (

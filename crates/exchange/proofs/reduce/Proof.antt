@@ -62,7 +62,7 @@ returns c =
 
 fill_requires : tie.Need-fill-requires
 fill_requires c κs =
-    let f = (good c.before.before).admitted.fits in
+    let f = (good c.before).admitted.fits in
     (refl, f.columns, f.constant_rows, f.constants_lent)
 
 listed_inverses_requires : tie.Need-listed_inverses-inverses-requires
@@ -83,11 +83,11 @@ reduce_rows_requires c κs =
     (filled f, rw table.if-p-eq-LISTED_PRIME.true table.listed_inverses-inverses.ensures.1, m.fits.columns, m.fits.constant_rows, g.weighed, g.levelled, m.prime)
 
 cast_reduce_rows_2 : tie.Need-overflow_cast-p-else-p-eq-LISTED_PRIME
-cast_reduce_rows_2 c = omega (arith, (good (accepted c.before.before.before)).admitted.short_prime)
+cast_reduce_rows_2 c = omega (arith, (good (accepted c.before.before.before.before)).admitted.short_prime)
 
 reduce_rows_requires_2 : tie.Need-reduce_rows-requires-else-p-eq-LISTED_PRIME
 reduce_rows_requires_2 c κs =
-    let f = c.before.before.before in
+    let f = c.before.before.before.before in
     let g = good (accepted f) in
     let m = g.admitted in
     (filled f, record { entry = λ i l. absurd (omega arith) }, m.fits.columns, m.fits.constant_rows, g.weighed, g.levelled, m.prime)

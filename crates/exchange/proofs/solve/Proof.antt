@@ -100,16 +100,16 @@ returns_2 : tie.Need-returns-then-p-eq-LISTED_PRIME
 returns_2 c = solved c.before.before.before.before.before c.answer.result c.answer.ensures
 
 cast_answer_2 : tie.Need-overflow_cast-p-2
-cast_answer_2 c = omega (arith, (good (accepted c.before.before.before)).short_prime)
+cast_answer_2 c = omega (arith, (good (accepted c.before.before.before.before)).short_prime)
 
 answer_requires_2 : tie.Need-answer-requires-2
 answer_requires_2 c κs =
-    let k = c.before.before.before in
+    let k = c.before.before.before.before in
     let g = good (accepted k) in
     (filled k, record { entry = λ i l. absurd (omega arith) }, g.fits.columns, g.fits.constant_rows, g.fits.parameter_rows, g.inside, g.prime)
 
 returns_3 : tie.Need-returns
-returns_3 c = solved c.before.before.before.before c.answer-2.result c.answer-2.ensures
+returns_3 c = solved c.before.before.before.before.before c.answer-2.result c.answer-2.ensures
 
 pub solve_spec : {M : Type 1} → statement M
 solve_spec =

@@ -42,10 +42,10 @@ mul_form : tie.Need-offset_bounds-form-k invariant-loop decreases-loop
 mul_form c = omega (arith, c.loop-k-test.true, room (begun c.before))
 
 element_write_form : tie.Need-bounds-form-k invariant-loop decreases-loop
-element_write_form c = omega (arith, c.loop-k-test.true, room (begun c.before))
+element_write_form c = omega (arith, c.loop-k-test.true, room (begun c.before.before))
 
 add_k : tie.Need-overflow_step-k invariant-loop decreases-loop
-add_k c = omega (arith, c.loop-k-test.true, room (begun c.before))
+add_k c = omega (arith, c.loop-k-test.true, room (begun c.before.before))
 
 loop_less : tie.Need-loop-k-smaller invariant-loop decreases-loop
 loop_less c = omega (arith, c.loop-k-test.true)
@@ -53,9 +53,9 @@ loop_less c = omega (arith, c.loop-k-test.true)
 loop_again : tie.Need-loop-k-preserved invariant-loop decreases-loop
 loop_again c =
     let l = c.loop-k in
-    let a = (begun c.before).args in
+    let a = (begun c.before.before).args in
     let v = c.entry_of_form.result in
-    let inside : l.k < length l.form = omega (arith, c.loop-k-test.true, room (begun c.before)) in (
+    let inside : l.k < length l.form = omega (arith, c.loop-k-test.true, room (begun c.before.before)) in (
       omega (arith, c.loop-k-test.true),
       search rules,
       below_more (λ j. get_or (set l.form l.k v) j 0 ≡ form_entry a.m a.n a.constants.now j) l.k

@@ -138,7 +138,7 @@ lowered_requires c κs = search rules
 returns_2 : tie.Need-returns
 unfolding moved_down
 returns_2 c =
-    let verdict = told c.before in
+    let verdict = told c.before.before in
     let solved = answered verdict in
     let k = passed solved in
     let a = (begun k.before).args in

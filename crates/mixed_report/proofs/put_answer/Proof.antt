@@ -51,9 +51,9 @@ returns : tie.Need-returns
 unfolding mixed_answer_text ascii
 returns c =
     let short = short_put c in
-    let columns = columns_put short.before.before.before in
-    let rows = rows_put columns.before.before.before in
-    let rank = rank_put rows.before.before.before in
+    let columns = columns_put short.before.before.before.before.before in
+    let rows = rows_put columns.before.before.before.before.before in
+    let rank = rank_put rows.before.before.before.before.before in
     let verdict = verdict_put (rank_lent rank).before in
     puts_then verdict.put_verdict_line-after_verdict.ensures (puts_then rank.put_number_line-after_rank.ensures (puts_then rows.put_column_line-after_rows.ensures (puts_then columns.put_column_line-after_columns.ensures short.put_column_line.ensures)))
 

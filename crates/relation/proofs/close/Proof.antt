@@ -55,7 +55,7 @@ pick_spread_requires c κs = some c
 
 reached_requires : tie.Need-reached-all-requires invariant-loop decreases-loop
 reached_requires c κs =
-    let f = c.before in
+    let f = c in
     let t = f.pick_spread-x.ensures in
     (t.0, (turn f).loop-rest.invariant.apart f.pick_spread-x.result t.1)
 
@@ -80,7 +80,7 @@ loop_again c =
     let r = row_found c in
     rw (c.without-rest.ensures, c.with-done.ensures, (written c).put_row.ensures)
     (closing_more (members (whole a.over)) (members (whole l.rest)) (members (whole l.done)) a.rows.now l.rows l.invariant f.pick_spread-x.result t.0 t.1 (whole r.reached-all.result)
-    (r.reached-all.ensures (row_of a.rows.now) l.invariant.partly) (λ y e. columns_below r.reached-all.result y (search (rules, r.reached-all.ok)) e))
+    (r.reached-all.ensures (row_of a.rows.now) l.invariant.partly) (λ y e. columns_below r.reached-all.result y (search (rules, r.reached-all.type_inv)) e))
 
 same_length : tie.Need-shape_of-rows invariant-loop decreases-loop
 same_length c = c.loop-rest.invariant.others.same_length

@@ -51,9 +51,9 @@ returns : tie.Need-returns
 unfolding answer_text ascii
 returns c =
     let short = short_put c in
-    let parameters = parameters_put short.before.before.before in
+    let parameters = parameters_put short.before.before.before.before.before in
     let constants = constants_put parameters.before.before.before in
-    let rank = rank_put constants.before.before.before in
+    let rank = rank_put constants.before.before.before.before.before in
     let verdict = verdict_put (rank_lent rank).before in
     puts_then verdict.put_verdict_line-after_verdict.ensures (puts_then rank.put_number_line-after_rank.ensures (puts_then constants.put_column_line-after_constants.ensures (puts_then parameters.put_row_line-after_parameters.ensures short.put_column_line.ensures)))
 

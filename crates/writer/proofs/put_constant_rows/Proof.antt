@@ -63,11 +63,11 @@ part_put_constant_row_end : tie.Need-slice_bounds-put_constant_row-end invariant
 part_put_constant_row_end c = omega (arith, room c)
 
 slice_aggregate_put_constant_row : tie.Need-slice_bounds-put_constant_row-end-in-loop-todo invariant-loop decreases-loop
-slice_aggregate_put_constant_row c = sym (length-take-le _ _ (left c.before.before).0)
+slice_aggregate_put_constant_row c = sym (length-take-le _ _ (left c.before).0)
 
 put_constant_row_requires : tie.Need-put_constant_row-at-requires invariant-loop decreases-loop
 put_constant_row_requires c κs =
-    let k = c.before.before in
+    let k = c.before in
     let n = columns k.before in
     let r = k.loop-todo.rest.now in
     let f = (left k).0 in

@@ -97,11 +97,11 @@ row_requires : tie.Need-row-requires invariant-loop decreases-loop
 row_requires c κs = search rules
 
 slice_aggregate_put_numbered_row : tie.Need-slice_bounds-put_numbered_row-end-in-loop-r invariant-loop decreases-loop
-slice_aggregate_put_numbered_row c = let k = c.before.before.before in sym (length-take-le _ _ (left k).0)
+slice_aggregate_put_numbered_row c = let k = c.before.before in sym (length-take-le _ _ (left k).0)
 
 put_numbered_row_requires : tie.Need-put_numbered_row-at-requires invariant-loop decreases-loop
 put_numbered_row_requires c κs =
-    let k = c.before.before.before in
+    let k = c.before.before in
     let s = entry k in
     let n = s.args.n in
     let l = k.loop-r in

@@ -58,7 +58,7 @@ first_state c Q shown full =
     let f = raised c in
     let w = c.before.before.before.before in
     descending_starts _ _ _ _ Q _ _ _ _ _ (begun f).requires.0 shown full _ w.below-all.ensures _ _ w.weights-weights.result f.first_heights-heights.ensures w.weights-weights.ensures c.tops-levels.ensures
-    (search (rules, c.tops-levels.type_inv)) (search (rules, f.first_heights-heights.ok))
+    (search (rules, c.tops-levels.type_inv)) (search (rules, f.first_heights-heights.type_inv))
 
 -- the state of a turn, of the constants that are known to be there
 now_state : (c : tie.At-loop-s invariant-loop decreases-loop) → let k = start c in let a = k.args in let l = c.loop-s in
@@ -91,7 +91,7 @@ slice_aggregate_tops_2 c = search rules
 
 tops_requires : tie.Need-tops-levels-requires invariant-loop decreases-loop
 tops_requires c κs =
-    let f = c.before.before.before.before.before.before in
+    let f = c.before.before.before.before.before in
     let r = (begun f).requires.0 in
     record {
       columns = r.columns;
@@ -112,13 +112,13 @@ slice_aggregate_solve_tight_2 c = search rules
 
 solve_tight_requires : tie.Need-solve_tight-s-requires invariant-loop decreases-loop
 solve_tight_requires c κs =
-    let t = c.before.before.before in
+    let t = c.before.before in
     let k = begun (raised t) in
     (k.requires.1.0, k.args.rowpowers.now, 0, first_state t k.requires.1.0 k.requires.1.1 k.requires.1.2)
 
 loop_holds : tie.Need-loop-s-init invariant-loop decreases-loop
 loop_holds c =
-    let t = c.before.before.before.before in (
+    let t = c.before.before.before in (
       refl,
       search (rules, (raised t).first_heights-heights.type_inv),
       search (rules, t.tops-levels.type_inv),
@@ -151,10 +151,10 @@ turn_small c Q d h =
 
 turn_requires : tie.Need-turn-rise-requires invariant-loop decreases-loop
 turn_requires c κs =
-    let m = entered c in
+    let m = entered c.before in
     let k = start m in
     let w = now_state m in
-    (k.requires.1.0, k.args.rowpowers.now, m.loop-s.risen, w.0, turn_small c k.requires.1.0 w.0 w.1)
+    (k.requires.1.0, k.args.rowpowers.now, m.loop-s.risen, w.0, turn_small c.before k.requires.1.0 w.0 w.1)
 
 cast_risen : tie.Need-overflow_cast-risen invariant-loop decreases-loop
 cast_risen c = search rules
@@ -176,37 +176,37 @@ slice_aggregate_solve_tight_4 c = search rules
 
 solve_tight_requires_2 : tie.Need-solve_tight-s-requires-in-loop-s invariant-loop decreases-loop
 solve_tight_requires_2 c κs =
-    let t = turned c.before.before.before in
-    let m = entered t.before in
+    let t = turned c.before.before in
+    let m = entered t.before.before in
     let k = start m in
     let w = now_state m in
-    (k.requires.1.0, k.args.rowpowers.now, m.loop-s.risen + t.turn-rise.result, (t.turn-rise.ensures k.requires.1.0 k.args.rowpowers.now m.loop-s.risen w.0 (turn_small t.before k.requires.1.0 w.0 w.1)).1)
+    (k.requires.1.0, k.args.rowpowers.now, m.loop-s.risen + t.turn-rise.result, (t.turn-rise.ensures k.requires.1.0 k.args.rowpowers.now m.loop-s.risen w.0 (turn_small t.before.before k.requires.1.0 w.0 w.1)).1)
 
 loop_less : tie.Need-loop-s-smaller invariant-loop decreases-loop
 loop_less c =
-    let t = turned c.before.before.before.before in
-    let m = entered t.before in
+    let t = turned c.before.before.before in
+    let m = entered t.before.before in
     let k = start m in
     let w = now_state m in
-    omega (arith, risen_small _ _ _ _ _ _ _ _ _ _ _ _ _ w.0, (t.turn-rise.ensures k.requires.1.0 k.args.rowpowers.now m.loop-s.risen w.0 (turn_small t.before k.requires.1.0 w.0 w.1)).0)
+    omega (arith, risen_small _ _ _ _ _ _ _ _ _ _ _ _ _ w.0, (t.turn-rise.ensures k.requires.1.0 k.args.rowpowers.now m.loop-s.risen w.0 (turn_small t.before.before k.requires.1.0 w.0 w.1)).0)
 
 -- a turn keeps the number of constants
-long : (c : tie.After-constants-1 invariant-loop decreases-loop) → length c.turn-rise.new.1.1.1.1.0 ≡ length (start (entered c.before.before)).args.constants.now
-long c = search (rules, (entered c.before.before).loop-s.invariant.0, c.constants.given)
+long : (c : tie.After-constants-1 invariant-loop decreases-loop) → length c.turn-rise.new.constants ≡ length (start (entered c.before.before)).args.constants.now
+long c = search (rules, (entered c.before.before.before).loop-s.invariant.0, c.constants.given)
 
 loop_again : tie.Need-loop-s-preserved invariant-loop decreases-loop
 loop_again c =
-    let t = turned c.before.before.before.before in
-    let m = entered t.before in
+    let t = turned c.before.before.before in
+    let m = entered t.before.before in
     let k = start m in
     let w = now_state m in
-    let next = (t.turn-rise.ensures k.requires.1.0 k.args.rowpowers.now m.loop-s.risen w.0 (turn_small t.before k.requires.1.0 w.0 w.1)).1 in (
-      long c.before.before.before.before.before.before.before,
+    let next = (t.turn-rise.ensures k.requires.1.0 k.args.rowpowers.now m.loop-s.risen w.0 (turn_small t.before.before k.requires.1.0 w.0 w.1)).1 in (
+      long c.before.before.before.before.before.before,
       next.height_count,
       next.level_count,
       λ Q shown full.
           let v = m.loop-s.invariant.3 Q shown full in
-          let d = (t.turn-rise.ensures Q k.args.rowpowers.now m.loop-s.risen v.0 (turn_small t.before Q v.0 v.1)).1 in
+          let d = (t.turn-rise.ensures Q k.args.rowpowers.now m.loop-s.risen v.0 (turn_small t.before.before Q v.0 v.1)).1 in
           (d, c.solve_tight-s-in-loop-s.ensures Q _ _ d),
     )
 

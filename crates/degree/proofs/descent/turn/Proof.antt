@@ -42,7 +42,7 @@ many_tops c = search (rules, c.tops-tops.type_inv)
 -- the rows are reduced
 rows_shown : (c : tie.After-reduce) → let a = (begun (weighed c).before).args in
     RowsShown a.p a.n a.a (reduced (field_of a.p) a.n (λ x. get_or (weighed c).weights-weights.result x 0) (λ h. get_or a.levels.now h 0) (tableau_of a.p a.n a.constants.now) a.a)
-    a.constants.now c.reduce.new.1.1.1.1.1.0
+    a.constants.now c.reduce.new.constants
 rows_shown c =
     let k = begun (weighed c).before in
     let a = k.args in
@@ -62,7 +62,7 @@ slice_aggregate_tops c = search rules
 
 tops_requires : tie.Need-tops-tops-requires
 tops_requires c κs =
-    let r = c.before.before.before.before.before in
+    let r = c.before.before.before in
     let k = begun (weighed r).before in
     let d = k.requires.3 in
     record {
@@ -80,7 +80,7 @@ slice_aggregate_rise : tie.Need-slice_bounds-rise-end
 slice_aggregate_rise c = search rules
 
 rise_requires : tie.Need-rise-rise-requires
-rise_requires c κs = let t = c.before.before in let d = (start t).requires.3 in (omega (arith, d.level_count, d.ready.columns), omega (arith, many_tops t, d.ready.columns))
+rise_requires c κs = let t = c.before in let d = (start t).requires.3 in (omega (arith, d.level_count, d.ready.columns), omega (arith, many_tops t, d.ready.columns))
 
 slice_aggregate_raise_levels : tie.Need-slice_bounds-raise_levels-end
 slice_aggregate_raise_levels c = search rules

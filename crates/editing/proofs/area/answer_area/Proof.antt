@@ -33,9 +33,9 @@ bytes c i = search (rules, c.shared_slice_known-1.given i)
 
 -- what was read is the area's file
 rows : (c : tie.After-read_rows-sizes)
-    → RowsReading (area_file (area c)) own_constants own_parameters c.read_rows-sizes.result c.read_rows-sizes.new.parameters (row_numbers c.read_rows-sizes.new.1.1.0)
+    → RowsReading (area_file (area c)) own_constants own_parameters c.read_rows-sizes.result c.read_rows-sizes.new.constants (row_numbers c.read_rows-sizes.new.parameters)
 rows c =
-    subst (λ (s : List ℕ). RowsReading s own_constants own_parameters c.read_rows-sizes.result c.read_rows-sizes.new.parameters (row_numbers c.read_rows-sizes.new.1.1.0))
+    subst (λ (s : List ℕ). RowsReading s own_constants own_parameters c.read_rows-sizes.result c.read_rows-sizes.new.constants (row_numbers c.read_rows-sizes.new.parameters))
     c.file_in-file.ensures c.read_rows-sizes.ensures
 
 file_in_requires : tie.Need-file_in-file-requires
@@ -82,7 +82,7 @@ returns_2 c =
 slice_aggregate_of_bytes : tie.Need-slice_bounds-of_bytes-end
 slice_aggregate_of_bytes c =
     let accepted = c.before.before in
-    let at_read = read accepted.before in
+    let at_read = read accepted in
     sym (length-take-le _ (area at_read) (omega (arith, area_long (area at_read) (bytes (lent at_read)) (read_accepted (area at_read) (bytes (lent at_read)) (rows at_read) accepted.if-sizes-ne0.false c.if-sizes.false))))
 
 of_bytes_requires : tie.Need-of_bytes-present-requires
@@ -102,7 +102,7 @@ returns_3 c =
     let shown = c.before.before.before in
     let plain = shown.before.before in
     let accepted = plain.before in
-    let at_read = read accepted.before in
+    let at_read = read accepted in
     answer_given (area at_read) (bytes (lent at_read)) (rows at_read) accepted.if-sizes-ne0.false plain.if-sizes.false shown.of_bytes-present.ensures.is_number c.offered_rank.ensures
 
 pub answer_area_spec : {M : Type 1} → statement M

@@ -45,7 +45,7 @@ element_copy_out_if2 c = search rules
 
 returns : tie.Need-returns-then-t-i-ne0 invariant-loop decreases-loop
 returns c =
-    let w = c.before.before.before in
+    let w = c.before.before.before.before in
     let l = (turn w).loop-q in
     let ey : w.widened-y.result ≡ owner_at (turn w).args.owner.now l.q = w.widened-y.ensures.0 in
     record { if_true = λ e. absurd (false≢true e); if_false = λ e. (l.q, omega arith, (omega (arith, ey, c.if-y-n.true), c.if-t-i-ne0.true)) }

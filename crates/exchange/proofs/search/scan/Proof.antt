@@ -27,7 +27,7 @@ union_requires c κs = search rules
 
 returns_2 : tie.Need-returns
 returns_2 c =
-    let first = c.before.before.before.before in
+    let first = c.before.before.before.before.before.before in
     let a = (begun first).args in
     rw c.union-next.ensures
     (scanned_both a.n a.rows _ _ (members (whole a.front)) a.a _ _ _ _ _ _ c.if-m-rows.false

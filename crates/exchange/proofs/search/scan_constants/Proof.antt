@@ -108,7 +108,7 @@ mul_if2 : tie.Need-offset_bounds-t-i invariant-loop decreases-loop invariant-sea
 mul_if2 c = omega (arith, (there c).0)
 
 element_copy_out_if2 : tie.Need-bounds-t-i invariant-loop decreases-loop invariant-search decreases-search
-element_copy_out_if2 c = omega (arith, (there c).0)
+element_copy_out_if2 c = omega (arith, (there c.before).0)
 
 element_copy_out_widened : tie.Need-bounds-owner-q invariant-loop decreases-loop invariant-search decreases-search
 element_copy_out_widened c = search rules
@@ -153,13 +153,13 @@ without_requires c κs = search rules
 
 loop_less_2 : tie.Need-loop-rest-smaller invariant-loop decreases-loop invariant-search decreases-search
 loop_less_2 c =
-    let s = c.before.before.before in
+    let s = c.before.before.before.before in
     let w = there s in
     rw c.without-rest.ensures (removed_less width (members (whole (turn s).loop-rest.rest)) s.first-x.result w.0 w.1)
 
 loop_again_2 : tie.Need-loop-rest-preserved invariant-loop decreases-loop invariant-search decreases-search
 loop_again_2 c =
-    let s = c.before.before.before in
+    let s = c.before.before.before.before in
     let l = (turn s).loop-rest in
     let a = (begun (row_turn (turn s))).args in
     let q = (row_turn (turn s)).search.q - 1 in

@@ -131,14 +131,14 @@ unfolding refusal model_tests
 returns_5 c = after_rows c.before.before _ _ (first_fails _ _ _ (sym c.numbers_held.ensures ∙ not-true _ c.if-not-numbers_held.true-raw))
 
 slice_aggregate_constants_below : tie.Need-slice_bounds-constants_below-end
-slice_aggregate_constants_below c = sym (length-take-le _ _ (rows_passed c.before).if-constants-k.false)
+slice_aggregate_constants_below c = sym (length-take-le _ _ (rows_passed c).if-constants-k.false)
 
 constants_below_requires : tie.Need-constants_below-requires
 constants_below_requires c κs = search rules
 
 returns_6 : tie.Need-returns-then-not-constants_below
 unfolding refusal model_tests
-returns_6 c = after_areas c.before.before.before _ _ (first_fails _ _ _ (sym c.constants_below.ensures ∙ not-true _ c.if-not-constants_below.true-raw))
+returns_6 c = after_areas c.before.before _ _ (first_fails _ _ _ (sym c.constants_below.ensures ∙ not-true _ c.if-not-constants_below.true-raw))
 
 parameters_within_requires : tie.Need-parameters_within-requires
 parameters_within_requires c κs = search rules

@@ -105,9 +105,9 @@ returns_2 c =
     let j = judged e in
     let a = (entry j).args in
     let t = next_part j.judge_parameter_row-row.ensures e.if-row-ne0.false (ends e) in
-    let own = subst (λ (u : List ℕ). NumbersJudged (number_field d.size.result) (λ before ks. before ++ ks) u a.table.now d.judge_numbers.new.1.1.0 d.judge_numbers.result) t d.judge_numbers.ensures in
+    let own = subst (λ (u : List ℕ). NumbersJudged (number_field d.size.result) (λ before ks. before ++ ks) u a.table.now d.judge_numbers.new.table d.judge_numbers.result) t d.judge_numbers.ensures in
     let counted = d.size.ensures ∙ count e in
-    let mine = subst (λ (k : ℕ). NumbersJudged (number_field k) (λ before ks. before ++ ks) ((parameter_row a.n).rest a.rest.now) a.table.now d.judge_numbers.new.1.1.0 d.judge_numbers.result) counted own in
+    let mine = subst (λ (k : ℕ). NumbersJudged (number_field k) (λ before ks. before ++ ks) ((parameter_row a.n).rest a.rest.now) a.table.now d.judge_numbers.new.table d.judge_numbers.result) counted own in
     record {
       same_length = mine.same_length;
       judged = λ before h. after_passed ((parameter_row a.n).tests a.rest.now) (passed e) (mine.judged before h);

@@ -67,7 +67,7 @@ row_requires : tie.Need-row-requires invariant-loop decreases-loop
 row_requires c κs = search rules
 
 slice_aggregate_meet_row_2 : tie.Need-slice_bounds-meet_row-end-in-loop-r invariant-loop decreases-loop
-slice_aggregate_meet_row_2 c = let k = c.before.before.before in sym (length-take-le _ _ (room k).0)
+slice_aggregate_meet_row_2 c = let k = c.before.before in sym (length-take-le _ _ (room k).0)
 
 meet_row_requires : tie.Need-meet_row-requires invariant-loop decreases-loop
 meet_row_requires c κs = c.loop-r.invariant.2

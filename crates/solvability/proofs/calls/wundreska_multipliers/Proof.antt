@@ -82,7 +82,7 @@ returns_2 c =
     refused_beside (closed fields a.file.now) (columns_asked k) (area_test set_bytes (length a.held.now)) multipliers_length (Written k) a.answer.now c.if-answer-lt-MULTIPLIERS_LENGTH.false (lt-leb _ _ c.if-held-lt-SET_BYTES.true) _ c.refuse_area-then-held-lt-SET_BYTES.ensures
 
 slice_aggregate_of_bytes : tie.Need-slice_bounds-of_bytes-end
-slice_aggregate_of_bytes c = sym (length-take-le _ (begun c.before.before.before).args.held.now (omega (arith, c.if-held-lt-SET_BYTES.false)))
+slice_aggregate_of_bytes c = sym (length-take-le _ (begun c.before.before).args.held.now (omega (arith, c.if-held-lt-SET_BYTES.false)))
 
 of_bytes_requires : tie.Need-of_bytes-set-requires
 of_bytes_requires c κs = search rules
