@@ -178,7 +178,7 @@ loop_again c =
     rw (c.intersection-awake.ensures, c.union.ensures, w.difference-rest.ensures) (
       watched_listed a.needs.now (rest k) (members (whole k.loop-waiting.awake)) S (members (whole w.woken.result)) k.loop-waiting.waiting k.loop-waiting.invariant.0 w.woken.ensures,
       λ n E b t h v. listing_more n E b t (columns k) a.rows.now a.needs.now h v k.loop-waiting.k (rest k) k.loop-waiting.numbers (k.loop-waiting.invariant.1 n E b t h v) (left (chosen (permitted d).before))
-          (column d) (next_is d n E b t h v) S (block_is d) p.number_block.last.0 p.number_block.ensures,
+          (column d) (next_is d n E b t h v) S (block_is d) p.number_block.new.numbers p.number_block.ensures,
     )
 
 slice_aggregate_wait : tie.Need-slice_bounds-wait-end invariant-loop decreases-loop

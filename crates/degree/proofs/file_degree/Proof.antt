@@ -54,7 +54,7 @@ returns c =
 
 -- what was read is accepted
 accepted : (c : tie.Else-sizes-ne0) → let r = read c.before in let s = r.read_rows-sizes.result in
-    Accepted s.p s.n s.a s.b r.read_rows-sizes.last.1.0 (row_numbers r.read_rows-sizes.last.1.1.0) none
+    Accepted s.p s.n s.a s.b r.read_rows-sizes.new.constants (row_numbers r.read_rows-sizes.new.parameters) none
 accepted c = let r = read c.before in model_accepted _ _ _ _ _ _ _ (own_accepted (file_bytes r) r.read_rows-sizes.ensures c.if-sizes-ne0.false)
 
 areas_hold_requires : tie.Need-areas_hold-requires
@@ -102,7 +102,7 @@ returns_3 c =
     let a = (begun r).args in
     own_call (file_bytes r) r.read_rows-sizes.ensures o.if-sizes-ne0.false a.rowpowers.now a.columnpowers.now a.parameterpowers.now k.ask.result
     (call_as (areas_passed s.n s.a s.b a.rowpowers.now a.columnpowers.now a.parameterpowers.now _ (sym h.areas_hold.ensures ∙ not-false _ e.if-not-areas_hold.false-raw))
-    (λ x. x) (k.ask.ensures (tableau_of s.p s.n r.read_rows-sizes.last.1.0) (λ i x li lx. refl)))
+    (λ x. x) (k.ask.ensures (tableau_of s.p s.n r.read_rows-sizes.new.constants) (λ i x li lx. refl)))
 
 pub file_degree_spec : {M : Type 1} → statement M
 file_degree_spec =

@@ -15,7 +15,7 @@ begun c = c.before.before.before
 
 -- the columns present are a set
 fits : (c : tie.Start) → Fits c.args.present
-fits c = search (rules, c.well-formed)
+fits c = search (rules, c.well_formed)
 
 -- the model is not refused
 accepted : (c : tie.Else-judged-ne0) → let a = (begun c.before).args in refusal a.p a.n a.a a.b a.constants.now (row_numbers a.parameters.now) none ≡ 0

@@ -89,8 +89,8 @@ returns c =
     let k = begun (offered close).before in
     let a = k.args in
     let ws = row_numbers a.parameters.now in
-    let t = offers.last.0 in
-    let o = offers.last.1.0 in
+    let t = offers.new.t in
+    let o = offers.new.owner in
     let all = members (whole a.offered) in
     let free = none_owned a.n (a.a + a.b) (omega arith) in (
       refl,

@@ -14,6 +14,7 @@ use Rattle.exchange.proofs.ReductionLaws.{Reducible, reducible_reads, rows_shown
 use borrow.Author.Rules.{rules}
 use native.Mathlib.Omega.{arith}
 use Rattle.exchange.proofs.reduce.Statement.{statement}
+use Rattle.exchange.proofs.reduce.Lts.{then-p-eq-LISTED_PRIME, else-p-eq-LISTED_PRIME}
 use Rattle.exchange.proofs.reduce.Tie as tie
 
 -- where the call begins, seen from behind its test
@@ -47,7 +48,7 @@ filled c =
 -- the tableau when its rows are reduced, by either table of inverses
 worked : (c : tie.Joined-p-eq-LISTED_PRIME) → let a = (start c.before).args in
     TableauArray a.p c.if-p-eq-LISTED_PRIME.t × Reduced a.p a.n a.a a.weights.now a.levels.now a.a c.fill.new.t c.if-p-eq-LISTED_PRIME.t
-worked c = ⊎_elim (λ w. rw w.5 w.4.ensures) (λ w. rw w.4 w.3.ensures) c.if-p-eq-LISTED_PRIME.branch
+worked c = elim c.if-p-eq-LISTED_PRIME.branch [ then-p-eq-LISTED_PRIME w ↦ rw w.t-is w.reduce_rows.ensures | else-p-eq-LISTED_PRIME w ↦ rw w.t-is w.reduce_rows.ensures ]
 
 is_reducible_requires : tie.Need-is_reducible-requires
 is_reducible_requires c κs = search rules

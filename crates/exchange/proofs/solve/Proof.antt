@@ -65,7 +65,7 @@ solved c r h =
     let k = accepted c in
     let start = begun k.before in
     let a = start.args in
-    let below : (x : ℕ) → x ∈ members (whole a.offered) → x < a.n = λ x e. (within_iff a.n (whole a.offered)).0 (good k).inside x (columns_below a.offered x (search (rules, start.good.1.1.1.1.0)) e) e in
+    let below : (x : ℕ) → x ∈ members (whole a.offered) → x < a.n = λ x e. (within_iff a.n (whole a.offered)).0 (good k).inside x (columns_below a.offered x (search (rules, start.well_formed.1.1.1.1.0)) e) e in
     record {
       is_valid = h.0 ∙ sym (taken k);
       if_not = λ z. absurd (true≢false (sym (taken k) ∙ z));

@@ -53,7 +53,7 @@ sets_fit c = let sets = c.solve-s.type_inv.1.1.1.1 in (search (rules, sets.0), s
 
 -- the columns offered are a set
 offered_fits : (c : tie.After-solve-s) → Fits (entry c).args.offered
-offered_fits c = search (rules, (entry c).well-formed)
+offered_fits c = search (rules, (entry c).well_formed)
 
 -- what holds where the solver takes the model
 

@@ -16,6 +16,7 @@ use Rattle.mixed.specs.MixedForm.{serves}
 use borrow.Author.Rules.{rules}
 use native.Mathlib.Omega.{arith}
 use Rattle.mixed.proofs.idle_rows.Statement.{statement}
+use Rattle.mixed.proofs.idle_rows.Lts.{then-not-serves_original, else-not-serves_original}
 use Rattle.mixed.proofs.idle_rows.Tie as tie
 
 -- the idle rows below k
@@ -71,10 +72,10 @@ loop_again c =
     let a = (turn c).args in
     let s = c.serves_original in (
       search rules,
-      ⊎_elim
-          (λ w. rw (w.2, w.1.ensures) (idle_more a.m a.t1 l.i (members (whole l.idle)) (omega arith) (s.ensures.1 (not-true _ w.0.taken)) l.invariant.1))
-          (λ w. rw w.1 (idle_same a.m a.t1 l.i (members (whole l.idle)) (s.ensures.0 (not-false _ w.0.left)) l.invariant.1))
-          c.if-not-serves_original.branch,
+      elim c.if-not-serves_original.branch [
+        | then-not-serves_original w ↦ rw (w.idle-is, w.with-idle.ensures) (idle_more a.m a.rows l.i (members (whole l.idle)) (omega arith) (s.ensures.1 (not-true _ w.if-not-serves_original.true-raw)) l.invariant.1)
+        | else-not-serves_original w ↦ rw w.idle-is (idle_same a.m a.rows l.i (members (whole l.idle)) (s.ensures.0 (not-false _ w.if-not-serves_original.false-raw)) l.invariant.1)
+      ],
     )
 
 returns : tie.Need-returns invariant-loop decreases-loop

@@ -39,7 +39,7 @@ long k =
 
 -- the set and the flag behind it
 first_part : (c : tie.After-flag) → let p = set_put c in let a = (begun (with_room p)).args in
-    Wrote (reason_bytes a.answer) (entry_bytes a.answer.multipliers) a.out.now (set p.put_set.last.0 12 c.flag.result) 13
+    Wrote (reason_bytes a.answer) (entry_bytes a.answer.multipliers) a.out.now (set p.put_set.new.out 12 c.flag.result) 13
 first_part c =
     let p = set_put c in
     let at-else = with_room p in
@@ -54,7 +54,7 @@ first_part c =
     (ap (λ (v : ℕ). v ∷ entry_bytes r.multipliers) (sym c.flag.ensures))
 
 -- all bytes
-written : (c : tie.After-slice_known-3-1) → let f = flagged c in let p = set_put f in let a = (begun (with_room p)).args in let d = set p.put_set.last.0 12 f.flag.result in
+written : (c : tie.After-slice_known-3-1) → let f = flagged c in let p = set_put f in let a = (begun (with_room p)).args in let d = set p.put_set.new.out 12 f.flag.result in
     Wrote (reason_bytes a.answer) [] a.out.now (take 13 d ++ (c.put_each.new.out ++ drop (length d - 13) (drop 13 d))) (13 + 2 * most_columns)
 written c =
     let f = flagged c in

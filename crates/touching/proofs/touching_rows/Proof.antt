@@ -13,6 +13,7 @@ use Rattle.columns.specs.ColumnSets.{whole, row_numbers, rows_touching}
 use Rattle.columns.specs.Words.Sets.{columns_below}
 use Rattle.touching.specs.RowCountLaws.{count_touching}
 use Rattle.touching.proofs.touching_rows.Statement.{statement}
+use Rattle.touching.proofs.touching_rows.Lts.{then-touches, else-touches}
 use Rattle.touching.proofs.touching_rows.Tie as tie
 
 abbrev invariant-loop : tie.invariant-loop-r
@@ -60,10 +61,10 @@ loop_again c =
     let S = rows_touching (row_numbers (begun l).args.parameters.now) (members (whole l.intersection-inside.result)) in
     let met : c.touches.result ≡ S l.loop-r.r = c.touches.ensures ∙ ap (λ (w : ℕ). any width (members (whole l.intersection-inside.result) ∩ members w)) c.row.ensures in (
       search rules,
-      ⊎_elim
-          (λ w. rw w.1 (omega (arith, l.loop-r.invariant.1, #-next l.loop-r.r S true (sym met ∙ w.0.taken))))
-          (λ w. rw w.1 (omega (arith, l.loop-r.invariant.1, #-next l.loop-r.r S false (sym met ∙ w.0.left))))
-          c.if-touches.branch,
+      elim c.if-touches.branch [
+        | then-touches w ↦ rw w.count-is (omega (arith, l.loop-r.invariant.1, #-next l.loop-r.r S true (sym met ∙ w.if-touches.true)))
+        | else-touches w ↦ rw w.count-is (omega (arith, l.loop-r.invariant.1, #-next l.loop-r.r S false (sym met ∙ w.if-touches.false)))
+      ],
     )
 
 returns : tie.Need-returns invariant-loop decreases-loop
@@ -76,7 +77,7 @@ returns c =
     l.loop-r.invariant.1
     ∙ ap (λ (k : ℕ). # k (rows_touching ws (members (whole l.intersection-inside.result)))) done
     ∙ ap (λ (S : Set). # (min a.b (length ws)) (rows_touching ws S)) inside
-    ∙ count_touching a.n a.b ws (members (whole a.set)) (λ x e. columns_below a.set x (search (rules, (begun l).well-formed.1.1.1.0)) e)
+    ∙ count_touching a.n a.b ws (members (whole a.set)) (λ x e. columns_below a.set x (search (rules, (begun l).well_formed.1.1.1.0)) e)
 
 pub touching_rows_spec : {M : Type 1} → statement M
 touching_rows_spec =

@@ -31,7 +31,7 @@ unfolding numbered_row_bytes
 fits s = omega (arith, length-append (row s) (own s), s.requires.2)
 
 -- there is room behind the row
-room : (c : tie.After-slice_known-2-1) → let r = (row_put c).put_parameter_row-at in (r.result ≤ length r.last.0) × (length (own (entry (row_put c))) ≤ length r.last.0 - r.result)
+room : (c : tie.After-slice_known-2-1) → let r = (row_put c).put_parameter_row-at in (r.result ≤ length r.new.out) × (length (own (entry (row_put c))) ≤ length r.new.out - r.result)
 room c =
     let r = (row_put c).put_parameter_row-at.ensures in
     let f = fits (entry (row_put c)) in
@@ -57,7 +57,7 @@ put_numbers_requires c κs =
     (s.requires.0, s.requires.1, omega (arith, room d, left_length (row_put d).put_parameter_row-at.result (row_put d).put_parameter_row-at.new.out))
 
 add_result : tie.Need-overflow_add-result
-add_result c = let d = c.before.before in let r = row_put d.before.before in let s = entry r in omega (arith, r.put_parameter_row-at.ensures.many_is, d.put_numbers.ensures.many_is, fits s, s.good)
+add_result c = let d = c.before.before in let r = row_put d.before.before in let s = entry r in omega (arith, r.put_parameter_row-at.ensures.many_is, d.put_numbers.ensures.many_is, fits s, s.well_formed)
 
 same_length : tie.Need-shape_of-out
 same_length c = search rules

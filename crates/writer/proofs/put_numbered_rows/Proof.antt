@@ -113,7 +113,7 @@ put_numbered_row_requires c κs =
     )
 
 add_at : tie.Need-overflow_add-at invariant-loop decreases-loop
-add_at c = let m = (written (put c)).many_is in omega (arith, m, room (turn (put c)), (entry (turn (put c))).good)
+add_at c = let m = (written (put c)).many_is in omega (arith, m, room (turn (put c)), (entry (turn (put c))).well_formed)
 
 mul_rest : tie.Need-offset_bounds-rest-n invariant-loop decreases-loop
 mul_rest c = omega (arith, (entry (turn (put c))).requires.0)

@@ -29,7 +29,7 @@ abbrev behind_head : tie.After-slice_known-3-1 → tie.After-slice_known-2-1
 behind_head c = (set_put c).before.before
 
 -- there is room behind the head
-room : (c : tie.After-slice_known-2-1) → let h = (head_put c).put_head-at in h.result ≤ length h.last.0
+room : (c : tie.After-slice_known-2-1) → let h = (head_put c).put_head-at in h.result ≤ length h.new.out
 room c =
     let s = entry (head_put c).before in
     let h = (head_put c).put_head-at.ensures in

@@ -61,7 +61,7 @@ put_entry_requires : tie.Need-put_entry-at-requires invariant-loop decreases-loo
 put_entry_requires c κs = (c.loop-c-test.true, (room c.before).1)
 
 add_at : tie.Need-overflow_add-at invariant-loop decreases-loop
-add_at c = let d = c.before.before in let m = d.put_entry-at.ensures.many_is in omega (arith, m, room (turn d), (entry (turn d)).good)
+add_at c = let d = c.before.before in let m = d.put_entry-at.ensures.many_is in omega (arith, m, room (turn d), (entry (turn d)).well_formed)
 
 add_c : tie.Need-overflow_add-c invariant-loop decreases-loop
 add_c c = search rules

@@ -14,6 +14,7 @@ use Rattle.degree.proofs.LevelLaws.{Keeping, keeping_start, keeping_stays, keepi
 use borrow.Author.Rules.{rules}
 use native.Mathlib.Omega.{arith}
 use Rattle.degree.proofs.levels.at_level.Statement.{statement}
+use Rattle.degree.proofs.levels.at_level.Lts.{then-powers-from, else-powers-from}
 use Rattle.degree.proofs.levels.at_level.Tie as tie
 
 abbrev invariant-loop : tie.invariant-loop-rest
@@ -94,10 +95,10 @@ loop_again c =
     let rest = members (whole l.rest) in
     let kept = members (whole l.kept) in
     rw c.without-rest.ensures
-    (⊎_elim
-    (λ w. rw (w.2, w.1.ensures) (keeping_goes a.from a.level a.powers.now a.heights.now row rest kept x w.0.taken l.invariant))
-    (λ w. rw w.1 (keeping_stays a.from a.level a.powers.now a.heights.now row rest kept x (there f).1 w.0.left l.invariant))
-    c.if-powers-from.branch)
+    (elim c.if-powers-from.branch [
+      | then-powers-from w ↦ rw (w.kept-is, w.without-kept.ensures) (keeping_goes a.from a.level a.powers.now a.heights.now row rest kept x w.if-powers-from.true l.invariant)
+      | else-powers-from w ↦ rw w.kept-is (keeping_stays a.from a.level a.powers.now a.heights.now row rest kept x (there f).1 w.if-powers-from.false l.invariant)
+    ])
 
 returns : tie.Need-returns invariant-loop decreases-loop
 returns c =

@@ -16,6 +16,7 @@ use Rattle.degree.proofs.TopLaws.{Seeking, seeking_start, seeking_more, seeking_
 use borrow.Author.Rules.{rules}
 use native.Mathlib.Omega.{arith}
 use Rattle.degree.proofs.levels.parameter_top.Statement.{statement}
+use Rattle.degree.proofs.levels.parameter_top.Lts.{then-w-top, else-w-top}
 use Rattle.degree.proofs.levels.parameter_top.Tie as tie
 
 abbrev invariant-loop : tie.invariant-loop-rest
@@ -81,10 +82,10 @@ loop_again c =
     let l = (turn f).loop-rest in
     let x = f.first-x.result in
     rw c.without-rest.ensures
-    (⊎_elim
-    (λ w. rw w.1 (seeking_more x (low f) (there f).1 w.0.taken l.invariant))
-    (λ w. rw w.1 (seeking_same x w.0.left l.invariant))
-    c.if-w-top.branch)
+    (elim c.if-w-top.branch [
+      | then-w-top w ↦ rw w.top-is (seeking_more x (low f) (there f).1 w.if-w-top.true l.invariant)
+      | else-w-top w ↦ rw w.top-is (seeking_same x w.if-w-top.false l.invariant)
+    ])
 
 returns : tie.Need-returns invariant-loop decreases-loop
 returns c =

@@ -12,6 +12,7 @@ use Rattle.degree.proofs.LevelLaws.{tight_row_none, tight_row_more}
 use borrow.Author.Rules.{rules}
 use native.Mathlib.Omega.{arith}
 use Rattle.degree.proofs.levels.tight_row.Statement.{statement}
+use Rattle.degree.proofs.levels.tight_row.Lts.{then-weights-x, else-weights-x}
 use Rattle.degree.proofs.levels.tight_row.Tie as tie
 
 abbrev invariant-loop : tie.invariant-loop-x
@@ -58,10 +59,10 @@ loop_again c =
     let w = get_or a.weights.now l.x 0 in
     let v = get_or a.constants.now (a.from + l.x) 0 in
     let kept : c.if-weights-x.out ≡ cond (eqb w a.level) v 0 =
-    ⊎_elim
-    (λ z. z.1 ∙ sym (ap (λ (b : Bool). cond b v 0) (eq-eqb w a.level z.0.taken)))
-    (λ z. z.1 ∙ sym (ap (λ (b : Bool). cond b v 0) (ne_eqb w a.level z.0.left)))
-    c.if-weights-x.branch in
+    elim c.if-weights-x.branch [
+      | then-weights-x z ↦ z.out-is ∙ sym (ap (λ (b : Bool). cond b v 0) (eq-eqb w a.level z.if-weights-x.true))
+      | else-weights-x z ↦ z.out-is ∙ sym (ap (λ (b : Bool). cond b v 0) (ne_eqb w a.level z.if-weights-x.false))
+    ] in
     let room : a.from + l.x < length l.out = omega (arith, l.invariant.1.same_length) in
     (search rules, tight_row_more l.x a.from a.level a.constants.now a.weights.now a.out.now l.out _ room kept l.invariant.1)
 

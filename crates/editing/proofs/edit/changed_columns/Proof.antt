@@ -48,13 +48,13 @@ returns_3 : tie.Need-returns-in-SetPlace
 unfolding columns_done present_done
 returns_3 c =
     let a = c.args in
-    word_members width (whole a.present) (whole_below _ (search (rules, c.before.before.well-formed))) ∙ sym (ap (λ (e : Edit). columns_done (whole a.present) (meant e)) c.enum_told.given.1)
+    word_members width (whole a.present) (whole_below _ (search (rules, c.before.before.well_formed))) ∙ sym (ap (λ (e : Edit). columns_done (whole a.present) (meant e)) c.enum_told.given.1)
 
 returns_4 : tie.Need-returns-in-ClearPlace
 unfolding columns_done present_done
 returns_4 c =
     let a = c.args in
-    word_members width (whole a.present) (whole_below _ (search (rules, c.before.before.well-formed))) ∙ sym (ap (λ (e : Edit). columns_done (whole a.present) (meant e)) c.enum_told-in-ClearPlace-1.given.1)
+    word_members width (whole a.present) (whole_below _ (search (rules, c.before.before.well_formed))) ∙ sym (ap (λ (e : Edit). columns_done (whole a.present) (meant e)) c.enum_told-in-ClearPlace-1.given.1)
 
 pub changed_columns_spec : {M : Type 1} → statement M
 changed_columns_spec =

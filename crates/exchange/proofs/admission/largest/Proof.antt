@@ -10,6 +10,7 @@ use borrow.Author.Rules.{rules}
 use native.Mathlib.Omega.{arith}
 use Rattle.exchange.proofs.admission.largest.Statement.{statement}
 use Rattle.exchange.proofs.admission.largest.Tie as tie
+use Rattle.exchange.proofs.admission.largest.Lts.{then-v-top, else-v-top}
 
 largest_more : (cs : List ℕ) (k top : ℕ) → top < get_or cs k 0 → Largest cs k top → Largest cs (k + 1) (get_or cs k 0)
 largest_more cs k top l h = record {
@@ -53,10 +54,10 @@ loop_again c =
     let l = (turn c).loop-i in
     let cs = (turn c).args.constants.now in (
       omega arith,
-      ⊎_elim
-          (λ w. rw w.1 (largest_more cs l.i l.top w.0.taken l.invariant.1))
-          (λ w. rw w.1 (largest_same cs l.i l.top w.0.left l.invariant.1))
-          c.if-v-top.branch,
+      elim c.if-v-top.branch [
+        | then-v-top w ↦ rw w.top-is (largest_more cs l.i l.top w.if-v-top.true l.invariant.1)
+        | else-v-top w ↦ rw w.top-is (largest_same cs l.i l.top w.if-v-top.false l.invariant.1)
+      ],
     )
 
 returns : tie.Need-returns invariant-loop decreases-loop

@@ -9,6 +9,7 @@ use Rattle.exchange.proofs.ArcLaws.{Support, support_none, support_more, support
 use borrow.Author.Rules.{rules}
 use native.Mathlib.Omega.{arith}
 use Rattle.exchange.proofs.arcs.support.Statement.{statement}
+use Rattle.exchange.proofs.arcs.support.Lts.{then-t-i-ne0, else-t-i-ne0}
 use Rattle.exchange.proofs.arcs.support.Tie as tie
 
 abbrev invariant-loop : tie.invariant-loop-x
@@ -49,10 +50,10 @@ loop_again c =
     let l = c.loop-x in
     let a = c.args in (
       search rules,
-      ⊎_elim
-          (λ w. rw (w.2, w.1.ensures) (support_more a.t.now a.q l.x (members (whole l.set)) l.invariant.1 (omega arith) w.0.taken))
-          (λ w. rw w.1 (support_skip a.t.now a.q l.x (members (whole l.set)) l.invariant.1 w.0.left))
-          c.if-t-i-ne0.branch,
+      elim c.if-t-i-ne0.branch [
+        | then-t-i-ne0 w ↦ rw (w.set-is, w.with-set.ensures) (support_more a.t.now a.q l.x (members (whole l.set)) l.invariant.1 (omega arith) w.if-t-i-ne0.true)
+        | else-t-i-ne0 w ↦ rw w.set-is (support_skip a.t.now a.q l.x (members (whole l.set)) l.invariant.1 w.if-t-i-ne0.false)
+      ],
     )
 
 returns : tie.Need-returns invariant-loop decreases-loop

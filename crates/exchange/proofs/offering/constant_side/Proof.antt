@@ -11,6 +11,7 @@ use Rattle.exchange.proofs.AnswerLaws.{side_none, side_more, side_skip}
 use borrow.Author.Rules.{rules}
 use native.Mathlib.Omega.{arith}
 use Rattle.exchange.proofs.offering.constant_side.Statement.{statement}
+use Rattle.exchange.proofs.offering.constant_side.Lts.{then-y-n, else-y-n}
 use Rattle.exchange.proofs.offering.constant_side.Tie as tie
 
 abbrev invariant-loop : tie.invariant-loop-q
@@ -51,10 +52,10 @@ loop_again c =
     let y = c.widened-y.result in
     let ey : y ≡ owner_at a.owner.now l.q = c.widened-y.ensures.0 in (
       search rules,
-      ⊎_elim
-          (λ w. rw (w.2, w.1.ensures ∙ ap (inserted (members (whole l.side))) ey) (side_more a.n l.q a.owner.now (members (whole l.side)) l.invariant.1 (omega arith) (rw ey at w.0.taken)))
-          (λ w. rw w.1 (side_skip a.n l.q a.owner.now (members (whole l.side)) l.invariant.1 (rw ey at w.0.left)))
-          c.if-y-n.branch,
+      elim c.if-y-n.branch [
+        | then-y-n w ↦ rw (w.side-is, w.with-side.ensures ∙ ap (inserted (members (whole l.side))) ey) (side_more a.n l.q a.owner.now (members (whole l.side)) l.invariant.1 (omega arith) (rw ey at w.if-y-n.true))
+        | else-y-n w ↦ rw w.side-is (side_skip a.n l.q a.owner.now (members (whole l.side)) l.invariant.1 (rw ey at w.if-y-n.false))
+      ],
     )
 
 returns : tie.Need-returns invariant-loop decreases-loop

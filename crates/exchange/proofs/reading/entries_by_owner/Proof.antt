@@ -8,6 +8,7 @@ use Rattle.exchange.proofs.ReadingLaws.{entries_none, entries_more, entries_skip
 use borrow.Author.Rules.{rules}
 use native.Mathlib.Omega.{arith}
 use Rattle.exchange.proofs.reading.entries_by_owner.Statement.{statement}
+use Rattle.exchange.proofs.reading.entries_by_owner.Lts.{then-y-n, else-y-n}
 use Rattle.exchange.proofs.reading.entries_by_owner.Tie as tie
 
 abbrev invariant-loop : tie.invariant-loop-q
@@ -61,10 +62,10 @@ loop_again c =
     let y = c.widened-y.result in
     let ey : y ≡ owner_at a.owner.now l.q = c.widened-y.ensures.0 in (
       search rules,
-      ⊎_elim
-          (λ w. rw w.2 (entries_more a.n a.x a.t.now a.owner.now l.q l.entries l.invariant.1 y ey k.requires.0.columns w.0.taken))
-          (λ w. rw w.1 (entries_skip a.n a.x a.t.now a.owner.now l.q l.entries l.invariant.1 (rw ey at w.0.left)))
-          c.if-y-n.branch,
+      elim c.if-y-n.branch [
+        | then-y-n w ↦ rw w.entries-is (entries_more a.n a.x a.t.now a.owner.now l.q l.entries l.invariant.1 y ey k.requires.0.columns w.if-y-n.true)
+        | else-y-n w ↦ rw w.entries-is (entries_skip a.n a.x a.t.now a.owner.now l.q l.entries l.invariant.1 (rw ey at w.if-y-n.false))
+      ],
     )
 
 returns : tie.Need-returns invariant-loop decreases-loop

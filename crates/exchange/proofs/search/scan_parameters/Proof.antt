@@ -55,7 +55,7 @@ between c t x q i l m later = let a = (begun (turn c)).args in let e = (turn c).
       | yes lr ↦ (last_one c).last lr (q - a.a) (omega (arith, later lr)) (omega arith)
       | no nr ↦ (last_one c).no_member (omega arith) (q - a.a) (omega arith)
     ])
-    (columns_below a.front x (search (rules, (begun (turn c)).good.1.1.1.1.1.0)) i) i
+    (columns_below a.front x (search (rules, (begun (turn c)).well_formed.1.1.1.1.1.0)) i) i
 
 empty_requires : tie.Need-empty-next-requires invariant-search decreases-search
 empty_requires c κs = search rules

@@ -67,11 +67,11 @@ first_seeks c = seeks c.search-f.result _ (omega arith) (omega arith) (starts (s
 
 -- what a turn of the loop has, when it has searched again
 
-turned_arrays : (c : tie.After-search-f-in-loop-f invariant-loop decreases-loop) → let a = (entry (turn c)).args in let st = (sat c).seat in Arrays a.p a.n a.a a.b st.last.0 st.last.1.0
+turned_arrays : (c : tie.After-search-f-in-loop-f invariant-loop decreases-loop) → let a = (entry (turn c)).args in let st = (sat c).seat in Arrays a.p a.n a.a a.b st.new.t st.new.owner
 turned_arrays c = let st = (sat c).seat in seated (turn c).loop-f.invariant.0 st.ensures.0 st.ensures.1
 
 turned_seeks : (c : tie.After-search-f-in-loop-f invariant-loop decreases-loop) → let a = (entry (turn c)).args in let st = (sat c).seat in
-    Seeks a.n a.a a.b (row_numbers a.parameters.now) a.j st.last.0 st.last.1.0 c.search-f-in-loop-f.result
+    Seeks a.n a.a a.b (row_numbers a.parameters.now) a.j st.new.t st.new.owner c.search-f-in-loop-f.result
 turned_seeks c =
     let given = (entry (turn c)).requires in
     seeks c.search-f-in-loop-f.result _ given.2 (omega (arith, given.0.lengths.columns)) (starts (start (searched (turn c)))) c.search-f-in-loop-f.ensures

@@ -40,7 +40,7 @@ loop_holds : tie.Need-loop-todo-init invariant-loop decreases-loop
 loop_holds c = let s = c.before.before in wrote_none _ _ (omega (arith, numbers_said_length s.args.n s.args.b s.args.file.now, s.requires.1))
 
 mul_put_field : tie.Need-offset_bounds-out-at invariant-loop decreases-loop
-mul_put_field c = omega (arith, room c, (entry c.before).good)
+mul_put_field c = omega (arith, room c, (entry c.before).well_formed)
 
 sub_put_field : tie.Need-slice_bounds-put_field-count invariant-loop decreases-loop
 sub_put_field c = omega (arith, room c)
@@ -58,7 +58,7 @@ put_field_requires c κs =
     (s.requires.0, omega (arith, (room k).1, row_entries_length s.args.n k.loop-todo.rest.now))
 
 add_at : tie.Need-overflow_add-at invariant-loop decreases-loop
-add_at c = let d = c.before.before in let m = d.put_field-at.ensures.many_is in omega (arith, m, room (turn d), (entry (turn d).before).good)
+add_at c = let d = c.before.before in let m = d.put_field-at.ensures.many_is in omega (arith, m, room (turn d), (entry (turn d).before).well_formed)
 
 left_after_requires : tie.Need-left_after-requires invariant-loop decreases-loop
 left_after_requires c κs = search rules

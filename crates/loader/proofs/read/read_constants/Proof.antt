@@ -46,7 +46,7 @@ loop_holds : tie.Need-loop-todo-init invariant-loop decreases-loop
 loop_holds c = wrote_none _ _ c.requires
 
 mul_read_entries : tie.Need-offset_bounds-out-at invariant-loop decreases-loop
-mul_read_entries c = omega (arith, room c, (entry c.before).good)
+mul_read_entries c = omega (arith, room c, (entry c.before).well_formed)
 
 sub_read_entries : tie.Need-slice_bounds-read_entries-count invariant-loop decreases-loop
 sub_read_entries c = omega (arith, room c)
@@ -64,7 +64,7 @@ read_entries_requires : tie.Need-read_entries-at-requires invariant-loop decreas
 read_entries_requires c κs = rw c.said_body.ensures.bytes_are (room c.before.before).1
 
 add_at : tie.Need-overflow_add-at invariant-loop decreases-loop
-add_at c = let m = (read (row_read c)).many_is in omega (arith, room (turn (row_read c)), (entry (turn (row_read c)).before).good)
+add_at c = let m = (read (row_read c)).many_is in omega (arith, room (turn (row_read c)), (entry (turn (row_read c)).before).well_formed)
 
 said_rest_requires : tie.Need-said_rest-next-requires invariant-loop decreases-loop
 said_rest_requires c κs = search rules
