@@ -129,7 +129,7 @@ returns_3 c =
     let a = k.args in (
       refl,
       λ Q sh. column_depends a.p a.n a.a k.requires.5 no_rows _ _ (offering_held a.p a.n no_rows Q (held k)) (in_set o) (offered o Q sh) o.offer_all-placed.ensures.0.below
-          (held_below k) a.x k.requires.6 (all_placed e) (z.is_zero_where_free.ensures.if_true (not-false _ f.if-not-is_zero_where_free.false-raw)) _ c.entries_by_owner-multipliers.ensures,
+          (held_below k) a.x k.requires.6 (all_placed e) (c.is_zero_where_free.ensures.if_true (not-false _ c.if-not-is_zero_where_free.false-raw)) _ c.entries_by_owner-multipliers.ensures,
     )
 
 pub read_column_spec : {M : Type 1} → statement M

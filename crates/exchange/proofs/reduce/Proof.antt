@@ -48,7 +48,7 @@ filled c =
 -- the tableau when its rows are reduced, by either table of inverses
 worked : (c : tie.Joined-p-eq-LISTED_PRIME) → let a = (start c.before).args in
     TableauArray a.p c.if-p-eq-LISTED_PRIME.t × Reduced a.p a.n a.a a.weights.now a.levels.now a.a c.fill.new.t c.if-p-eq-LISTED_PRIME.t
-worked c = elim c.if-p-eq-LISTED_PRIME.branch [ then-p-eq-LISTED_PRIME w ↦ rw w.t-is w.reduce_rows.ensures | else-p-eq-LISTED_PRIME w ↦ rw w.t-is w.reduce_rows.ensures ]
+worked c = elim c.if-p-eq-LISTED_PRIME.branch [ then-p-eq-LISTED_PRIME w ↦ rw w.t-is w.reduce_rows.ensures | else-p-eq-LISTED_PRIME w ↦ rw w.t-is w.reduce_rows-else-p-eq-LISTED_PRIME.ensures ]
 
 is_reducible_requires : tie.Need-is_reducible-requires
 is_reducible_requires c κs = search rules

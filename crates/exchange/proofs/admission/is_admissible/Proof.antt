@@ -34,8 +34,8 @@ contained c = c.before.before.before
 
 -- what each test says
 
-fitted : (c : tie.After-fits2) → let a = (begun c.before).args in c.fits2.result ≡ fitting a.n a.a a.b (length a.constants.now) (length (row_numbers a.parameters.now))
-fitted c = let a = (begun c.before).args in c.fits2.ensures ∙ ap (fitting a.n a.a a.b (length a.constants.now)) c.rows.ensures
+fitted : (c : tie.After-fits) → let a = (begun c.before).args in c.fits.result ≡ fitting a.n a.a a.b (length a.constants.now) (length (row_numbers a.parameters.now))
+fitted c = let a = (begun c.before).args in c.fits.ensures ∙ ap (fitting a.n a.a a.b (length a.constants.now)) c.rows.ensures
 
 fits : (c : tie.Else-not-fits) → let a = (entry c).args in fitting a.n a.a a.b (length a.constants.now) (length (row_numbers a.parameters.now)) ≡ true
 fits c = sym (fitted c.before) ∙ not-false _ c.if-not-fits.false-raw

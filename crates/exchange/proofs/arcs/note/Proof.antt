@@ -25,10 +25,9 @@ returns : tie.Need-returns-then-y-n
 returns c =
     let put = c.before.before in
     let u = put.before in
-    let own = u.before.before.before.before in
-    let a = own.args in
+    let a = c.args in
     rw put.put_row.ensures
-    (noted_owned a.n a.y (members (whole a.touching)) a.into.now (members (whole a.ends)) (whole u.union.result) own.if-y-n.true
+    (noted_owned a.n a.y (members (whole a.touching)) a.into.now (members (whole a.ends)) (whole u.union.result) c.if-y-n.true
     (u.union.ensures ∙ ap (λ (w : ℕ). members w ∪ members (whole a.touching)) u.row.ensures))
 
 union_requires_2 : tie.Need-union-requires-2

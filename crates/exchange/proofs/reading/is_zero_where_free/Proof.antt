@@ -10,7 +10,7 @@ use Rattle.exchange.specs.Code.Reading.{FreeZero}
 use borrow.Author.Rules.{rules}
 use native.Mathlib.Omega.{arith}
 use Rattle.exchange.proofs.reading.is_zero_where_free.Statement.{statement}
-use Rattle.exchange.proofs.reading.is_zero_where_free.Lts.{then-y-n, else-y-n}
+use Rattle.exchange.proofs.reading.is_zero_where_free.Lts.{then-y-n+else-t-i-ne0, else-y-n}
 use Rattle.exchange.proofs.reading.is_zero_where_free.Tie as tie
 
 abbrev invariant-loop : tie.invariant-loop-q
@@ -65,7 +65,7 @@ loop_again c =
     let ey : w.widened-y.result ≡ owner_at a.owner.now l.q = w.widened-y.ensures.0 in (
       search rules,
       below_more (λ h. a.n ≤ owner_at a.owner.now h → cell a.t.now h a.x ≡ 0) l.q l.invariant.1
-          (λ f. elim c.if-y-n.branch [ then-y-n v ↦ v.if-t-q-ne0.false | else-y-n v ↦ absurd (omega (arith, v.if-y-n.false)) ]),
+          (λ f. elim c.if-y-n.branch [ then-y-n+else-t-i-ne0 v ↦ v.if-t-i-ne0.false | else-y-n v ↦ absurd (omega (arith, v.if-y-n.false)) ]),
     )
 
 returns_2 : tie.Need-returns invariant-loop decreases-loop

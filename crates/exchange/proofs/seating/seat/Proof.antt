@@ -16,7 +16,7 @@ returns : tie.Need-returns
 returns c =
     let freed = c.vacate in
     let takes = c.take_row.ensures in
-    (takes.0, takes.1, record { middle = freed.new.0; full = freed.ensures.0; vacated = freed.ensures.1; taken = takes.2 })
+    (takes.0, takes.1, record { middle = freed.new.owner; full = freed.ensures.0; vacated = freed.ensures.1; taken = takes.2 })
 
 pub seat_spec : {M : Type 1} → statement M
 seat_spec = tie.close (tie.spec vacate_requires take_row_requires returns)

@@ -81,7 +81,7 @@ sub_result c = search rules
 part_result_start : tie.Need-slice_bounds-result-start
 part_result_start c = search rules
 
-part_result_end : tie.Need-slice_bounds-result-end
+part_result_end : tie.Need-slice_bounds-result-end-2
 part_result_end c = omega (arith, place c)
 
 returns_2 : tie.Need-returns
