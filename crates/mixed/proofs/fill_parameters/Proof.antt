@@ -68,7 +68,7 @@ loop_again c =
     let a = (begun (turn c)).args in
     let ws = row_numbers l.words in
     let w = whole made.result in
-    let rows_are : row_numbers put.new.0 ≡ set ws l.i w = ap row_numbers put.ensures ∙ rows_with_row l.words l.i w in
+    let rows_are : row_numbers put.new.words ≡ set ws l.i w = ap row_numbers put.ensures ∙ rows_with_row l.words l.i w in
     let inside : l.i < length ws = omega arith in
     let is_made : members w ≡ form_row a.m (members (get_or (row_numbers a.parameters.now) l.i 0)) l.i = made.ensures ∙ ap (λ (S : Set). inserted S l.i) (moved.ensures ∙ ap (λ (v : ℕ). moved_up (members v) a.m) own.ensures) in (
       search rules,

@@ -62,8 +62,8 @@ loop_again c =
     let met : c.touches.result ≡ S l.loop-r.r = c.touches.ensures ∙ ap (λ (w : ℕ). any width (members (whole l.intersection-inside.result) ∩ members w)) c.row.ensures in (
       search rules,
       elim c.if-touches.branch [
-        | then-touches w ↦ rw w.count-is (omega (arith, l.loop-r.invariant.1, #-next l.loop-r.r S true (sym met ∙ w.if-touches.true)))
-        | else-touches w ↦ rw w.count-is (omega (arith, l.loop-r.invariant.1, #-next l.loop-r.r S false (sym met ∙ w.if-touches.false)))
+        | then-touches w ↦ rw w.many-is (omega (arith, l.loop-r.invariant.1, #-next l.loop-r.r S true (sym met ∙ w.if-touches.true)))
+        | else-touches w ↦ rw w.many-is (omega (arith, l.loop-r.invariant.1, #-next l.loop-r.r S false (sym met ∙ w.if-touches.false)))
       ],
     )
 
