@@ -59,8 +59,8 @@ returns : tie.Need-returns invariant-loop decreases-loop
 returns c =
     let l = c.loop-x in
     let a = c.args in
-    let done : l.x ≡ length a.t1 = omega arith in
-    l.invariant.2 ∙ ap (gathered a.t1 a.k) done ∙ gathered_all a.t1 a.k
+    let done : l.x ≡ length a.numbers = omega arith in
+    l.invariant.2 ∙ ap (gathered a.numbers a.k) done ∙ gathered_all a.numbers a.k
 
 pub columns_of_block_spec : {M : Type 1} → statement M
 columns_of_block_spec =
