@@ -77,13 +77,13 @@ returns_2 c =
     let at_read = read accepted.before in
     answer_refused (area at_read)
     (ap (λ (h : Header). h.refusal) told.read_unnumbered_header-then-sizes.ensures ∙ unnumbered_header_refusal _ ∙ ap unnumbered_judge at_read.file_in-file.ensures)
-    (numbered_refused (area at_read) (bytes (lent at_read)) (rows at_read) accepted.if-sizes-ne0.false told.if-sizes.true) c.refuse-then-sizes.ensures
+    (numbered_refused (area at_read) (bytes (lent at_read)) (rows at_read) c.if-sizes-ne0.false told.if-sizes.true) c.refuse-then-sizes.ensures
 
 slice_aggregate_of_bytes : tie.Need-slice_bounds-of_bytes-end
 slice_aggregate_of_bytes c =
     let accepted = c.before.before in
     let at_read = read accepted in
-    sym (length-take-le _ (area at_read) (omega (arith, area_long (area at_read) (bytes (lent at_read)) (read_accepted (area at_read) (bytes (lent at_read)) (rows at_read) accepted.if-sizes-ne0.false c.if-sizes.false))))
+    sym (length-take-le _ (area at_read) (omega (arith, area_long (area at_read) (bytes (lent at_read)) (read_accepted (area at_read) (bytes (lent at_read)) (rows at_read) c.if-sizes-ne0.false c.if-sizes.false))))
 
 of_bytes_requires : tie.Need-of_bytes-present-requires
 of_bytes_requires c κs = search rules
@@ -103,7 +103,7 @@ returns_3 c =
     let plain = shown.before.before in
     let accepted = plain.before in
     let at_read = read accepted in
-    answer_given (area at_read) (bytes (lent at_read)) (rows at_read) accepted.if-sizes-ne0.false plain.if-sizes.false shown.of_bytes-present.ensures.is_number c.offered_rank.ensures
+    answer_given (area at_read) (bytes (lent at_read)) (rows at_read) c.if-sizes-ne0.false c.if-sizes.false shown.of_bytes-present.ensures.is_number c.offered_rank.ensures
 
 pub answer_area_spec : {M : Type 1} → statement M
 answer_area_spec =

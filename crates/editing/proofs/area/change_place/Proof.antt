@@ -40,12 +40,8 @@ same_length c = search rules
 
 returns : tie.Need-returns
 returns c =
-    let put = c.before.before in
-    let at-changed = put.before in
-    let read = at-changed.before.before in
-    let k = read.before.before.before.before in
-    row_put k.args.at k.args.size k.args.area.now _ k.args.c k.args.value (whole read.of_bytes-row.result) (whole at-changed.changed.result)
-    k.requires.0 k.requires.1 read.of_bytes-row.ensures.is_number at-changed.changed.ensures put.put_set_front.ensures.bytes_are
+    row_put c.args.at c.args.size c.args.area.now _ c.args.c c.args.value (whole c.of_bytes-row.result) (whole c.changed.result)
+    c.requires.0 c.requires.1 c.of_bytes-row.ensures.is_number c.changed.ensures c.put_set_front.ensures.bytes_are
 
 pub change_place_spec : {M : Type 1} → statement M
 change_place_spec =

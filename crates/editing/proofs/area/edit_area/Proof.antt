@@ -68,7 +68,7 @@ slice_reshare_prefix_of_bytes c =
     omega (arith, area_long a.area.now (bytes (lent read)) (file_accepted a.area.now a.bytes.now (said read) named.if-header-ne0.false))
 
 slice_aggregate_of_bytes : tie.Need-slice_bounds-of_bytes-end-2
-slice_aggregate_of_bytes c = sym (length-take-le _ (start (file_read c.before.before.before)).args.area.now (slice_reshare_prefix_of_bytes c.before))
+slice_aggregate_of_bytes c = sym (length-take-le _ (start (file_read c.before.before.before)).args.area.now (slice_reshare_prefix_of_bytes c))
 
 of_bytes_requires : tie.Need-of_bytes-present-requires
 of_bytes_requires c κs = search rules

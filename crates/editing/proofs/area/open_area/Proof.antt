@@ -53,7 +53,7 @@ sub_write_file c = search rules
 part_write_file_start : tie.Need-slice_bounds-write_file-start
 part_write_file_start c = search rules
 
-part_write_file_end : tie.Need-slice_bounds-write_file-end
+part_write_file_end : tie.Need-slice_bounds-write_file-end-4
 part_write_file_end c = search rules
 
 write_file_requires : tie.Need-write_file-written-requires
