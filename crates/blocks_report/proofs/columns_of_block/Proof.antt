@@ -50,8 +50,8 @@ loop_again c =
       search rules,
       l.invariant.1,
       elim c.if-numbers-x.branch [
-        | then-numbers-x w ↦ rw (w.columns-is, w.with-columns.ensures, l.invariant.2) (gathered_with a.numbers a.k l.x (omega arith) w.if-numbers-x.true)
-        | else-numbers-x w ↦ rw (w.columns-is, l.invariant.2) (gathered_without a.numbers a.k l.x w.if-numbers-x.false)
+        | then-numbers-x w ↦ rw (w.set-is, w.with-set.ensures, l.invariant.2) (gathered_with a.numbers a.k l.x (omega arith) w.if-numbers-x.true)
+        | else-numbers-x w ↦ rw (w.set-is, l.invariant.2) (gathered_without a.numbers a.k l.x w.if-numbers-x.false)
       ],
     )
 

@@ -56,8 +56,7 @@ first_state : (c : tie.After-tops-levels invariant-loop decreases-loop) → let 
     c.tops-levels.result (raised c).first_heights-heights.result 0
 first_state c Q shown full =
     let f = raised c in
-    let w = c.before.before.before.before in
-    descending_starts _ _ _ _ Q _ _ _ _ _ (begun f).requires.0 shown full _ w.below-all.ensures _ _ w.weights-weights.result f.first_heights-heights.ensures w.weights-weights.ensures c.tops-levels.ensures
+    descending_starts _ _ _ _ Q _ _ _ _ _ (begun f).requires.0 shown full _ c.below-all.ensures _ _ c.weights-weights.result f.first_heights-heights.ensures c.weights-weights.ensures c.tops-levels.ensures
     (search (rules, c.tops-levels.type_inv)) (search (rules, f.first_heights-heights.type_inv))
 
 -- the state of a turn, of the constants that are known to be there
@@ -165,7 +164,7 @@ turned c = c.before.before.before.before
 
 add_risen : tie.Need-overflow_add-risen invariant-loop decreases-loop
 add_risen c =
-    let m = entered (turned c).before in
+    let m = entered c.before.before.before.before.before.before in
     omega (arith, risen_small _ _ _ _ _ _ _ _ _ _ _ _ _ (now_state m).0)
 
 slice_aggregate_solve_tight_3 : tie.Need-slice_bounds-solve_tight-end-in-loop-s invariant-loop decreases-loop
@@ -191,8 +190,8 @@ loop_less c =
     omega (arith, risen_small _ _ _ _ _ _ _ _ _ _ _ _ _ w.0, (t.turn-rise.ensures k.requires.1.0 k.args.rowpowers.now m.loop-s.risen w.0 (turn_small t.before.before k.requires.1.0 w.0 w.1)).0)
 
 -- a turn keeps the number of constants
-long : (c : tie.After-constants-1 invariant-loop decreases-loop) → length c.turn-rise.new.constants ≡ length (start (entered c.before.before)).args.constants.now
-long c = search (rules, (entered c.before.before.before).loop-s.invariant.0, c.constants.given)
+long : (c : tie.After-constants-1 invariant-loop decreases-loop) → length c.turn-rise.new.constants ≡ length (start (entered c.before.before.before)).args.constants.now
+long c = search (rules, (entered c.before.before.before).loop-s.invariant.0, c.constants-1.given)
 
 loop_again : tie.Need-loop-s-preserved invariant-loop decreases-loop
 loop_again c =

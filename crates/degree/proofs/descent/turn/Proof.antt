@@ -13,8 +13,8 @@ use Rattle.degree.proofs.descent.turn.Statement.{statement}
 use Rattle.degree.proofs.descent.turn.Tie as tie
 
 -- where the call begins, seen from where the weights are asked for, the rows are reduced, the tops are known and the rise is
-abbrev begun : tie.After-weights-arg → tie.Start
-begun c = c.before.before.before.before.before.before.before
+abbrev begun : tie.After-slice_known-3-1 → tie.Start
+begun c = c.before.before.before.before.before.before
 
 abbrev weighed : tie.After-reduce → tie.After-weights-weights
 weighed c = c.before.before.before
