@@ -18,7 +18,7 @@ contains_requires : tie.Need-contains-requires
 contains_requires c κs = search rules
 
 returns_3 : tie.Need-returns-then-contains
-returns_3 c = cannot_serve _ _ _ _ _ _ (λ h. h.has_no_seat (sym c.before.contains.ensures ∙ c.if-contains.true))
+returns_3 c = cannot_serve _ _ _ _ _ _ (λ h. h.has_no_seat (sym c.contains.ensures ∙ c.if-contains.true))
 
 row_requires : tie.Need-row-requires
 row_requires c κs = search rules
@@ -31,10 +31,10 @@ returns_4 c =
     let unseated = c.before.before in
     let in-columns = unseated.before.before in
     serves_by_parameter _ _ _ _ _ _
-    (omega (arith, in-columns.before.if-r-b.false))
+    (omega (arith, in-columns.if-r-b.false))
     (omega (arith, in-columns.if-c-n.false))
-    (sym unseated.before.contains.ensures ∙ unseated.if-contains.false)
-    (c.contains-2.ensures ∙ ap (λ (w : ℕ). members w in-columns.before.before.before.args.c) c.before.row.ensures)
+    (sym unseated.contains.ensures ∙ unseated.if-contains.false)
+    (c.contains-2.ensures ∙ ap (λ (w : ℕ). members w in-columns.args.c) c.row.ensures)
 
 pub can_serve_spec : {M : Type 1} → statement M
 can_serve_spec =

@@ -16,14 +16,14 @@ refuse_requires c κs = search rules
 returns : tie.Need-returns-then-number-ne0
 returns c =
     let e = c.refuse.ensures.0 in
-    let nonzero : c.refuse.result.refusal ≢ 0 = λ z. c.before.if-number-ne0.true (sym e ∙ z) in
-    call_refused (e ∙ c.before.before.judge_model-number.ensures) nonzero c.refuse.ensures.1
+    let nonzero : c.refuse.result.refusal ≢ 0 = λ z. c.if-number-ne0.true (sym e ∙ z) in
+    call_refused (e ∙ c.judge_model-number.ensures) nonzero c.refuse.ensures.1
 
 ask_requires : tie.Need-ask-requires
-ask_requires c κs = unnumbered_accepted (model_accepted _ _ _ _ _ _ _ (sym c.before.judge_model-number.ensures ∙ c.if-number-ne0.false))
+ask_requires c κs = unnumbered_accepted (model_accepted _ _ _ _ _ _ _ (sym c.judge_model-number.ensures ∙ c.if-number-ne0.false))
 
 returns_2 : tie.Need-returns
-returns_2 c = call_answered (sym c.before.before.judge_model-number.ensures ∙ c.before.if-number-ne0.false) c.ask.ensures.no_refusal c.ask.ensures.answer
+returns_2 c = call_answered (sym c.judge_model-number.ensures ∙ c.if-number-ne0.false) c.ask.ensures.no_refusal c.ask.ensures.answer
 
 pub model_acceptance_spec : {M : Type 1} → statement M
 model_acceptance_spec = tie.close (tie.spec judge_model_requires refuse_requires returns ask_requires returns_2)

@@ -25,8 +25,8 @@ same_length c = search rules
 returns_2 : tie.Need-returns
 returns_2 c =
     let k = c.before.before.before in
-    put_done acceptance_length _ _ (omega (arith, c.before.if-out-lt-ACCEPTANCE_LENGTH.false))
-    (wrote_all (wrote_set c.flag.result [] (wrote_none (acceptance_bytes k.args.answer) k.args.out.now (omega (arith, c.before.if-out-lt-ACCEPTANCE_LENGTH.false))) (ap (λ (v : ℕ). v ∷ []) (sym c.flag.ensures))) refl)
+    put_done acceptance_length _ _ (omega (arith, c.if-out-lt-ACCEPTANCE_LENGTH.false))
+    (wrote_all (wrote_set c.flag.result [] (wrote_none (acceptance_bytes k.args.answer) k.args.out.now (omega (arith, c.if-out-lt-ACCEPTANCE_LENGTH.false))) (ap (λ (v : ℕ). v ∷ []) (sym c.flag.ensures))) refl)
 
 pub put_acceptance_spec : {M : Type 1} → statement M
 put_acceptance_spec =

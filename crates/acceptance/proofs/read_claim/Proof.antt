@@ -26,8 +26,8 @@ empty_requires_2 c κs = search rules
 returns : tie.Need-returns-then-bytes-lt-CLAIM_LENGTH
 unfolding no_claim
 returns c = record {
-  if_short = λ l. rw (c.before.empty.ensures, c.empty-then-bytes-lt-CLAIM_LENGTH.ensures) refl;
-  if_long = λ l. absurd (omega (arith, l, c.before.before.if-bytes-lt-CLAIM_LENGTH.true));
+  if_short = λ l. rw (c.empty.ensures, c.empty-then-bytes-lt-CLAIM_LENGTH.ensures) refl;
+  if_long = λ l. absurd (omega (arith, l, c.if-bytes-lt-CLAIM_LENGTH.true));
 }
 
 sub_of_bytes : tie.Need-slice_bounds-of_bytes-count
@@ -74,12 +74,12 @@ returns_2 c =
     let k = c.before.before.before.before.before.before.before.before.before in
     let bytes = k.args.bytes.now in
     record {
-      if_short = λ l. absurd (omega (arith, l, c.before.before.before.before.before.before.before.if-bytes-lt-CLAIM_LENGTH.false));
+      if_short = λ l. absurd (omega (arith, l, c.if-bytes-lt-CLAIM_LENGTH.false));
       if_long = λ l. record {
         rank_is = refl;
-        side_is = c.before.before.before.before.before.of_bytes-constants.ensures.is_number ∙ set_cut (drop 1 bytes);
-        rows_are = c.before.before.before.claimed_rows-rows.ensures ∙ take-take most_rows most_rows (drop (1 + set_bytes) bytes) (omega arith);
-        set_is = c.before.of_bytes-set.ensures.is_number ∙ set_cut (drop (1 + set_bytes + most_rows) bytes);
+        side_is = c.of_bytes-constants.ensures.is_number ∙ set_cut (drop 1 bytes);
+        rows_are = c.claimed_rows-rows.ensures ∙ take-take most_rows most_rows (drop (1 + set_bytes) bytes) (omega arith);
+        set_is = c.of_bytes-set.ensures.is_number ∙ set_cut (drop (1 + set_bytes + most_rows) bytes);
       };
     }
 

@@ -18,7 +18,7 @@ with_requires : tie.Need-with-requires
 with_requires c κs = search rules
 
 returns_2 : tie.Need-returns
-returns_2 c = row_seated _ _ _ _ _ _ _ c.before.before.before.before.requires c.before.before.if-c.false c.before.can_serve-fit.ensures c.with.ensures
+returns_2 c = row_seated _ _ _ _ _ _ _ c.requires c.if-c.false c.can_serve-fit.ensures c.with.ensures
 
 pub seat_row_spec : {M : Type 1} → statement M
 seat_row_spec = tie.close (tie.spec cast_if1 returns can_serve_requires with_requires returns_2)

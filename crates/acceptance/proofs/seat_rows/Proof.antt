@@ -30,12 +30,12 @@ begun l = l.before.before
 
 -- the column that the claim names in the row gets its seat
 row_seat : (c : tie.After-seat_row-s invariant-loop decreases-loop) → let l = turn c in let a = (begun l).args in
-    RowSeated a.n a.b (row_numbers a.parameters.now) (members (whole l.loop-r.seated-1)) l.loop-r.r (get_or a.t5 l.loop-r.r no_column) c.seat_row-s.result
+    RowSeated a.n a.b (row_numbers a.parameters.now) (members (whole l.loop-r.seated)) l.loop-r.r (get_or a.t5 l.loop-r.r no_column) c.seat_row-s.result
 row_seat c =
     let l = turn c in
     let a = (begun l).args in
-    subst (λ (x : ℕ). RowSeated a.n a.b (row_numbers a.parameters.now) (members (whole l.loop-r.seated-1)) l.loop-r.r x c.seat_row-s.result)
-    (read_below a.t5 l.loop-r.r 0 no_column (omega (arith, (begun l).requires.1, c.before.loop-r-test.true))) c.seat_row-s.ensures
+    subst (λ (x : ℕ). RowSeated a.n a.b (row_numbers a.parameters.now) (members (whole l.loop-r.seated)) l.loop-r.r x c.seat_row-s.result)
+    (read_below a.t5 l.loop-r.r 0 no_column (omega (arith, (begun l).requires.1, c.loop-r-test.true))) c.seat_row-s.ensures
 
 loop_holds : tie.Need-loop-r-init invariant-loop decreases-loop
 loop_holds c = (omega arith, none_seated _ _ _ _ _ _ (λ x. refl))
@@ -78,7 +78,7 @@ returns_2 c =
     let k = begun l in
     let a = k.args in
     let at : l.loop-r.r ≡ most_rows = omega (arith, l.loop-r.invariant.0, c.loop-r-test.false) in
-    let all = subst (λ (j : ℕ). SeatedBelow a.n a.b (row_numbers a.parameters.now) (members (whole a.side)) a.t5 j (members (whole l.loop-r.seated-1))) at l.loop-r.invariant.1 in
+    let all = subst (λ (j : ℕ). SeatedBelow a.n a.b (row_numbers a.parameters.now) (members (whole a.side)) a.t5 j (members (whole l.loop-r.seated))) at l.loop-r.invariant.1 in
     record {
       if_fit = λ e. all_serve _ _ _ _ _ k.requires.1 _ all;
       if_not = λ e. absurd (true≢false e);

@@ -20,16 +20,16 @@ begun c = c.before.before.before.before
 small : (k : tie.Start) → whole k.args.set < 2 ^ width
 small k = let fits : Fits k.args.set = search rules in whole_below k.args.set fits
 
-two_terms : (c : tie.After-touching_rows-touched) → (c.before.constant_rank-rank.result ≤ (begun c).args.n) × (c.touching_rows-touched.result ≤ (begun c).args.b)
+two_terms : (c : tie.After-touching_rows-touched) → (c.constant_rank-rank.result ≤ (begun c).args.n) × (c.touching_rows-touched.result ≤ (begun c).args.b)
 two_terms c =
     let k = begun c in
     let a = k.args in (
-      omega (arith, c.before.constant_rank-rank.ensures, rank_most a.n (whole a.set) (small k) k.requires.1 a.p a.a a.constants.now),
+      omega (arith, c.constant_rank-rank.ensures, rank_most a.n (whole a.set) (small k) k.requires.1 a.p a.a a.constants.now),
       omega (arith, c.touching_rows-touched.ensures, #-le a.b (touching a.n (parameter_at (row_numbers a.parameters.now)) (members (whole a.set)))),
     )
 
 constant_rank_requires : tie.Need-constant_rank-rank-requires
-constant_rank_requires c κs = (constants_accepted c.before.before.requires.0, c.before.before.requires.1)
+constant_rank_requires c κs = (constants_accepted c.requires.0, c.requires.1)
 
 touching_rows_requires : tie.Need-touching_rows-touched-requires
 touching_rows_requires c κs = search rules
@@ -52,7 +52,7 @@ returns : tie.Need-returns
 returns c =
     let k = begun c.before in
     let a = k.args in
-    let w = sum_added a.n (whole a.set) (small k) k.requires.1 a.p a.a a.constants.now a.b (row_numbers a.parameters.now) c.before.before.constant_rank-rank.ensures c.before.touching_rows-touched.ensures in
+    let w = sum_added a.n (whole a.set) (small k) k.requires.1 a.p a.a a.constants.now a.b (row_numbers a.parameters.now) c.constant_rank-rank.ensures c.touching_rows-touched.ensures in
     omega (arith, c.size.ensures, w)
 
 pub set_sum_spec : {M : Type 1} → statement M

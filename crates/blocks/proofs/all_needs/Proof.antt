@@ -47,7 +47,7 @@ begun k = (sized k).before.before
 -- the column of a turn is one of those that are left
 there : (f : tie.After-first-x invariant-loop decreases-loop) → (f.first-x.result < width) × (f.first-x.result ∈ members (whole (turn f).loop-sizes.rest))
 there f =
-    let some : # width (members (whole (turn f).loop-sizes.rest)) ≢ 0 = eqb-false _ 0 (sym f.before.before.is_empty.ensures ∙ not_in _ f.before.loop-sizes-test.true-raw) in
+    let some : # width (members (whole (turn f).loop-sizes.rest)) ≢ 0 = eqb-false _ 0 (sym f.is_empty.ensures ∙ not_in _ f.loop-sizes-test.true-raw) in
     let t = least_there width _ some in
     ((rw (sym f.first-x.ensures) at t).0, (rw (sym f.first-x.ensures) at t).1)
 
@@ -58,8 +58,8 @@ row_is d =
     let r = looked_up d in
     let f = chosen r in
     let k = turn f in
-    let at = r.before.before.before.row-row.ensures in
-    let size : r.before.size.result ≡ # width (row_of (begun k).args.rows.now f.first-x.result) = r.before.size.ensures ∙ ap (λ (w : ℕ). # width (members w)) at in
+    let at = r.row-row.ensures in
+    let size : r.size.result ≡ # width (row_of (begun k).args.rows.now f.first-x.result) = r.size.ensures ∙ ap (λ (w : ℕ). # width (members w)) at in
     d.difference.ensures ∙ ap (λ (w : ℕ). members w ∩ ∁ (members (whole r.row-block.result))) at
     ∙ ap (λ (w : ℕ). row_of (begun k).args.rows.now f.first-x.result ∩ ∁ (members w)) r.row-block.ensures
     ∙ ap (λ (m : ℕ). row_of (begun k).args.rows.now f.first-x.result ∩ ∁ (row_of (sized k).by_size-sizes.result m)) size
@@ -68,7 +68,7 @@ by_size_requires : tie.Need-by_size-sizes-requires invariant-loop decreases-loop
 by_size_requires c κs = search rules
 
 loop_holds : tie.Need-loop-sizes-init invariant-loop decreases-loop
-loop_holds c = let a = c.before.before.args in needing_start (members (whole a.all)) (unlike a.rows.now c.by_size-sizes.result)
+loop_holds c = let a = c.args in needing_start (members (whole a.all)) (unlike a.rows.now c.by_size-sizes.result)
 
 is_empty_requires : tie.Need-is_empty-requires invariant-loop decreases-loop
 is_empty_requires c κs = search rules
@@ -110,7 +110,7 @@ loop_again c =
     let k = turn f in
     let a = (begun k).args in
     rw (c.without-rest.ensures, (written c).put_row.ensures)
-    (needing_more (members (whole a.all)) (members (whole k.loop-sizes.rest)) (unlike a.rows.now (sized k).by_size-sizes.result) k.loop-sizes.needs-1 f.first-x.result (whole d.difference.result)
+    (needing_more (members (whole a.all)) (members (whole k.loop-sizes.rest)) (unlike a.rows.now (sized k).by_size-sizes.result) k.loop-sizes.needs f.first-x.result (whole d.difference.result)
     (there f).1 k.loop-sizes.invariant (row_is d))
 
 returns : tie.Need-returns invariant-loop decreases-loop
@@ -118,8 +118,8 @@ returns c =
     let k = c.before.before in
     let l = k.loop-sizes in
     let a = (begun k).args in
-    let gone : # width (members (whole l.rest)) ≡ 0 = eqb-true _ 0 (sym c.before.is_empty.ensures ∙ not-false _ c.loop-sizes-test.false-raw) in
-    λ n E b t h. needing_done n E b t (members (whole a.all)) (members (whole l.rest)) a.rows.now (sized k).by_size-sizes.result l.needs-1 h (sized k).by_size-sizes.ensures l.invariant
+    let gone : # width (members (whole l.rest)) ≡ 0 = eqb-true _ 0 (sym c.is_empty.ensures ∙ not-false _ c.loop-sizes-test.false-raw) in
+    λ n E b t h. needing_done n E b t (members (whole a.all)) (members (whole l.rest)) a.rows.now (sized k).by_size-sizes.result l.needs h (sized k).by_size-sizes.ensures l.invariant
     (λ x e. nothing_in width (members (whole l.rest)) gone x (columns_below a.all x (search rules) (l.invariant.inside x e)) e)
 
 pub all_needs_spec : {M : Type 1} → statement M

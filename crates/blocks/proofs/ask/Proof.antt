@@ -23,12 +23,12 @@ abbrev asked : tie.After-column_reach-reach → Model
 asked c = let a = (begun c).args in listed_model a.p a.n a.a a.b a.constants.now (row_numbers a.parameters.now)
 
 -- its answer orders the columns
-ordered : (c : tie.After-column_reach-reach) → Ordered (asked c).n (asked c).E (before (asked c)) (share (asked c)) (members (whole c.before.below-all.result)) c.column_reach-reach.result.rows-1
+ordered : (c : tie.After-column_reach-reach) → Ordered (asked c).n (asked c).E (before (asked c)) (share (asked c)) (members (whole c.below-all.result)) c.column_reach-reach.result.rows
 ordered c =
     let a = (begun c).args in
     let h = (begun c).requires in
-    let e = c.before.below-all.ensures in
-    reach_orders (asked c) (members (whole c.before.below-all.result)) c.column_reach-reach.result.rows-1 h.n_most e (λ x. refl)
+    let e = c.below-all.ensures in
+    reach_orders (asked c) (members (whole c.below-all.result)) c.column_reach-reach.result.rows h.n_most e (λ x. refl)
     (c.column_reach-reach.ensures.if_valid (accepted_taken _ _ _ _ _ _ _ e (accepted_model _ _ _ _ _ _ none h)) _ _ _
     (shows_model a.p a.n a.a a.b a.constants.now (row_numbers a.parameters.now) _ e (omega (arith, h.n_most))))
 

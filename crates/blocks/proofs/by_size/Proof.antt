@@ -44,16 +44,16 @@ begun k = k.before.before
 -- the column of a turn is one of those that are left
 there : (f : tie.After-first-x invariant-loop decreases-loop) → (f.first-x.result < width) × (f.first-x.result ∈ members (whole (turn f).loop-rest.rest))
 there f =
-    let some : # width (members (whole (turn f).loop-rest.rest)) ≢ 0 = eqb-false _ 0 (sym f.before.before.is_empty.ensures ∙ not_in _ f.before.loop-rest-test.true-raw) in
+    let some : # width (members (whole (turn f).loop-rest.rest)) ≢ 0 = eqb-false _ 0 (sym f.is_empty.ensures ∙ not_in _ f.loop-rest-test.true-raw) in
     let t = least_there width _ some in
     ((rw (sym f.first-x.ensures) at t).0, (rw (sym f.first-x.ensures) at t).1)
 
 -- the size of its row
 size_is : (c : tie.After-size-k invariant-loop decreases-loop) → c.size-k.result ≡ # width (row_of (begun (turn (chosen c))).args.rows.now (chosen c).first-x.result)
-size_is c = c.size-k.ensures ∙ ap (λ (w : ℕ). # width (members w)) c.before.row.ensures
+size_is c = c.size-k.ensures ∙ ap (λ (w : ℕ). # width (members w)) c.row.ensures
 
 loop_holds : tie.Need-loop-rest-init invariant-loop decreases-loop
-loop_holds c = sizing_start (members (whole c.before.args.all)) c.before.args.rows.now
+loop_holds c = sizing_start (members (whole c.args.all)) c.args.rows.now
 
 is_empty_requires : tie.Need-is_empty-requires invariant-loop decreases-loop
 is_empty_requires c κs = search rules
@@ -98,16 +98,16 @@ loop_again c =
     let x = f.first-x.result in
     let t = there f in
     rw (c.without-rest.ensures, (written c).put_row.ensures)
-    (sizing_turn (members (whole a.all)) (members (whole l.rest)) a.rows.now l.table-1 x (whole m.with-more.result) z.size-k.result t.0 t.1 l.inv (size_is z)
-    (m.with-more.ensures ∙ ap (λ (w : ℕ). inserted (members w) x) m.before.row-in-loop-rest.ensures))
+    (sizing_turn (members (whole a.all)) (members (whole l.rest)) a.rows.now l.table x (whole m.with-more.result) z.size-k.result t.0 t.1 l.invariant (size_is z)
+    (m.with-more.ensures ∙ ap (λ (w : ℕ). inserted (members w) x) m.row-in-loop-rest.ensures))
 
 returns : tie.Need-returns invariant-loop decreases-loop
 returns c =
     let k = c.before.before in
     let l = k.loop-rest in
     let a = (begun k).args in
-    let gone : # width (members (whole l.rest)) ≡ 0 = eqb-true _ 0 (sym c.before.is_empty.ensures ∙ not-false _ c.loop-rest-test.false-raw) in
-    sizing_done (members (whole a.all)) (members (whole l.rest)) a.rows.now l.table-1 l.invariant
+    let gone : # width (members (whole l.rest)) ≡ 0 = eqb-true _ 0 (sym c.is_empty.ensures ∙ not-false _ c.loop-rest-test.false-raw) in
+    sizing_done (members (whole a.all)) (members (whole l.rest)) a.rows.now l.table l.invariant
     (λ x e. nothing_in width (members (whole l.rest)) gone x (columns_below a.all x (search rules) (l.invariant.inside x e)) e)
 
 pub by_size_spec : {M : Type 1} → statement M

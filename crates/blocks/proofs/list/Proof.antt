@@ -49,7 +49,7 @@ begun k = k.before.before.before
 -- a column is left
 left : (f : tie.After-first-x invariant-loop decreases-loop) → Some width (λ x. x ∈ members (whole (turn f).loop-waiting.rest))
 left f =
-    let some : # width (members (whole (turn f).loop-waiting.rest)) ≢ 0 = eqb-false _ 0 (sym f.before.before.is_empty.ensures ∙ not_in _ f.before.loop-waiting-test.true-raw) in
+    let some : # width (members (whole (turn f).loop-waiting.rest)) ≢ 0 = eqb-false _ 0 (sym f.is_empty.ensures ∙ not_in _ f.loop-waiting-test.true-raw) in
     let t = least_there width _ some in
     (_, t.0, t.1)
 
@@ -61,7 +61,7 @@ module _ (k : tie.At-loop-waiting invariant-loop decreases-loop) where
   abbrev rest : Set
   rest = members (whole k.loop-waiting.rest)
 
-  so_far : let o = (begun k).requires in Listing o.0 o.1 o.2 o.3 columns (begun k).args.rows.now (begun k).args.needs.now o.4 o.5 k.loop-waiting.k rest k.loop-waiting.numbers-1
+  so_far : let o = (begun k).requires in Listing o.0 o.1 o.2 o.3 columns (begun k).args.rows.now (begun k).args.needs.now o.4 o.5 k.loop-waiting.k rest k.loop-waiting.numbers
   so_far = let o = (begun k).requires in k.loop-waiting.invariant.1 o.0 o.1 o.2 o.3 o.4 o.5
 
 -- the column of a round is awake
@@ -69,14 +69,14 @@ there : (f : tie.After-first-x invariant-loop decreases-loop) → (f.first-x.res
 there f =
     let k = turn f in
     let o = (begun k).requires in
-    let t = least_there width _ (some_awake o.0 o.1 o.2 o.3 (columns k) (begun k).args.rows.now (begun k).args.needs.now o.4 o.5 k.loop-waiting.k (rest k) k.loop-waiting.numbers-1 (so_far k) (left f)
-    (members (whole k.loop-waiting.awake)) k.loop-waiting.waiting-1 k.loop-waiting.invariant.0) in
+    let t = least_there width _ (some_awake o.0 o.1 o.2 o.3 (columns k) (begun k).args.rows.now (begun k).args.needs.now o.4 o.5 k.loop-waiting.k (rest k) k.loop-waiting.numbers (so_far k) (left f)
+    (members (whole k.loop-waiting.awake)) k.loop-waiting.waiting k.loop-waiting.invariant.0) in
     ((rw (sym f.first-x.ensures) at t).0, (rw (sym f.first-x.ensures) at t).1)
 
 -- what it needs and is left
 missing_is : (e : tie.After-is_empty-in-loop-waiting invariant-loop decreases-loop) → let f = chosen e in let k = turn f in
-    members (whole e.before.intersection-missing.result) ≡ rest k ∩ row_of (begun k).args.needs.now f.first-x.result
-missing_is e = let k = turn (chosen e) in e.before.intersection-missing.ensures ∙ ap (λ (w : ℕ). rest k ∩ members w) e.before.before.row-before.ensures
+    members (whole e.intersection-missing.result) ≡ rest k ∩ row_of (begun k).args.needs.now f.first-x.result
+missing_is e = let k = turn (chosen e) in e.intersection-missing.ensures ∙ ap (λ (w : ℕ). rest k ∩ members w) e.row-before.ensures
 
 -- where nothing is, it is the least that is permitted
 module _ (d : tie.After-difference-block invariant-loop decreases-loop) where
@@ -92,18 +92,18 @@ module _ (d : tie.After-difference-block invariant-loop decreases-loop) where
       let e = (permitted d).before in
       let f = chosen e in
       let none : # width (rest round ∩ row_of (begun round).args.needs.now column) ≡ 0 = ap (# width) (sym (missing_is e)) ∙ eqb-true _ 0 (sym e.is_empty-in-loop-waiting.ensures ∙ (permitted d).if-is_empty.true) in
-      least_awake n E b t (columns round) (begun round).args.rows.now (begun round).args.needs.now h w round.loop-waiting.k (rest round) round.loop-waiting.numbers-1 (round.loop-waiting.invariant.1 n E b t h w) (left f)
-      (members (whole round.loop-waiting.awake)) round.loop-waiting.waiting-1 round.loop-waiting.invariant.0 column f.first-x.ensures none
+      least_awake n E b t (columns round) (begun round).args.rows.now (begun round).args.needs.now h w round.loop-waiting.k (rest round) round.loop-waiting.numbers (round.loop-waiting.invariant.1 n E b t h w) (left f)
+      (members (whole round.loop-waiting.awake)) round.loop-waiting.waiting round.loop-waiting.invariant.0 column f.first-x.ensures none
 
   -- the block is what stands in the row of the column and is not needed
   block_is : members (whole d.difference-block.result) ≡ row_of (begun round).args.rows.now column ∩ ∁ (row_of (begun round).args.needs.now column)
   block_is =
       let r = (permitted d).before.before.before in
-      d.difference-block.ensures ∙ ap (λ (w : ℕ). members w ∩ ∁ (members (whole r.row-before.result))) d.before.row.ensures
+      d.difference-block.ensures ∙ ap (λ (w : ℕ). members w ∩ ∁ (members (whole r.row-before.result))) d.row.ensures
       ∙ ap (λ (w : ℕ). row_of (begun round).args.rows.now column ∩ ∁ (members w)) r.row-before.ensures
 
 loop_holds : tie.Need-loop-waiting-init invariant-loop decreases-loop
-loop_holds c = let a = c.before.before.args in (watched_start a.needs.now (members (whole a.all)), λ n E b t h w. listing_start n E b t (members (whole a.all)) a.rows.now a.needs.now h w)
+loop_holds c = let a = c.args in (watched_start a.needs.now (members (whole a.all)), λ n E b t h w. listing_start n E b t (members (whole a.all)) a.rows.now a.needs.now h w)
 
 is_empty_requires : tie.Need-is_empty-requires invariant-loop decreases-loop
 is_empty_requires c κs = search rules
@@ -134,7 +134,7 @@ number_block_requires c κs =
     let d = c.before in
     let k = round d in
     let o = (begun k).requires in
-    λ x e. omega (arith, (so_far k).long, in_room o.0 o.1 o.2 o.3 (columns k) (begun k).args.rows.now (begun k).args.needs.now o.4 o.5 k.loop-waiting.k (rest k) k.loop-waiting.numbers-1 (so_far k) (left (chosen (permitted d).before)) (column d) (next_is d o.0 o.1 o.2 o.3 o.4 o.5) (members (whole d.difference-block.result)) (block_is d) x e)
+    λ x e. omega (arith, (so_far k).long, in_room o.0 o.1 o.2 o.3 (columns k) (begun k).args.rows.now (begun k).args.needs.now o.4 o.5 k.loop-waiting.k (rest k) k.loop-waiting.numbers (so_far k) (left (chosen (permitted d).before)) (column d) (next_is d o.0 o.1 o.2 o.3 o.4 o.5) (members (whole d.difference-block.result)) (block_is d) x e)
 
 difference_requires_2 : tie.Need-difference-rest-requires invariant-loop decreases-loop
 difference_requires_2 c κs = search rules
@@ -156,15 +156,15 @@ add_k c =
     let d = known (numbered c) in
     let k = round d in
     let o = (begun k).requires in
-    omega (arith, few_rounds o.0 o.1 o.2 o.3 (columns k) (begun k).args.rows.now (begun k).args.needs.now o.4 o.5 k.loop-waiting.k (rest k) k.loop-waiting.numbers-1 (so_far k) (left (chosen (permitted d).before)) (column d) (next_is d o.0 o.1 o.2 o.3 o.4 o.5) (members (whole d.difference-block.result)) (block_is d))
+    omega (arith, few_rounds o.0 o.1 o.2 o.3 (columns k) (begun k).args.rows.now (begun k).args.needs.now o.4 o.5 k.loop-waiting.k (rest k) k.loop-waiting.numbers (so_far k) (left (chosen (permitted d).before)) (column d) (next_is d o.0 o.1 o.2 o.3 o.4 o.5) (members (whole d.difference-block.result)) (block_is d))
 
 loop_less : tie.Need-loop-waiting-smaller-then-is_empty invariant-loop decreases-loop
 loop_less c =
     let d = known (numbered c) in
     let k = round d in
     let o = (begun k).requires in
-    let fewer = fewer_left o.0 o.1 o.2 o.3 (columns k) (begun k).args.rows.now (begun k).args.needs.now o.4 o.5 k.loop-waiting.k (rest k) k.loop-waiting.numbers-1 (so_far k) (left (chosen (permitted d).before)) (column d) (next_is d o.0 o.1 o.2 o.3 o.4 o.5) (members (whole d.difference-block.result)) (block_is d) width (there (chosen (permitted d).before)).0 in
-    let less : # width (members (whole c.before.before.before.before.difference-rest.result)) < # width (rest k) = rw c.before.before.before.before.difference-rest.ensures fewer in
+    let fewer = fewer_left o.0 o.1 o.2 o.3 (columns k) (begun k).args.rows.now (begun k).args.needs.now o.4 o.5 k.loop-waiting.k (rest k) k.loop-waiting.numbers (so_far k) (left (chosen (permitted d).before)) (column d) (next_is d o.0 o.1 o.2 o.3 o.4 o.5) (members (whole d.difference-block.result)) (block_is d) width (there (chosen (permitted d).before)).0 in
+    let less : # width (members (whole c.difference-rest.result)) < # width (rest k) = rw c.difference-rest.ensures fewer in
     omega (arith, less, #-le width (members (whole c.intersection-awake.result)))
 
 loop_again : tie.Need-loop-waiting-preserved-then-is_empty invariant-loop decreases-loop
@@ -175,10 +175,10 @@ loop_again c =
     let k = round d in
     let a = (begun k).args in
     let S = members (whole d.difference-block.result) in
-    rw (c.intersection-awake.ensures, c.before.union.ensures, w.before.before.difference-rest.ensures) (
-      watched_listed a.needs.now (rest k) (members (whole k.loop-waiting.awake)) S (members (whole w.woken.result)) k.loop-waiting.waiting-1 k.loop-waiting.invariant.0 w.woken.ensures,
-      λ n E b t h v. listing_more n E b t (columns k) a.rows.now a.needs.now h v k.loop-waiting.k (rest k) k.loop-waiting.numbers-1 (k.loop-waiting.invariant.1 n E b t h v) (left (chosen (permitted d).before))
-          (column d) (next_is d n E b t h v) S (block_is d) p.number_block.last.0 p.number_block.ensures,
+    rw (c.intersection-awake.ensures, c.union.ensures, w.difference-rest.ensures) (
+      watched_listed a.needs.now (rest k) (members (whole k.loop-waiting.awake)) S (members (whole w.woken.result)) k.loop-waiting.waiting k.loop-waiting.invariant.0 w.woken.ensures,
+      λ n E b t h v. listing_more n E b t (columns k) a.rows.now a.needs.now h v k.loop-waiting.k (rest k) k.loop-waiting.numbers (k.loop-waiting.invariant.1 n E b t h v) (left (chosen (permitted d).before))
+          (column d) (next_is d n E b t h v) S (block_is d) p.number_block.new.numbers p.number_block.ensures,
     )
 
 slice_aggregate_wait : tie.Need-slice_bounds-wait-end invariant-loop decreases-loop
@@ -209,14 +209,14 @@ loop_again_2 c =
     let k = turn f in
     let a = (begun k).args in
     let o = (begun k).requires in
-    let missing = members (whole e.before.intersection-missing.result) in
-    let some : # width missing ≢ 0 = eqb-false _ 0 (sym e.is_empty-in-loop-waiting.ensures ∙ y.before.before.if-is_empty.false) in
+    let missing = members (whole e.intersection-missing.result) in
+    let some : # width missing ≢ 0 = eqb-false _ 0 (sym e.is_empty-in-loop-waiting.ensures ∙ y.if-is_empty.false) in
     let t = least_there width missing some in
     let it : y.first.result ∈ missing = (rw (sym y.first.ensures) at t).1 in
     let needed : y.first.result ∈ rest k ∩ row_of a.needs.now f.first-x.result = sym (ap (λ (S : Set). S y.first.result) (missing_is e)) ∙ it in
     rw c.without-awake.ensures (
-      watched_wait a.needs.now (rest k) (members (whole k.loop-waiting.awake)) k.loop-waiting.waiting-1 p.wait.new.0 f.first-x.result y.first.result k.loop-waiting.invariant.0 (there f).0
-          (rest_below o.0 o.1 o.2 o.3 (columns k) a.rows.now a.needs.now o.4 o.5 k.loop-waiting.k (rest k) k.loop-waiting.numbers-1 (so_far k) y.first.result (and_left _ _ needed)) needed p.wait.ensures,
+      watched_wait a.needs.now (rest k) (members (whole k.loop-waiting.awake)) k.loop-waiting.waiting p.wait.new.waiting f.first-x.result y.first.result k.loop-waiting.invariant.0 (there f).0
+          (rest_below o.0 o.1 o.2 o.3 (columns k) a.rows.now a.needs.now o.4 o.5 k.loop-waiting.k (rest k) k.loop-waiting.numbers (so_far k) y.first.result (and_left _ _ needed)) needed p.wait.ensures,
       k.loop-waiting.invariant.1,
     )
 
@@ -224,8 +224,8 @@ returns : tie.Need-returns invariant-loop decreases-loop
 returns c =
     let k = c.before.before in
     let l = k.loop-waiting in
-    let gone : # width (rest k) ≡ 0 = eqb-true _ 0 (sym c.before.is_empty.ensures ∙ not-false _ c.loop-waiting-test.false-raw) in
-    λ n E b t h w. listing_done n E b t (columns k) (begun k).args.rows.now (begun k).args.needs.now h w l.k (rest k) l.numbers-1 (l.invariant.1 n E b t h w) gone _ refl refl refl
+    let gone : # width (rest k) ≡ 0 = eqb-true _ 0 (sym c.is_empty.ensures ∙ not-false _ c.loop-waiting-test.false-raw) in
+    λ n E b t h w. listing_done n E b t (columns k) (begun k).args.rows.now (begun k).args.needs.now h w l.k (rest k) l.numbers (l.invariant.1 n E b t h w) gone _ refl refl refl
 
 pub list_spec : {M : Type 1} → statement M
 list_spec =

@@ -32,7 +32,7 @@ begun k = k.before.before
 -- the column of a turn is one of those that are left
 there : (f : tie.After-first-x invariant-loop decreases-loop) → (f.first-x.result < width) × (f.first-x.result ∈ members (whole (turn f).loop-rest.rest))
 there f =
-    let some : # width (members (whole (turn f).loop-rest.rest)) ≢ 0 = eqb-false _ 0 (sym f.before.before.is_empty.ensures ∙ not_in _ f.before.loop-rest-test.true-raw) in
+    let some : # width (members (whole (turn f).loop-rest.rest)) ≢ 0 = eqb-false _ 0 (sym f.is_empty.ensures ∙ not_in _ f.loop-rest-test.true-raw) in
     let t = least_there width _ some in
     ((rw (sym f.first-x.ensures) at t).0, (rw (sym f.first-x.ensures) at t).1)
 
@@ -46,7 +46,7 @@ first_requires : tie.Need-first-x-requires invariant-loop decreases-loop
 first_requires c κs = search rules
 
 slice_write_numbers : tie.Need-bounds-numbers-x invariant-loop decreases-loop
-slice_write_numbers c = let l = (turn c).loop-rest in omega (arith, l.inv.same_length, (begun (turn c)).requires c.first-x.result (l.inv.inside c.first-x.result (there c).1))
+slice_write_numbers c = let l = (turn c).loop-rest in omega (arith, l.invariant.same_length, (begun (turn c)).requires c.first-x.result (l.invariant.inside c.first-x.result (there c).1))
 
 without_requires : tie.Need-without-rest-requires invariant-loop decreases-loop
 without_requires c κs = search rules
@@ -59,17 +59,17 @@ loop_again c =
     let f = c.before in
     let l = (turn f).loop-rest in
     let a = (begun (turn f)).args in
-    rw c.without-rest.ensures (numbering_more (members (whole a.block)) (members (whole l.rest)) a.k a.numbers.now l.numbers f.first-x.result (there f).1 l.inv)
+    rw c.without-rest.ensures (numbering_more (members (whole a.block)) (members (whole l.rest)) a.k a.numbers.now l.numbers f.first-x.result (there f).1 l.invariant)
 
 same_length : tie.Need-shape_of-numbers invariant-loop decreases-loop
-same_length c = c.before.before.loop-rest.invariant.same_length
+same_length c = c.loop-rest.invariant.same_length
 
 returns : tie.Need-returns invariant-loop decreases-loop
 returns c =
-    let l = c.before.before.loop-rest in
+    let l = c.loop-rest in
     let a = (begun c.before.before).args in
     let rest = members (whole l.rest) in
-    let gone : # width rest ≡ 0 = eqb-true _ 0 (sym c.before.is_empty.ensures ∙ not-false _ c.loop-rest-test.false-raw) in
+    let gone : # width rest ≡ 0 = eqb-true _ 0 (sym c.is_empty.ensures ∙ not-false _ c.loop-rest-test.false-raw) in
     numbering_done (members (whole a.block)) rest a.k a.numbers.now l.numbers l.invariant
     (λ x e. nothing_in width rest gone x (columns_below a.block x (search rules) (l.invariant.inside x e)) e)
 

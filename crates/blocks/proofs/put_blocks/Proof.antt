@@ -29,19 +29,19 @@ abbrev with_room : tie.At-loop-at invariant-loop decreases-loop → tie.Else-out
 with_room k = k.before.before
 
 -- how many numbers there are
-long : (k : tie.Start invariant-loop decreases-loop) → length k.args.answer.numbers-1 ≡ most_columns
+long : (k : tie.Start invariant-loop decreases-loop) → length k.args.answer.numbers ≡ most_columns
 long k = search rules
 
 -- the count is written
 counted : (k : tie.At-loop-at invariant-loop decreases-loop) → let a = (begun k).args in
-    Wrote (blocks_bytes a.answer) a.answer.numbers-1 a.out.now (set a.out.now 0 a.answer.count) 1
+    Wrote (blocks_bytes a.answer) a.answer.numbers a.out.now (set a.out.now 0 a.answer.count) 1
 counted k =
     let a = (begun k).args in
-    wrote_set a.answer.count a.answer.numbers-1 (wrote_none (blocks_bytes a.answer) a.out.now (omega (arith, (with_room k).if-out-lt-BLOCKS_LENGTH.false, long (begun k)))) refl
+    wrote_set a.answer.count a.answer.numbers (wrote_none (blocks_bytes a.answer) a.out.now (omega (arith, (with_room k).if-out-lt-BLOCKS_LENGTH.false, long (begun k)))) refl
 
 -- and so far the numbers
 so_far : (k : tie.At-loop-at invariant-loop decreases-loop) → let a = (begun k).args in
-    Wrote (blocks_bytes a.answer) (drop k.loop-at.at a.answer.numbers-1) a.out.now k.loop-at.out (1 + k.loop-at.at)
+    Wrote (blocks_bytes a.answer) (drop k.loop-at.at a.answer.numbers) a.out.now k.loop-at.out (1 + k.loop-at.at)
 so_far k = k.loop-at.invariant.1 (begun k).args.answer.count (begun k).args.out.now (counted k)
 
 returns : tie.Need-returns-then-out-lt-BLOCKS_LENGTH invariant-loop decreases-loop
@@ -60,7 +60,7 @@ add_out : tie.Need-overflow_add-out invariant-loop decreases-loop
 add_out c = search rules
 
 slice_write_out_2 : tie.Need-bounds-out-at invariant-loop decreases-loop
-slice_write_out_2 c = let k = c.before in omega (arith, so_far k, ap length (drop-cons (begun k).args.answer.numbers-1 k.loop-at.at 0 (omega (arith, long (begun k), c.loop-at-test.true))))
+slice_write_out_2 c = let k = c.before in omega (arith, so_far k, ap length (drop-cons (begun k).args.answer.numbers k.loop-at.at 0 (omega (arith, long (begun k), c.loop-at-test.true))))
 
 add_at : tie.Need-overflow_add-at invariant-loop decreases-loop
 add_at c = omega arith
@@ -72,7 +72,7 @@ loop_again : tie.Need-loop-at-preserved invariant-loop decreases-loop
 loop_again c =
     let k = c.before in
     let l = k.loop-at in
-    let ns = (begun k).args.answer.numbers-1 in
+    let ns = (begun k).args.answer.numbers in
     let next : drop l.at ns ≡ get_or ns l.at 0 ∷ drop (l.at + 1) ns = drop-cons ns l.at 0 (omega (arith, long (begun k), c.loop-at-test.true)) ∙ rw add-one refl in
     let place : 1 + l.at + 1 ≡ 1 + (l.at + 1) = omega arith in
     (omega (arith, c.loop-at-test.true), λ count old w. rw place at (wrote_set (get_or ns l.at 0) _ (l.invariant.1 count old w) next))
@@ -84,7 +84,7 @@ returns_2 : tie.Need-returns invariant-loop decreases-loop
 returns_2 c =
     let k = c.before in
     put_done blocks_length _ _ (with_room k).if-out-lt-BLOCKS_LENGTH.false
-    (wrote_all (so_far k) (drop_of_length-le (begun k).args.answer.numbers-1 {i = k.loop-at.at} (omega (arith, long (begun k), c.loop-at-test.false))))
+    (wrote_all (so_far k) (drop_of_length-le (begun k).args.answer.numbers {i = k.loop-at.at} (omega (arith, long (begun k), c.loop-at-test.false))))
 
 pub put_blocks_spec : {M : Type 1} → statement M
 put_blocks_spec =

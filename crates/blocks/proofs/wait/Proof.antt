@@ -24,8 +24,8 @@ returns : tie.Need-returns
 returns c =
     let p = c.before.before in
     let w = p.before.before in
-    let a = w.before.before.before.before.args in
-    rw p.put_row.ensures (waits_put a.waiting-1.now a.y a.x (whole w.with-more.result) (w.with-more.ensures ∙ ap (λ (v : ℕ). inserted (members v) a.x) w.before.row.ensures))
+    let a = w.args in
+    rw p.put_row.ensures (waits_put a.waiting.now a.y a.x (whole w.with-more.result) (w.with-more.ensures ∙ ap (λ (v : ℕ). inserted (members v) a.x) w.row.ensures))
 
 pub wait_spec : {M : Type 1} → statement M
 wait_spec = tie.close (tie.spec row_requires with_requires put_row_requires same_length returns)

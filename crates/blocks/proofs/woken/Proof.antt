@@ -31,7 +31,7 @@ begun k = k.before.before.before
 -- the column of a turn is one of those that are left
 there : (f : tie.After-first-y invariant-loop decreases-loop) → (f.first-y.result < width) × (f.first-y.result ∈ members (whole (turn f).loop-rest.rest))
 there f =
-    let some : # width (members (whole (turn f).loop-rest.rest)) ≢ 0 = eqb-false _ 0 (sym f.before.before.is_empty.ensures ∙ not_in _ f.before.loop-rest-test.true-raw) in
+    let some : # width (members (whole (turn f).loop-rest.rest)) ≢ 0 = eqb-false _ 0 (sym f.is_empty.ensures ∙ not_in _ f.loop-rest-test.true-raw) in
     let t = least_there width _ some in
     ((rw (sym f.first-y.ensures) at t).0, (rw (sym f.first-y.ensures) at t).1)
 
@@ -39,7 +39,7 @@ empty_requires : tie.Need-empty-all-requires invariant-loop decreases-loop
 empty_requires c κs = search rules
 
 loop_holds : tie.Need-loop-rest-init invariant-loop decreases-loop
-loop_holds c = waking_start c.before.before.args.waiting.now (members (whole c.before.before.args.set)) (members (whole c.empty-all.result))
+loop_holds c = waking_start c.args.waiting.now (members (whole c.args.set)) (members (whole c.empty-all.result))
 
 is_empty_requires : tie.Need-is_empty-requires invariant-loop decreases-loop
 is_empty_requires c κs = search rules
@@ -67,7 +67,7 @@ loop_again c =
     let l = (turn f).loop-rest in
     let a = (begun (turn f)).args in
     rw (c.without-rest.ensures, u.union-all.ensures)
-    (waking_more a.waiting.now (members (whole a.set)) (members (whole l.rest)) (members (whole l.all)) (members (whole r.row.result)) f.first-y.result l.inv (ap members r.row.ensures))
+    (waking_more a.waiting.now (members (whole a.set)) (members (whole l.rest)) (members (whole l.all)) (members (whole r.row.result)) f.first-y.result l.invariant (ap members r.row.ensures))
 
 returns : tie.Need-returns invariant-loop decreases-loop
 returns c =
@@ -75,7 +75,7 @@ returns c =
     let l = k.loop-rest in
     let a = (begun k).args in
     let rest = members (whole l.rest) in
-    let gone : # width rest ≡ 0 = eqb-true _ 0 (sym c.before.is_empty.ensures ∙ not-false _ c.loop-rest-test.false-raw) in
+    let gone : # width rest ≡ 0 = eqb-true _ 0 (sym c.is_empty.ensures ∙ not-false _ c.loop-rest-test.false-raw) in
     λ x y ey e. l.invariant.1 x y ey (not_true (rest y) (nothing_in width rest gone y (columns_below a.set y (search rules) ey))) e
 
 pub woken_spec : {M : Type 1} → statement M

@@ -12,6 +12,7 @@ use Rattle.blocks_report.proofs.BlockColumns.{gathered, gathered_none, gathered_
 use borrow.Author.Rules.{rules}
 use native.Mathlib.Omega.{arith}
 use Rattle.blocks_report.proofs.columns_of_block.Statement.{statement}
+use Rattle.blocks_report.proofs.columns_of_block.Lts.{then-numbers-x, else-numbers-x}
 use Rattle.blocks_report.proofs.columns_of_block.Tie as tie
 
 abbrev invariant-loop : tie.invariant-loop-x
@@ -45,19 +46,19 @@ loop_less c = search rules
 loop_again : tie.Need-loop-x-preserved invariant-loop decreases-loop
 loop_again c =
     let l = (turn c).loop-x in
-    let a = (turn c).before.before.args in (
+    let a = (turn c).args in (
       search rules,
-      l.inv.1,
-      ⊎_elim
-          (λ w. rw (w.2, w.1.ensures, l.inv.2) (gathered_with a.t1 a.k l.x (omega arith) w.0.taken))
-          (λ w. rw (w.1, l.inv.2) (gathered_without a.t1 a.k l.x w.0.left))
-          c.if-numbers-x.branch,
+      l.invariant.1,
+      elim c.if-numbers-x.branch [
+        | then-numbers-x w ↦ rw (w.columns-is, w.with-columns.ensures, l.invariant.2) (gathered_with a.numbers a.k l.x (omega arith) w.if-numbers-x.true)
+        | else-numbers-x w ↦ rw (w.columns-is, l.invariant.2) (gathered_without a.numbers a.k l.x w.if-numbers-x.false)
+      ],
     )
 
 returns : tie.Need-returns invariant-loop decreases-loop
 returns c =
-    let l = c.before.loop-x in
-    let a = c.before.before.before.args in
+    let l = c.loop-x in
+    let a = c.args in
     let done : l.x ≡ length a.t1 = omega arith in
     l.invariant.2 ∙ ap (gathered a.t1 a.k) done ∙ gathered_all a.t1 a.k
 

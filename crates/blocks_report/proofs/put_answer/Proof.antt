@@ -32,7 +32,7 @@ returns : tie.Need-returns
 unfolding blocks_text ascii
 returns c =
     let rank = rank_put c in
-    let verdict = verdict_put rank.before.before.before in
+    let verdict = verdict_put rank.before.before.before.before in
     let blocks = blocks_put verdict.before.before in
     puts_then blocks.put_block_lines-after_blocks.ensures (puts_then verdict.put_verdict_line-after_verdict.ensures rank.put_number_line.ensures)
 

@@ -36,9 +36,9 @@ returns : tie.Need-returns
 unfolding ascii
 returns c =
     let columns = columns_put c in
-    let number = number_put columns.before.before.before in
+    let number = number_put columns.before.before.before.before in
     let word = word_put number.before.before in
-    puts_as (sym (block_line_is _ _ _ word.before.before.before.columns_of_block-set.ensures))
+    puts_as (sym (block_line_is _ _ _ word.columns_of_block-set.ensures))
     (puts_then word.put_bytes-after_word.ensures (puts_then number.put_item-after_number.ensures columns.put_column_line.ensures))
 
 pub put_block_line_spec : {M : Type 1} → statement M

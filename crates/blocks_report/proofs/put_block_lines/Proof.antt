@@ -35,17 +35,17 @@ loop_less c = search rules
 loop_again : tie.Need-loop-k-preserved invariant-loop decreases-loop
 loop_again c =
     let turn = (line_put c).before.before in
-    let l = turn.before.loop-k in
-    let a = turn.before.before.before.args in
-    (omega arith, putting_next (block_line a.numbers l.k) _ l.inv.1 (lines_next a.numbers a.count l.k (omega arith)) (line_put c).put_block_line-place.ensures)
+    let l = turn.loop-k in
+    let a = turn.args in
+    (omega arith, putting_next (block_line a.numbers l.k) _ l.invariant.1 (lines_next a.numbers a.count l.k (omega arith)) (line_put c).put_block_line-place.ensures)
 
 same_length : tie.Need-shape_of-out invariant-loop decreases-loop
-same_length c = putting_same c.before.loop-k.invariant.1
+same_length c = putting_same c.loop-k.invariant.1
 
 returns : tie.Need-returns invariant-loop decreases-loop
 returns c =
-    let l = c.before.loop-k in
-    let a = c.before.before.before.args in
+    let l = c.loop-k in
+    let a = c.args in
     putting_all l.invariant.1 (lines_none a.numbers a.count l.k (omega arith))
 
 pub put_block_lines_spec : {M : Type 1} → statement M

@@ -35,7 +35,7 @@ abbrev page_put : tie.After-page-3-1 → tie.After-put_report-length
 page_put c = c.before.before
 
 -- the report of the two answers has room on the page
-room : (c : tie.After-layered_file-answer) → let b = c.before.file_blocks-blocks.result in let t = c.layered_file-answer.result in length (report_text b.refusal (blocks_text t.verdict t.rank b)) ≤ longest_blocks_report
+room : (c : tie.After-layered_file-answer) → let b = c.file_blocks-blocks.result in let t = c.layered_file-answer.result in length (report_text b.refusal (blocks_text t.verdict t.rank b)) ≤ longest_blocks_report
 room c = report_length _ _ _ (omega arith) (omega arith) (blocks_text_length _ _ _ (omega arith) (omega arith))
 
 file_blocks_requires : tie.Need-file_blocks-blocks-requires
@@ -69,7 +69,7 @@ returns c =
     let printed = c.before.before in
     let put = page_put printed.before.before in
     let ranked = put.before.before in
-    let blocks = ranked.before.file_blocks-blocks in
+    let blocks = ranked.file_blocks-blocks in
     let shown = prints_as (puts_page put.put_report-length.ensures (room ranked)) printed.print.ensures in
     call_reported _ _ blocks.ensures (prints_as (model_shown _ blocks.result _ blocks.ensures.is_refusal ranked.layered_file-answer.ensures) shown)
 

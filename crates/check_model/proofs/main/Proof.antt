@@ -25,11 +25,11 @@ report_file_requires : tie.Need-report_file-printed-requires
 report_file_requires c κs = search rules
 
 array_share_prefix_text : tie.Need-slice_bounds-text-end
-array_share_prefix_text c = search (rules, reports_within c.before.report_file-printed.ensures)
+array_share_prefix_text c = search (rules, reports_within c.report_file-printed.ensures)
 
 slice_aggregate_write_all : tie.Need-slice_bounds-write_all-end
 slice_aggregate_write_all c =
-    let r = c.before.before.report_file-printed in
+    let r = c.report_file-printed in
     search (rules, sym (length-take-le r.result.length r.new.1.0 (reports_within r.ensures)))
 
 write_all_requires : tie.Need-write_all-requires

@@ -43,11 +43,11 @@ report_reason_file_requires : tie.Need-report_reason_file-printed-requires
 report_reason_file_requires c κs = search rules
 
 array_share_prefix_report : tie.Need-slice_bounds-report-end
-array_share_prefix_report c = search (rules, reports_within c.before.report_reason_file-printed.ensures)
+array_share_prefix_report c = search (rules, reports_within c.report_reason_file-printed.ensures)
 
 slice_aggregate_write_all : tie.Need-slice_bounds-write_all-end
 slice_aggregate_write_all c =
-    let r = c.before.before.report_reason_file-printed in
+    let r = c.report_reason_file-printed in
     search (rules, sym (length-take-le r.result.length r.new.1.1.0 (reports_within r.ensures)))
 
 write_all_requires : tie.Need-write_all-requires

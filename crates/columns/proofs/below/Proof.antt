@@ -11,7 +11,7 @@ below_requires c κs = search rules
 
 returns : tie.Need-returns-then-n-lt-WIDTH
 unfolding whole
-returns c = below_low c.below.result 0 c.before.before.args.n (search rules) c.before.if-n-lt-WIDTH.true c.below.ensures members_zero
+returns c = below_low c.below.result 0 c.args.n (search rules) c.if-n-lt-WIDTH.true c.below.ensures members_zero
 
 below_requires_2 : tie.Need-below-requires-2
 below_requires_2 c κs = search rules
@@ -22,8 +22,8 @@ below_requires_3 c κs = search rules
 returns_2 : tie.Need-returns
 unfolding whole
 returns_2 c =
-    let low = c.before.below-2 in
-    below_high low.result c.below-3.result c.before.before.before.args.n (search rules) c.before.before.if-n-lt-WIDTH.false low.ensures c.below-3.ensures
+    let low = c.below-2 in
+    below_high low.result c.below-3.result c.args.n (search rules) c.if-n-lt-WIDTH.false low.ensures c.below-3.ensures
 
 pub below_spec : {M : Type 1} → statement M
 below_spec = tie.close (tie.spec below_requires returns below_requires_2 below_requires_3 returns_2)

@@ -11,16 +11,16 @@ byte_requires c κs = search rules
 
 returns : tie.Need-returns-then-k-lt-BYTES
 unfolding whole
-returns c = let a = c.before.before.args in
-    c.byte.ensures ∙ byte_low a.set.low a.set.high a.k (search rules) c.before.if-k-lt-BYTES.true
+returns c = let a = c.args in
+    c.byte.ensures ∙ byte_low a.set.low a.set.high a.k (search rules) c.if-k-lt-BYTES.true
 
 byte_requires_2 : tie.Need-byte-requires-2
 byte_requires_2 c κs = search rules
 
 returns_2 : tie.Need-returns
 unfolding whole
-returns_2 c = let a = c.before.before.args in
-    c.byte-2.ensures ∙ byte_high a.set.low a.set.high a.k (search rules) c.before.if-k-lt-BYTES.false
+returns_2 c = let a = c.args in
+    c.byte-2.ensures ∙ byte_high a.set.low a.set.high a.k (search rules) c.if-k-lt-BYTES.false
 
 pub byte_spec : {M : Type 1} → statement M
 byte_spec = tie.close (tie.spec byte_requires returns byte_requires_2 returns_2)

@@ -13,7 +13,7 @@ use Rattle.columns.proofs.difference.Tie as tie
 returns : tie.Need-returns
 unfolding whole
 returns c =
-    let a = c.before.before.before.before.args in
+    let a = c.args in
     column_wise (λ s o. s && not o) _ _ a.set.low a.set.high a.other.low a.other.high
     (search (rules, lt_of_le_of_lt, and_le_l)) (search rules) (search rules)
     (members_less word_width a.set.low a.other.low (search rules) (search rules))

@@ -12,7 +12,7 @@ use Rattle.columns.proofs.intersection.Tie as tie
 returns : tie.Need-returns
 unfolding whole
 returns c =
-    let a = c.before.before.before.before.args in
+    let a = c.args in
     column_wise ◌&&◌ _ _ a.set.low a.set.high a.other.low a.other.high
     (and_lt word_width a.set.low a.other.low (search rules) (search rules)) (search rules) (search rules)
     (members_and a.set.low a.other.low)

@@ -14,14 +14,14 @@ is_empty_requires_2 c κs = search rules
 
 returns : tie.Need-returns-then-is_empty
 unfolding whole
-returns c = let s = c.before.before.before.args.set in
-    let low = c.before.before.is_empty in
-    c.is_empty-then-is_empty.ensures ∙ empty_high s.low s.high (search rules) (is_none _ low.result low.ensures c.before.if-is_empty.true)
+returns c = let s = c.args.set in
+    let low = c.is_empty in
+    c.is_empty-then-is_empty.ensures ∙ empty_high s.low s.high (search rules) (is_none _ low.result low.ensures c.if-is_empty.true)
 
 returns_2 : tie.Need-returns
 unfolding whole
-returns_2 c = let s = c.before.before.args.set in
-    let low = c.before.is_empty in
+returns_2 c = let s = c.args.set in
+    let low = c.is_empty in
     empty_low s.low s.high (search rules) (is_some _ low.result low.ensures c.if-is_empty.false)
 
 pub is_empty_spec : {M : Type 1} → statement M

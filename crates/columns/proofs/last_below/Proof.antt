@@ -29,7 +29,7 @@ touchers l = let a = (begun l).args in rows_touching (row_numbers a.words.now) (
 
 says : (c : tie.After-touches invariant-loop decreases-loop) → c.touches.result ≡ touchers (turn c) ((turn c).loop-r.r - 1)
 unfolding touching
-says c = c.touches.ensures ∙ ap (λ (w : ℕ). any width (members (whole (begun (turn c)).args.set) ∩ members w)) c.before.row.ensures
+says c = c.touches.ensures ∙ ap (λ (w : ℕ). any width (members (whole (begun (turn c)).args.set) ∩ members w)) c.row.ensures
 
 loop_holds : tie.Need-loop-r-init invariant-loop decreases-loop
 loop_holds c = (omega arith, λ x l m. absurd (omega arith))

@@ -51,19 +51,19 @@ turn₄ c = turn₃ c.before.before
 
 -- a turn has four rows
 four₁ : (c : tie.Else-low_touches invariant-loop decreases-loop) → 4 ≤ (turn₁ c).loop-r.r
-four₁ c = c.before.before.loop-r-test.true
+four₁ c = c.loop-r-test.true
 
 none₁ : (c : tie.Else-low_touches invariant-loop decreases-loop) → let s = begun (turn₁ c) in NoneFrom (touchers s) ((turn₁ c).loop-r.r - 1) s.args.all
-none₁ c = let l = turn₁ c in one_more {m = l.loop-r.r - 1} (omega (arith, four₁ c)) (says (begun l) _ c.before.low_touches.ensures ∙ c.if-low_touches.false) l.loop-r.invariant.1
+none₁ c = let l = turn₁ c in one_more {m = l.loop-r.r - 1} (omega (arith, four₁ c)) (says (begun l) _ c.low_touches.ensures ∙ c.if-low_touches.false) l.loop-r.invariant.1
 
 none₂ : (c : tie.Else-low_touches-2 invariant-loop decreases-loop) → let s = begun (turn₂ c) in NoneFrom (touchers s) ((turn₂ c).loop-r.r - 2) s.args.all
-none₂ c = let l = turn₂ c in one_more {m = l.loop-r.r - 2} (omega (arith, four₁ c.before.before)) (says (begun l) _ c.before.low_touches-in-loop-r.ensures ∙ c.if-low_touches-2.false) (none₁ c.before.before)
+none₂ c = let l = turn₂ c in one_more {m = l.loop-r.r - 2} (omega (arith, four₁ c.before.before)) (says (begun l) _ c.low_touches-in-loop-r.ensures ∙ c.if-low_touches-2.false) (none₁ c.before.before)
 
 none₃ : (c : tie.Else-low_touches-3 invariant-loop decreases-loop) → let s = begun (turn₃ c) in NoneFrom (touchers s) ((turn₃ c).loop-r.r - 3) s.args.all
-none₃ c = let l = turn₃ c in one_more {m = l.loop-r.r - 3} (omega (arith, four₁ c.before.before.before.before)) (says (begun l) _ c.before.low_touches-in-loop-r-2.ensures ∙ c.if-low_touches-3.false) (none₂ c.before.before)
+none₃ c = let l = turn₃ c in one_more {m = l.loop-r.r - 3} (omega (arith, four₁ c.before.before.before.before)) (says (begun l) _ c.low_touches-in-loop-r-2.ensures ∙ c.if-low_touches-3.false) (none₂ c.before.before)
 
 none₄ : (c : tie.Else-low_touches-4 invariant-loop decreases-loop) → let s = begun (turn₄ c) in NoneFrom (touchers s) ((turn₄ c).loop-r.r - 4) s.args.all
-none₄ c = let l = turn₄ c in one_more {m = l.loop-r.r - 4} (omega (arith, four₁ c.before.before.before.before.before.before)) (says (begun l) _ c.before.low_touches-in-loop-r-3.ensures ∙ c.if-low_touches-4.false) (none₃ c.before.before)
+none₄ c = let l = turn₄ c in one_more {m = l.loop-r.r - 4} (omega (arith, four₁ c.before.before.before.before.before.before)) (says (begun l) _ c.low_touches-in-loop-r-3.ensures ∙ c.if-low_touches-4.false) (none₃ c.before.before)
 
 loop_holds : tie.Need-loop-r-init invariant-loop decreases-loop
 loop_holds c = (omega arith, λ x l m. absurd (omega arith))
@@ -80,8 +80,8 @@ sub_result c = search rules
 returns : tie.Need-returns-then-low_touches invariant-loop decreases-loop
 returns c =
     let l = c.before.before.before in
-    let many = c.before.before.loop-r-test.true in
-    found (begun l) (l.loop-r.r - 1) (omega (arith, many, l.loop-r.invariant.0)) (says (begun l) _ c.before.low_touches.ensures ∙ c.if-low_touches.true) (λ x lx hx. l.loop-r.invariant.1 x (omega arith) hx)
+    let many = c.loop-r-test.true in
+    found (begun l) (l.loop-r.r - 1) (omega (arith, many, l.loop-r.invariant.0)) (says (begun l) _ c.low_touches.ensures ∙ c.if-low_touches.true) (λ x lx hx. l.loop-r.invariant.1 x (omega arith) hx)
 
 sub_low_touches_2 : tie.Need-overflow_sub-r-in-loop-r invariant-loop decreases-loop
 sub_low_touches_2 c = search rules
@@ -96,7 +96,7 @@ returns_2 : tie.Need-returns-then-low_touches-2 invariant-loop decreases-loop
 returns_2 c =
     let e = c.before.before in
     let l = turn₁ e in
-    found (begun l) (l.loop-r.r - 2) (omega (arith, four₁ e, l.loop-r.invariant.0)) (says (begun l) _ c.before.low_touches-in-loop-r.ensures ∙ c.if-low_touches-2.true) (λ x lx hx. none₁ e x (omega (arith, four₁ e)) hx)
+    found (begun l) (l.loop-r.r - 2) (omega (arith, four₁ e, l.loop-r.invariant.0)) (says (begun l) _ c.low_touches-in-loop-r.ensures ∙ c.if-low_touches-2.true) (λ x lx hx. none₁ e x (omega (arith, four₁ e)) hx)
 
 sub_low_touches_3 : tie.Need-overflow_sub-r-in-loop-r-2 invariant-loop decreases-loop
 sub_low_touches_3 c = search rules
@@ -112,7 +112,7 @@ returns_3 c =
     let e = c.before.before in
     let l = turn₂ e in
     let many = four₁ e.before.before in
-    found (begun l) (l.loop-r.r - 3) (omega (arith, many, l.loop-r.invariant.0)) (says (begun l) _ c.before.low_touches-in-loop-r-2.ensures ∙ c.if-low_touches-3.true) (λ x lx hx. none₂ e x (omega (arith, many)) hx)
+    found (begun l) (l.loop-r.r - 3) (omega (arith, many, l.loop-r.invariant.0)) (says (begun l) _ c.low_touches-in-loop-r-2.ensures ∙ c.if-low_touches-3.true) (λ x lx hx. none₂ e x (omega (arith, many)) hx)
 
 low_touches_requires_4 : tie.Need-low_touches-requires-in-loop-r-3 invariant-loop decreases-loop
 low_touches_requires_4 c κs = let l = turn₃ c in omega (arith, four₁ c.before.before.before.before, l.loop-r.invariant.0, (begun l).requires.0)
@@ -122,7 +122,7 @@ returns_4 c =
     let e = c.before.before in
     let l = turn₃ e in
     let many = four₁ e.before.before.before.before in
-    found (begun l) (l.loop-r.r - 4) (omega (arith, many, l.loop-r.invariant.0)) (says (begun l) _ c.before.low_touches-in-loop-r-3.ensures ∙ c.if-low_touches-4.true) (λ x lx hx. none₃ e x (omega (arith, many)) hx)
+    found (begun l) (l.loop-r.r - 4) (omega (arith, many, l.loop-r.invariant.0)) (says (begun l) _ c.low_touches-in-loop-r-3.ensures ∙ c.if-low_touches-4.true) (λ x lx hx. none₃ e x (omega (arith, many)) hx)
 
 loop_less : tie.Need-loop-r-smaller invariant-loop decreases-loop
 loop_less c = search rules

@@ -27,7 +27,7 @@ rows_below_requires : tie.Need-rows_below-all-requires
 rows_below_requires c κs = search rules
 
 last_below_low_requires : tie.Need-last_below_low-requires
-last_below_low_requires c κs = (omega (arith, c.before.before.rows_below-all.ensures), c.if-set-eq-EMPTY.true)
+last_below_low_requires c κs = (omega (arith, c.rows_below-all.ensures), c.if-set-eq-EMPTY.true)
 
 returns : tie.Need-returns-then-set-eq-EMPTY
 returns c = c.last_below_low.ensures ∙ sym (there c.before.before.before)

@@ -28,10 +28,10 @@ shared_slice_read_result c = search (rules, both c.before)
 returns : tie.Need-returns
 unfolding touching
 returns c =
-    let a = c.before.args in
+    let a = c.args in
     let at = row_words * a.r in
     common_low (get_or a.words.now at 0) (get_or a.words.now (at + 1) 0) a.low (search (rules, c.shared_slice_known-1.given at)) (search rules)
-    ∙ ap (λ (w : ℕ). any width (members a.low ∩ members w)) (row_words_joined a.words.now a.r c.before.requires)
+    ∙ ap (λ (w : ℕ). any width (members a.low ∩ members w)) (row_words_joined a.words.now a.r c.requires)
 
 pub low_touches_spec : {M : Type 1} → statement M
 low_touches_spec = tie.close (tie.spec mul_result mul_result_2 shared_slice_read_result returns)

@@ -25,10 +25,10 @@ lowered_requires_2 c κs = search rules
 returns : tie.Need-returns-then-m-lt-WIDTH
 unfolding whole
 returns c =
-    let a = c.before.before.before.before.args in
-    let down = c.before.before.lowered in
-    let up = c.before.raised in
-    lowered_low a.set.low a.set.high _ c.lowered-then-m-lt-WIDTH.result a.m (search rules) (or_lt word_width down.result up.result (search rules) (search rules)) c.before.before.before.if-m-lt-WIDTH.true
+    let a = c.args in
+    let down = c.lowered in
+    let up = c.raised in
+    lowered_low a.set.low a.set.high _ c.lowered-then-m-lt-WIDTH.result a.m (search rules) (or_lt word_width down.result up.result (search rules) (search rules)) c.if-m-lt-WIDTH.true
     (members_or down.result up.result ∙ ap₂ (λ (S T : Set). S ∪ T) down.ensures up.ensures)
     c.lowered-then-m-lt-WIDTH.ensures
 
@@ -38,8 +38,8 @@ lowered_requires_3 c κs = search rules
 returns_2 : tie.Need-returns
 unfolding whole
 returns_2 c =
-    let a = c.before.before.args in
-    lowered_high a.set.low a.set.high c.lowered-2.result 0 a.m (search rules) (search rules) (search rules) c.before.if-m-lt-WIDTH.false c.lowered-2.ensures members_zero
+    let a = c.args in
+    lowered_high a.set.low a.set.high c.lowered-2.result 0 a.m (search rules) (search rules) (search rules) c.if-m-lt-WIDTH.false c.lowered-2.ensures members_zero
 
 pub lowered_spec : {M : Type 1} → statement M
 lowered_spec =

@@ -24,7 +24,7 @@ unfolding whole
 returns c =
     let known = c.before.before in
     read_from _ _ (λ i. search (rules, known.shared_slice_known-1.given i))
-    (bytes_short known.before.args.bytes.now c.of_bytes.result c.before.if-bytes-lt-BYTES.true c.of_bytes.ensures)
+    (bytes_short known.args.bytes.now c.of_bytes.result c.if-bytes-lt-BYTES.true c.of_bytes.ensures)
 
 of_bytes_requires_2 : tie.Need-of_bytes-requires-2
 of_bytes_requires_2 c κs = search rules
@@ -44,10 +44,10 @@ of_bytes_requires_3 c κs = search rules
 returns_2 : tie.Need-returns
 unfolding whole
 returns_2 c =
-    let low = c.before.before.of_bytes-2 in
+    let low = c.of_bytes-2 in
     let known = c.before.before.before.before in
     read_from _ _ (λ i. search (rules, known.shared_slice_known-1.given i))
-    (bytes_long known.before.args.bytes.now low.result c.of_bytes-3.result c.before.before.before.if-bytes-lt-BYTES.false low.ensures c.of_bytes-3.ensures)
+    (bytes_long known.args.bytes.now low.result c.of_bytes-3.result c.if-bytes-lt-BYTES.false low.ensures c.of_bytes-3.ensures)
 
 pub of_bytes_spec : {M : Type 1} → statement M
 of_bytes_spec =

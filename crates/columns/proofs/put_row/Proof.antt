@@ -17,7 +17,7 @@ abbrev begun : tie.Then-r-rows → tie.Start
 begun c = c.before.before.before
 
 inside : (c : tie.Then-r-rows) → (begun c).args.r < length (row_numbers (begun c).args.words.now)
-inside c = omega (arith, c.if-r-rows.true, c.before.rows.ensures)
+inside c = omega (arith, c.if-r-rows.true, c.rows.ensures)
 
 both : (c : tie.Then-r-rows) → row_words * (begun c).args.r + 1 < length (begun c).args.words.now
 both c = row_there (begun c).args.words.now (begun c).args.r (inside c)
@@ -55,8 +55,8 @@ same_length_2 c = search rules
 
 returns_2 : tie.Need-returns-else-r-rows
 returns_2 c =
-    let a = c.before.before.before.args in
-    sym (with_row_past a.words.now a.r (whole a.set) (omega (arith, c.if-r-rows.false, c.before.rows.ensures)))
+    let a = c.args in
+    sym (with_row_past a.words.now a.r (whole a.set) (omega (arith, c.if-r-rows.false, c.rows.ensures)))
 
 pub put_row_spec : {M : Type 1} → statement M
 put_row_spec =

@@ -23,10 +23,10 @@ lowered_requires c κs = search rules
 returns : tie.Need-returns-then-m-lt-WIDTH
 unfolding whole
 returns c =
-    let a = c.before.before.before.before.args in
-    let low = c.before.before.raised in
-    let up = c.before.raised-then-m-lt-WIDTH in
-    raised_low a.set.low a.set.high low.result _ a.m (search rules) (search rules) c.before.before.before.if-m-lt-WIDTH.true low.ensures
+    let a = c.args in
+    let low = c.raised in
+    let up = c.raised-then-m-lt-WIDTH in
+    raised_low a.set.low a.set.high low.result _ a.m (search rules) (search rules) c.if-m-lt-WIDTH.true low.ensures
     (members_or up.result c.lowered.result ∙ ap₂ (λ (S T : Set). S ∪ T) up.ensures c.lowered.ensures)
 
 raised_requires_3 : tie.Need-raised-requires-2
@@ -35,8 +35,8 @@ raised_requires_3 c κs = search rules
 returns_2 : tie.Need-returns
 unfolding whole
 returns_2 c =
-    let a = c.before.before.args in
-    raised_high a.set.low a.set.high 0 c.raised-2.result a.m (search rules) (search rules) c.before.if-m-lt-WIDTH.false members_zero c.raised-2.ensures
+    let a = c.args in
+    raised_high a.set.low a.set.high 0 c.raised-2.result a.m (search rules) (search rules) c.if-m-lt-WIDTH.false members_zero c.raised-2.ensures
 
 pub raised_spec : {M : Type 1} → statement M
 raised_spec =

@@ -15,7 +15,7 @@ abbrev begun : tie.Then-r-rows → tie.Start
 begun c = c.before.before.before
 
 inside : (c : tie.Then-r-rows) → (begun c).args.r < length (row_numbers (begun c).args.words.now)
-inside c = omega (arith, c.if-r-rows.true, c.before.rows.ensures)
+inside c = omega (arith, c.if-r-rows.true, c.rows.ensures)
 
 both : (c : tie.Then-r-rows) → row_words * (begun c).args.r + 1 < length (begun c).args.words.now
 both c = row_there (begun c).args.words.now (begun c).args.r (inside c)
@@ -50,8 +50,8 @@ empty_requires c κs = search rules
 
 returns_2 : tie.Need-returns
 returns_2 c =
-    let a = c.before.before.before.before.args in
-    empty_zero c.empty.ensures ∙ sym (get_or-eq_default (row_numbers a.words.now) 0 (omega (arith, c.before.if-r-rows.false, c.before.before.rows.ensures)))
+    let a = c.args in
+    empty_zero c.empty.ensures ∙ sym (get_or-eq_default (row_numbers a.words.now) 0 (omega (arith, c.if-r-rows.false, c.rows.ensures)))
 
 pub row_spec : {M : Type 1} → statement M
 row_spec =

@@ -17,13 +17,13 @@ size_requires_2 : tie.Need-size-requires-2
 size_requires_2 c κs = search rules
 
 add_result : tie.Need-overflow_add-result
-add_result c = let s = c.before.before.args.set in
-    omega (arith, c.before.size.ensures, c.size-2.ensures, #-le word_width (members s.low), #-le word_width (members s.high))
+add_result c = let s = c.args.set in
+    omega (arith, c.size.ensures, c.size-2.ensures, #-le word_width (members s.low), #-le word_width (members s.high))
 
 returns : tie.Need-returns
 unfolding whole
-returns c = let s = c.before.before.args.set in
-    ap₂ (λ (m n : ℕ). m + n) c.before.size.ensures c.size-2.ensures ∙ size_halves s.low s.high (search rules)
+returns c = let s = c.args.set in
+    ap₂ (λ (m n : ℕ). m + n) c.size.ensures c.size-2.ensures ∙ size_halves s.low s.high (search rules)
 
 pub size_spec : {M : Type 1} → statement M
 size_spec = tie.close (tie.spec size_requires size_requires_2 add_result returns)

@@ -18,8 +18,8 @@ is_empty_requires c κs = search rules
 
 returns : tie.Need-returns
 returns c =
-    let a = c.before.before.args in
-    ap not (c.is_empty.ensures ∙ ap (λ (S : Set). eqb (# width S) 0) c.before.intersection.ensures)
+    let a = c.args in
+    ap not (c.is_empty.ensures ∙ ap (λ (S : Set). eqb (# width S) 0) c.intersection.ensures)
     ∙ size_any width (members (whole a.set) ∩ members (whole a.row))
 
 pub touches_spec : {M : Type 1} → statement M

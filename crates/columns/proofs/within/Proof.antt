@@ -14,24 +14,24 @@ within_requires c κs = search rules
 
 returns : tie.Need-returns-then-is_empty
 unfolding whole
-returns c = let a = c.before.before.before.before.args in
-    let high = c.before.before.is_empty in
+returns c = let a = c.args in
+    let high = c.is_empty in
     c.within.ensures
-    ∙ within_low a.set.low a.set.high a.n (search rules) c.before.before.before.if-n-lt-WIDTH.true (is_none _ high.result high.ensures c.before.if-is_empty.true)
+    ∙ within_low a.set.low a.set.high a.n (search rules) c.if-n-lt-WIDTH.true (is_none _ high.result high.ensures c.if-is_empty.true)
 
 returns_2 : tie.Need-returns-then-n-lt-WIDTH
 unfolding whole
-returns_2 c = let a = c.before.before.before.args in
-    let high = c.before.is_empty in
-    not_within a.set.low a.set.high a.n (search rules) c.before.before.if-n-lt-WIDTH.true (is_some _ high.result high.ensures c.if-is_empty.false)
+returns_2 c = let a = c.args in
+    let high = c.is_empty in
+    not_within a.set.low a.set.high a.n (search rules) c.if-n-lt-WIDTH.true (is_some _ high.result high.ensures c.if-is_empty.false)
 
 within_requires_2 : tie.Need-within-requires-2
 within_requires_2 c κs = search rules
 
 returns_3 : tie.Need-returns
 unfolding whole
-returns_3 c = let a = c.before.before.args in
-    c.within-2.ensures ∙ within_high a.set.low a.set.high a.n (search rules) c.before.if-n-lt-WIDTH.false
+returns_3 c = let a = c.args in
+    c.within-2.ensures ∙ within_high a.set.low a.set.high a.n (search rules) c.if-n-lt-WIDTH.false
 
 pub within_spec : {M : Type 1} → statement M
 within_spec =

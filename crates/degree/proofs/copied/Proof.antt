@@ -39,13 +39,13 @@ loop_less c = search rules
 loop_again : tie.Need-loop-i-preserved invariant-loop decreases-loop
 loop_again c =
     let k = c.before.before in
-    let cs = k.before.args.constants.now in
+    let cs = k.args.constants.now in
     (omega arith, search rules, filled_more (λ j v. v ≡ get_or cs j 0) k.loop-i.copy k.loop-i.i _ (omega (arith, k.loop-i.invariant.1)) k.loop-i.invariant.2 refl)
 
 returns : tie.Need-returns invariant-loop decreases-loop
 returns c =
-    let l = c.before.loop-i in
-    let done : l.i ≡ c.before.before.args.k = omega arith in
+    let l = c.loop-i in
+    let done : l.i ≡ c.args.k = omega arith in
     rw done at l.invariant.2
 
 pub copied_spec : {M : Type 1} → statement M

@@ -49,12 +49,12 @@ returns c =
     let at_read = read c.before.before in
     let file = (begun at_read).args.file.now in
     let e = c.refuse.ensures.0 in
-    let nonzero : c.refuse.result.refusal ≢ 0 = λ z. c.before.if-sizes-ne0.true (sym e ∙ z) in
+    let nonzero : c.refuse.result.refusal ≢ 0 = λ z. c.if-sizes-ne0.true (sym e ∙ z) in
     call_refused (then_refused (closed fields file) _ _ (e ∙ own_refusal (file_bytes at_read) at_read.read_rows-sizes.ensures) nonzero) nonzero c.refuse.ensures.1
 
 -- what was read is accepted
 accepted : (c : tie.Else-sizes-ne0) → let r = read c.before in let s = r.read_rows-sizes.result in
-    Accepted s.p s.n s.a s.b r.read_rows-sizes.last.1.0 (row_numbers r.read_rows-sizes.last.1.1.0) none
+    Accepted s.p s.n s.a s.b r.read_rows-sizes.new.constants (row_numbers r.read_rows-sizes.new.parameters) none
 accepted c = let r = read c.before in model_accepted _ _ _ _ _ _ _ (own_accepted (file_bytes r) r.read_rows-sizes.ensures c.if-sizes-ne0.false)
 
 areas_hold_requires : tie.Need-areas_hold-requires
@@ -72,7 +72,7 @@ returns_2 c =
     let a = (begun r).args in
     let e = c.refuse-then-not-areas_hold.ensures.0 in
     own_call (file_bytes r) r.read_rows-sizes.ensures o.if-sizes-ne0.false a.rowpowers.now a.columnpowers.now a.parameterpowers.now c.refuse-then-not-areas_hold.result
-    (call_refused (e ∙ areas_short s.n s.a s.b a.rowpowers.now a.columnpowers.now a.parameterpowers.now _ (sym h.areas_hold.ensures ∙ not-true _ c.before.if-not-areas_hold.true-raw))
+    (call_refused (e ∙ areas_short s.n s.a s.b a.rowpowers.now a.columnpowers.now a.parameterpowers.now _ (sym h.areas_hold.ensures ∙ not-true _ c.if-not-areas_hold.true-raw))
     (λ z. omega (arith, e)) c.refuse-then-not-areas_hold.ensures.1)
 
 slice_aggregate_ask : tie.Need-slice_bounds-ask-end
@@ -102,7 +102,7 @@ returns_3 c =
     let a = (begun r).args in
     own_call (file_bytes r) r.read_rows-sizes.ensures o.if-sizes-ne0.false a.rowpowers.now a.columnpowers.now a.parameterpowers.now k.ask.result
     (call_as (areas_passed s.n s.a s.b a.rowpowers.now a.columnpowers.now a.parameterpowers.now _ (sym h.areas_hold.ensures ∙ not-false _ e.if-not-areas_hold.false-raw))
-    (λ x. x) (k.ask.ensures (tableau_of s.p s.n r.read_rows-sizes.last.1.0) (λ i x li lx. refl)))
+    (λ x. x) (k.ask.ensures (tableau_of s.p s.n r.read_rows-sizes.new.constants) (λ i x li lx. refl)))
 
 pub file_degree_spec : {M : Type 1} → statement M
 file_degree_spec =

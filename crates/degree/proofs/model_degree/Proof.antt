@@ -33,7 +33,7 @@ sizes c =
     let j = judged c in
     let a = (begun j).args in
     let z = (size_reads a.n a.a a.b).0 (sizes_pass _ _ _ _ a.constants.now (row_numbers a.parameters.now) (lent a.numbered a.numbers.now) a.rowpowers.now a.columnpowers.now a.parameterpowers.now
-    j.judge_model-number.result j.judge_model-number.ensures c.before.if-number-eq-NOT_PRIME.false c.if-number-eq-SIZES_BEYOND.false).1 in
+    j.judge_model-number.result j.judge_model-number.ensures c.if-number-eq-NOT_PRIME.false c.if-number-eq-SIZES_BEYOND.false).1 in
     (z.1, z.3)
 
 -- the model is accepted
@@ -53,7 +53,7 @@ returns c =
     let a = (begun j).args in
     let e = c.refuse.ensures.0 in
     call_refused (e ∙ sizes_refused a.p a.n a.a a.b a.constants.now (row_numbers a.parameters.now) (lent a.numbered a.numbers.now) a.rowpowers.now a.columnpowers.now a.parameterpowers.now
-    j.judge_model-number.result j.judge_model-number.ensures (inl c.before.if-number-eq-NOT_PRIME.true)) (λ z. omega (arith, e, c.before.if-number-eq-NOT_PRIME.true)) c.refuse.ensures.1
+    j.judge_model-number.result j.judge_model-number.ensures (inl c.if-number-eq-NOT_PRIME.true)) (λ z. omega (arith, e, c.if-number-eq-NOT_PRIME.true)) c.refuse.ensures.1
 
 refuse_requires_2 : tie.Need-refuse-requires-then-number-eq-SIZES_BEYOND
 refuse_requires_2 c κs = search rules
@@ -64,7 +64,7 @@ returns_2 c =
     let a = (begun j).args in
     let e = c.refuse-then-number-eq-SIZES_BEYOND.ensures.0 in
     call_refused (e ∙ sizes_refused a.p a.n a.a a.b a.constants.now (row_numbers a.parameters.now) (lent a.numbered a.numbers.now) a.rowpowers.now a.columnpowers.now a.parameterpowers.now
-    j.judge_model-number.result j.judge_model-number.ensures (inr c.before.if-number-eq-SIZES_BEYOND.true)) (λ z. omega (arith, e, c.before.if-number-eq-SIZES_BEYOND.true)) c.refuse-then-number-eq-SIZES_BEYOND.ensures.1
+    j.judge_model-number.result j.judge_model-number.ensures (inr c.if-number-eq-SIZES_BEYOND.true)) (λ z. omega (arith, e, c.if-number-eq-SIZES_BEYOND.true)) c.refuse-then-number-eq-SIZES_BEYOND.ensures.1
 
 areas_hold_requires : tie.Need-areas_hold-requires
 areas_hold_requires c κs = sizes c
@@ -80,7 +80,7 @@ returns_3 c =
     let a = (begun j).args in
     let e = c.refuse-then-not-areas_hold.ensures.0 in
     call_refused (e ∙ areas_refused a.p a.n a.a a.b a.constants.now (row_numbers a.parameters.now) (lent a.numbered a.numbers.now) a.rowpowers.now a.columnpowers.now a.parameterpowers.now
-    j.judge_model-number.result j.judge_model-number.ensures s.before.if-number-eq-NOT_PRIME.false s.if-number-eq-SIZES_BEYOND.false (sym h.areas_hold.ensures ∙ not-true _ c.before.if-not-areas_hold.true-raw)) (λ z. omega (arith, e)) c.refuse-then-not-areas_hold.ensures.1
+    j.judge_model-number.result j.judge_model-number.ensures s.if-number-eq-NOT_PRIME.false s.if-number-eq-SIZES_BEYOND.false (sym h.areas_hold.ensures ∙ not-true _ c.if-not-areas_hold.true-raw)) (λ z. omega (arith, e)) c.refuse-then-not-areas_hold.ensures.1
 
 refuse_requires_4 : tie.Need-refuse-requires-then-number-ne0
 refuse_requires_4 c κs = search rules
@@ -93,7 +93,7 @@ returns_4 c =
     let a = (begun j).args in
     let e = c.refuse-then-number-ne0.ensures.0 in
     call_refused (e ∙ model_refused a.p a.n a.a a.b a.constants.now (row_numbers a.parameters.now) (lent a.numbered a.numbers.now) a.rowpowers.now a.columnpowers.now a.parameterpowers.now
-    j.judge_model-number.result j.judge_model-number.ensures (sym h.areas_hold.ensures ∙ not-false _ f.if-not-areas_hold.false-raw) c.before.if-number-ne0.true) (λ z. c.before.if-number-ne0.true (sym e ∙ z)) c.refuse-then-number-ne0.ensures.1
+    j.judge_model-number.result j.judge_model-number.ensures (sym h.areas_hold.ensures ∙ not-false _ f.if-not-areas_hold.false-raw) c.if-number-ne0.true) (λ z. c.if-number-ne0.true (sym e ∙ z)) c.refuse-then-number-ne0.ensures.1
 
 -- there are few constants
 few : (c : tie.Else-number-ne0) → let a = (begun (judged c.before.before.before)).args in a.a * a.n ≤ most_rows * most_columns
@@ -110,7 +110,7 @@ slice_aggregate_ask c = search rules
 
 -- how many there are in the copy
 long : (c : tie.After-copied-rows) → length c.copied-rows.result ≡ most_constants
-long c = search (rules, c.copied-rows.type-inv)
+long c = search (rules, c.copied-rows.type_inv)
 
 ask_requires : tie.Need-ask-requires
 ask_requires c κs =
@@ -118,7 +118,7 @@ ask_requires c κs =
     let e = p.before in
     let h = e.before.before in
     let a = (begun (judged h.before)).args in
-    let w = hold_reads a.n a.a a.b a.rowpowers.now a.columnpowers.now a.parameterpowers.now (sym h.areas_hold.ensures ∙ not-false _ e.before.if-not-areas_hold.false-raw) in
+    let w = hold_reads a.n a.a a.b a.rowpowers.now a.columnpowers.now a.parameterpowers.now (sym h.areas_hold.ensures ∙ not-false _ e.if-not-areas_hold.false-raw) in
     (accepted_copy (accepted e) (omega (arith, long p, few e)) p.copied-rows.ensures, w.0, w.1, w.2)
 
 returns_5 : tie.Need-returns
@@ -132,7 +132,7 @@ returns_5 c =
     let Q = tableau_of a.p a.n a.constants.now in
     let shown : ConstantsShown a.p a.n a.a Q p.copied-rows.result = λ i x li lx. ap (residue_of a.p) (sym (p.copied-rows.ensures (i * a.n + x) (place_below a.n a.a i x li lx))) in
     call_as (question_left a.p a.n a.a a.b a.constants.now (row_numbers a.parameters.now) (lent a.numbered a.numbers.now) a.rowpowers.now a.columnpowers.now a.parameterpowers.now
-    j.judge_model-number.result j.judge_model-number.ensures (sym h.areas_hold.ensures ∙ not-false _ e.before.if-not-areas_hold.false-raw) e.if-number-ne0.false) (λ x. x) (k.ask.ensures Q shown)
+    j.judge_model-number.result j.judge_model-number.ensures (sym h.areas_hold.ensures ∙ not-false _ e.if-not-areas_hold.false-raw) e.if-number-ne0.false) (λ x. x) (k.ask.ensures Q shown)
 
 pub model_degree_spec : {M : Type 1} → statement M
 model_degree_spec =

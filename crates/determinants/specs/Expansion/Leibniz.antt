@@ -6,7 +6,7 @@ use Rattle.std.proofs.Common.{◌∙◌, arith}
 use Rattle.std.proofs.Math.Bool.{decide, decide_iff}
 use mathlib.Core.List.{List, [], ◌∷◌, map}
 use Rattle.std.proofs.Math.Decide.{dec_lt}
-use Rattle.std.proofs.Math.Nat.{suc-add, zero_add as nat-zero-add, add_left_comm}
+use Rattle.std.proofs.Math.Nat.{suc-add, zero-add as nat-zero-add, add_left_comm}
 use Rattle.residue.specs.Fields.{Field, add_zero, mul_left_comm, mul_zero, neg_mul, neg_zero, one_mul, ring}
 use Rattle.counting.specs.Bools.{not_true}
 use Rattle.counting.specs.Sets.{indicator}

@@ -11,16 +11,16 @@ use Rattle.editing.proofs.edit_model.Tie as tie
 
 -- where the call begins, seen from the judgement of the model
 abbrev begun : tie.After-judge_model-judged → tie.Start
-begun c = c.before.before.before.before.before
+begun c = c.before.before.before
 
 -- the columns present are a set
 fits : (c : tie.Start) → Fits c.args.present
-fits c = search (rules, c.well-formed)
+fits c = search (rules, c.well_formed)
 
 -- the model is not refused
-accepted : (c : tie.Else-judged-ne0) → let a = (begun c.before).args in refusal a.p a.n a.a a.b a.constants.now (row_numbers a.parameters-1.now) none ≡ 0
+accepted : (c : tie.Else-judged-ne0) → let a = (begun c.before).args in refusal a.p a.n a.a a.b a.constants.now (row_numbers a.parameters.now) none ≡ 0
 unfolding lent
-accepted c = sym c.before.judge_model-judged.ensures ∙ c.if-judged-ne0.false
+accepted c = sym c.judge_model-judged.ensures ∙ c.if-judged-ne0.false
 
 slice_aggregate_judge_model : tie.Need-slice_bounds-judge_model-end
 slice_aggregate_judge_model c = search rules
@@ -36,7 +36,7 @@ unfolding lent
 returns c =
     let k = begun c.before in
     let a = k.args in
-    edit_refused a.p a.n a.a a.b _ _ _ (fits k) a.edit _ (model_refused a.p a.n a.a a.b _ _ _ (fits k) a.edit _ c.before.judge_model-judged.ensures c.if-judged-ne0.true) c.if-judged-ne0.true
+    edit_refused a.p a.n a.a a.b _ _ _ (fits k) a.edit _ (model_refused a.p a.n a.a a.b _ _ _ (fits k) a.edit _ c.judge_model-judged.ensures c.if-judged-ne0.true) c.if-judged-ne0.true
 
 judge_edit_requires : tie.Need-judge_edit-own-requires
 judge_edit_requires c κs = search rules
@@ -49,7 +49,7 @@ returns_2 c =
     let d = c.before.before in
     let k = begun d.before in
     let a = k.args in
-    edit_refused a.p a.n a.a a.b _ _ _ (fits k) a.edit _ (own_refused a.p a.n a.a a.b _ _ _ (fits k) a.edit (accepted d) _ c.before.judge_edit-own.ensures) c.if-own-ne0.true
+    edit_refused a.p a.n a.a a.b _ _ _ (fits k) a.edit _ (own_refused a.p a.n a.a a.b _ _ _ (fits k) a.edit (accepted d) _ c.judge_edit-own.ensures) c.if-own-ne0.true
 
 change_rows_requires : tie.Need-change_rows-requires
 change_rows_requires c κs = search rules
@@ -67,8 +67,8 @@ returns_3 c =
     let d = e.before.before in
     let k = begun d.before in
     let a = k.args in
-    edit_made a.p a.n a.a a.b _ _ _ (fits k) a.edit (sym (own_refused a.p a.n a.a a.b _ _ _ (fits k) a.edit (accepted d) _ e.before.judge_edit-own.ensures) ∙ e.if-own-ne0.false) _
-    (search (rules, c.changed_columns.type-inv)) c.changed_columns.ensures _ changed.change_rows.ensures
+    edit_made a.p a.n a.a a.b _ _ _ (fits k) a.edit (sym (own_refused a.p a.n a.a a.b _ _ _ (fits k) a.edit (accepted d) _ e.judge_edit-own.ensures) ∙ e.if-own-ne0.false) _
+    (search (rules, c.changed_columns.type_inv)) c.changed_columns.ensures _ changed.change_rows.ensures
 
 pub edit_model_spec : {M : Type 1} → statement M
 edit_model_spec =

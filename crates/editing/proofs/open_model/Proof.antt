@@ -15,7 +15,7 @@ empty_requires : tie.Need-empty-requires
 empty_requires c κs = search rules
 
 returns : tie.Need-returns-then-refusal-ne0
-returns c = call_refused c.before.before.judge_model-refusal.ensures c.before.if-refusal-ne0.true c.empty.ensures
+returns c = call_refused c.judge_model-refusal.ensures c.if-refusal-ne0.true c.empty.ensures
 
 below_requires : tie.Need-below-requires
 below_requires c κs = search rules
@@ -23,8 +23,8 @@ below_requires c κs = search rules
 returns_2 : tie.Need-returns
 returns_2 c =
     let d = c.before in
-    let ok = sym d.before.judge_model-refusal.ensures ∙ d.if-refusal-ne0.false in
-    call_answered ok refl (below_shown _ _ (search (rules, c.below.type-inv)) (omega (arith, (model_accepted _ _ _ _ _ _ _ ok).n_most)) c.below.ensures)
+    let ok = sym d.judge_model-refusal.ensures ∙ d.if-refusal-ne0.false in
+    call_answered ok refl (below_shown _ _ (search (rules, c.below.type_inv)) (omega (arith, (model_accepted _ _ _ _ _ _ _ ok).n_most)) c.below.ensures)
 
 pub open_model_spec : {M : Type 1} → statement M
 open_model_spec =

@@ -27,7 +27,7 @@ abbrev searched : tie.After-short-1 → tie.After-search-f
 searched c = (counted c).before
 
 abbrev missed : tie.After-short-1 → tie.After-difference-missing
-missed c = (searched c).before.before.before
+missed c = (searched c).before.before
 
 abbrev offered : tie.After-short-1 → tie.After-offer_all-placed
 offered c = (missed c).before
@@ -72,7 +72,7 @@ row_columns_requires c κs = search rules
 
 returns : tie.Need-returns
 returns c =
-    let rows = c.before.row_columns-rows in
+    let rows = c.row_columns-rows in
     let side = (sided c).constant_side-side in
     let count = (counted c).size-rank in
     let found = (searched c).search-f in
@@ -81,8 +81,8 @@ returns c =
     let k = begun (offered c).before in
     let a = k.args in
     let ws = row_numbers a.parameters.now in
-    let t = offers.last.0 in
-    let o = offers.last.1.0 in
+    let t = offers.new.t in
+    let o = offers.new.owner in
     let in_set = members (whole offers.result) in
     let free = none_owned a.n (a.a + a.b) (omega arith) in (
       refl,

@@ -23,7 +23,7 @@ use Rattle.exchange.proofs.column_dependence.Tie as tie
 
 -- where the call begins, seen from behind its first test
 abbrev begun : tie.After-is_admissible → tie.Start
-begun c = c.before.before.before
+begun c = c.before.before.before.before
 
 -- the first test, and the second
 abbrev admitted : tie.Start → Bool
@@ -69,7 +69,7 @@ returns_2 : tie.Need-returns-then-x-n
 returns_2 c =
     let t = c.before in
     let k = begun t.before.before in
-    let e : admitted k ≡ true = sym (tested t.before.before) ∙ not-false _ t.before.if-not-is_admissible.false-raw in
+    let e : admitted k ≡ true = sym (tested t.before.before) ∙ not-false _ t.if-not-is_admissible.false-raw in
     refused k c.without_multipliers-then-x-n.result (both k ∙ rw (e, le-ltb k.args.x k.args.n t.if-x-n.true) refl) c.without_multipliers-then-x-n.ensures
 
 fill_requires : tie.Need-fill-requires
@@ -85,20 +85,20 @@ abbrev start : tie.After-fill → tie.Start
 start c = begun (accepted c).before.before
 
 -- the tableau when it is filled
-filled : (c : tie.After-fill) → TableauArray (start c).args.p c.fill.new.0
+filled : (c : tie.After-fill) → TableauArray (start c).args.p c.fill.new.t
 filled c =
     let a = (start c).args in
-    filled_tableau a.p a.n a.a 0 (whole a.held) a.constants.now [] c.fill.new.0 (good (accepted c).before) c.fill.ensures.0 c.fill.ensures.1
+    filled_tableau a.p a.n a.a 0 (whole a.held) a.constants.now [] c.fill.new.t (good (accepted c).before) c.fill.ensures.0 c.fill.ensures.1
 
 -- what is read off it
 answered : (c : tie.After-fill) (r : Dependence) → let a = (start c).args in
-    (r.valid ≡ true) × ((Q : ℕ → ℕ → (field_of a.p).F) → ShowsRows a.p a.n a.a Q c.fill.new.0 → DependenceShown a.p a.n a.a Q (members (whole a.held)) a.x r.outcome r.multipliers)
+    (r.valid ≡ true) × ((Q : ℕ → ℕ → (field_of a.p).F) → ShowsRows a.p a.n a.a Q c.fill.new.t → DependenceShown a.p a.n a.a Q (members (whole a.held)) a.x r.outcome r.multipliers)
     → DependenceCall a.p a.n a.a a.held a.x a.constants.now r
 answered c r h =
     let e = accepted c in
     let k = start c in
     let a = k.args in
-    let yes : asked k ≡ true = both k ∙ rw (sym (tested e.before.before) ∙ not-false _ e.before.if-not-is_admissible.false-raw, lt-ltb a.x a.n e.if-x-n.false) refl in
+    let yes : asked k ≡ true = both k ∙ rw (sym (tested e.before.before) ∙ not-false _ e.if-not-is_admissible.false-raw, lt-ltb a.x a.n e.if-x-n.false) refl in
     record {
       is_valid = h.0 ∙ sym yes;
       if_not = λ z. absurd (true≢false (sym yes ∙ z));
@@ -120,23 +120,23 @@ read_column_requires c κs =
     let f = table.before.before in
     let e = accepted f in
     let g = good e.before in
-    (filled f, rw table.before.if-p-eq-LISTED_PRIME.true table.listed_inverses-inverses.ensures.1, g.fits.columns, g.fits.constant_rows, g.inside, g.prime, e.if-x-n.false)
+    (filled f, rw table.if-p-eq-LISTED_PRIME.true table.listed_inverses-inverses.ensures.1, g.fits.columns, g.fits.constant_rows, g.inside, g.prime, e.if-x-n.false)
 
 returns_3 : tie.Need-returns-then-p-eq-LISTED_PRIME
 returns_3 c = answered c.before.before.before.before.before c.read_column.result c.read_column.ensures
 
 cast_read_column_2 : tie.Need-overflow_cast-p-2
-cast_read_column_2 c = omega (arith, (good (accepted c.before.before.before).before).short_prime)
+cast_read_column_2 c = omega (arith, (good (accepted c.before.before.before.before).before).short_prime)
 
 read_column_requires_2 : tie.Need-read_column-requires-2
 read_column_requires_2 c κs =
-    let f = c.before.before.before in
+    let f = c.before.before.before.before in
     let e = accepted f in
     let g = good e.before in
     (filled f, record { entry = λ i l. absurd (omega arith) }, g.fits.columns, g.fits.constant_rows, g.inside, g.prime, e.if-x-n.false)
 
 returns_4 : tie.Need-returns
-returns_4 c = answered c.before.before.before.before c.read_column-2.result c.read_column-2.ensures
+returns_4 c = answered c.before.before.before.before.before c.read_column-2.result c.read_column-2.ensures
 
 pub column_dependence_spec : {M : Type 1} → statement M
 column_dependence_spec =

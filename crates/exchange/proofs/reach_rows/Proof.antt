@@ -24,7 +24,7 @@ abbrev linked : tie.After-close → tie.After-link-ends
 linked c = (joined c).before.before.before
 
 abbrev started : tie.After-close → tie.After-join
-started c = (linked c).before.before.before.before.before
+started c = (linked c).before.before.before.before
 
 abbrev missed : tie.After-close → tie.After-difference-missing
 missed c = (started c).before.before
@@ -89,8 +89,8 @@ returns c =
     let k = begun (offered close).before in
     let a = k.args in
     let ws = row_numbers a.parameters.now in
-    let t = offers.last.0 in
-    let o = offers.last.1.0 in
+    let t = offers.new.t in
+    let o = offers.new.owner in
     let all = members (whole a.offered) in
     let free = none_owned a.n (a.a + a.b) (omega arith) in (
       refl,
@@ -98,7 +98,7 @@ returns c =
           let d = offers.ensures.1 G (offers_start a.p a.n a.a a.b ws a.t.now (replicate lines a.n) free all G sh m) in
           reach_shown a.p a.n a.a a.b ws G t o (members (whole offers.result)) d all m k.requires.2
           (held_shows a.p a.n a.a a.b ws G t o offers.ensures.0 d.held) (members (whole (linked close).link-ends.result))
-          (started close).join.new.0 (linked close).link-ends.new.1.1.1.1.1.1.1.0 (joined close).join-2.new.0 close.close.new.0
+          (started close).join.new.rows (linked close).link-ends.new.into (joined close).join-2.new.rows close.close.new.rows
           (rw (missed close).difference-missing.ensures at (started close).join.ensures) (linked close).link-ends.ensures (joined close).join-2.ensures close.close.ensures,
     )
 

@@ -26,7 +26,7 @@ abbrev begun : tie.After-offer_all-arg-2-1 → tie.Start
 begun c = c.before.before.before.before
 
 abbrev start : tie.After-offer_all-placed → tie.Start
-start c = begun c.before
+start c = begun c.before.before
 
 -- the held columns
 abbrev held : tie.Start → Set
@@ -44,7 +44,7 @@ abbrev in_set : tie.After-offer_all-placed → Set
 in_set c = members (whole c.offer_all-placed.result)
 
 offered : (c : tie.After-offer_all-placed) → let a = (start c).args in (Q : ℕ → ℕ → (field_of a.p).F) → ShowsRows a.p a.n a.a Q a.t.now
-    → Offered-all a.p a.n a.a 0 no_rows (offering_held a.p a.n no_rows Q (held (start c))) c.offer_all-placed.new.0 c.offer_all-placed.new.1.0 (in_set c)
+    → Offered-all a.p a.n a.a 0 no_rows (offering_held a.p a.n no_rows Q (held (start c))) c.offer_all-placed.new.t c.offer_all-placed.new.owner (in_set c)
 offered c Q sh =
     let k = start c in
     let a = k.args in
@@ -56,7 +56,7 @@ offered c Q sh =
 all_placed : (c : tie.Else-not-is_empty) → let o = c.before.before.before in (y : ℕ) → y ∈ held (start o) → y ∈ in_set o
 all_placed c y e =
     let o = c.before.before.before in
-    let gone : # width (held (start o) ∩ ∁ (in_set o)) ≡ 0 = ap (# width) (sym c.before.before.difference-missing.ensures) ∙ eqb-true _ 0 (sym c.before.is_empty.ensures ∙ not-false _ c.if-not-is_empty.false-raw) in
+    let gone : # width (held (start o) ∩ ∁ (in_set o)) ≡ 0 = ap (# width) (sym c.difference-missing.ensures) ∙ eqb-true _ 0 (sym c.is_empty.ensures ∙ not-false _ c.if-not-is_empty.false-raw) in
     none_missing (held (start o)) (in_set o) gone (λ x m. omega (arith, held_below (start o) x m, (start o).requires.2)) y e
 
 cast_owner : tie.Need-overflow_cast-owner
@@ -64,7 +64,7 @@ cast_owner c = search rules
 
 offer_all_requires : tie.Need-offer_all-placed-requires
 offer_all_requires c κs =
-    let k = begun c in
+    let k = begun c.before in
     let a = k.args in (
       record {
         lengths = record { tableau = k.requires.0.full; owners = refl; columns = k.requires.2; constant_rows = k.requires.3; constants_among = omega arith; all_rows = omega arith };
@@ -90,7 +90,7 @@ returns c =
     let o = t.before.before.before in
     let k = start o in
     let a = k.args in
-    let some : # width (held k ∩ ∁ (in_set o)) ≢ 0 = λ z. eqb-false _ 0 (sym t.before.is_empty.ensures ∙ not-true _ t.if-not-is_empty.true-raw) (ap (# width) t.before.before.difference-missing.ensures ∙ z) in
+    let some : # width (held k ∩ ∁ (in_set o)) ≢ 0 = λ z. eqb-false _ 0 (sym t.is_empty.ensures ∙ not-true _ t.if-not-is_empty.true-raw) (ap (# width) t.difference-missing.ensures ∙ z) in
     let y = one_missing (held k) (in_set o) some in (
       c.without_multipliers.ensures.0,
       λ Q sh. held_columns_dependent a.p a.n a.a k.requires.5 no_rows _ _ (offering_held a.p a.n no_rows Q (held k)) (in_set o) (offered o Q sh) o.offer_all-placed.ensures.0.below
@@ -106,13 +106,13 @@ without_multipliers_requires_2 c κs = search rules
 returns_2 : tie.Need-returns-then-not-is_zero_where_free
 returns_2 c =
     let z = c.before.before in
-    let e = z.before.before.before in
+    let e = z.before.before in
     let o = e.before.before.before in
     let k = start o in
     let a = k.args in (
       c.without_multipliers-then-not-is_zero_where_free.ensures.0,
       λ Q sh. column_independent a.p a.n a.a k.requires.5 no_rows _ _ (offering_held a.p a.n no_rows Q (held k)) (in_set o) (offered o Q sh) o.offer_all-placed.ensures.0.below
-          (held_below k) a.x k.requires.6 (all_placed e) (z.is_zero_where_free.ensures.if_false (not-true _ c.before.if-not-is_zero_where_free.true-raw)) c.without_multipliers-then-not-is_zero_where_free.result
+          (held_below k) a.x k.requires.6 (all_placed e) (z.is_zero_where_free.ensures.if_false (not-true _ c.if-not-is_zero_where_free.true-raw)) c.without_multipliers-then-not-is_zero_where_free.result
           c.without_multipliers-then-not-is_zero_where_free.ensures.1,
     )
 
@@ -123,13 +123,13 @@ returns_3 : tie.Need-returns
 returns_3 c =
     let f = c.before.before.before in
     let z = f.before in
-    let e = z.before.before.before in
+    let e = z.before in
     let o = e.before.before.before in
     let k = start o in
     let a = k.args in (
       refl,
       λ Q sh. column_depends a.p a.n a.a k.requires.5 no_rows _ _ (offering_held a.p a.n no_rows Q (held k)) (in_set o) (offered o Q sh) o.offer_all-placed.ensures.0.below
-          (held_below k) a.x k.requires.6 (all_placed e) (z.is_zero_where_free.ensures.if_true (not-false _ f.if-not-is_zero_where_free.false-raw)) _ c.entries_by_owner-multipliers.ensures,
+          (held_below k) a.x k.requires.6 (all_placed e) (c.is_zero_where_free.ensures.if_true (not-false _ c.if-not-is_zero_where_free.false-raw)) _ c.entries_by_owner-multipliers.ensures,
     )
 
 pub read_column_spec : {M : Type 1} → statement M

@@ -14,40 +14,41 @@ use Rattle.exchange.proofs.ReductionLaws.{Reducible, reducible_reads, rows_shown
 use borrow.Author.Rules.{rules}
 use native.Mathlib.Omega.{arith}
 use Rattle.exchange.proofs.reduce.Statement.{statement}
+use Rattle.exchange.proofs.reduce.Lts.{then-p-eq-LISTED_PRIME, else-p-eq-LISTED_PRIME}
 use Rattle.exchange.proofs.reduce.Tie as tie
 
 -- where the call begins, seen from behind its test
 abbrev begun : tie.After-is_reducible → tie.Start
-begun c = c.before.before.before.before.before
+begun c = c.before.before.before.before
 
 -- the test
 abbrev taken : tie.Start → Bool
-taken k = let a = k.args in reducible a.p a.n a.a a.weights.now a.levels.now a.constants-1.now
+taken k = let a = k.args in reducible a.p a.n a.a a.weights.now a.levels.now a.constants.now
 
 passed : (c : tie.Else-not-is_reducible) → taken (begun c.before) ≡ true
-passed c = sym c.before.is_reducible.ensures ∙ not-false _ c.if-not-is_reducible.false-raw
+passed c = sym c.is_reducible.ensures ∙ not-false _ c.if-not-is_reducible.false-raw
 
 -- what holds where it is passed
-good : (c : tie.Else-not-is_reducible) → let a = (begun c.before).args in Reducible a.p a.n a.a a.weights.now a.levels.now a.constants-1.now
+good : (c : tie.Else-not-is_reducible) → let a = (begun c.before).args in Reducible a.p a.n a.a a.weights.now a.levels.now a.constants.now
 good c = reducible_reads _ _ _ _ _ _ (passed c)
 
 -- where it is passed, seen from behind the filling, and where the call begins
 abbrev accepted : tie.After-fill → tie.Else-not-is_reducible
-accepted c = c.before.before.before
+accepted c = c.before.before
 
 abbrev start : tie.After-fill → tie.Start
 start c = begun (accepted c).before
 
 -- the tableau when it is filled
-filled : (c : tie.After-fill) → TableauArray (start c).args.p c.fill.new.0
+filled : (c : tie.After-fill) → TableauArray (start c).args.p c.fill.new.t
 filled c =
     let a = (start c).args in
-    filled_tableau a.p a.n a.a 0 0 a.constants-1.now [] c.fill.new.0 (good (accepted c)).admitted c.fill.ensures.0 c.fill.ensures.1
+    filled_tableau a.p a.n a.a 0 0 a.constants.now [] c.fill.new.t (good (accepted c)).admitted c.fill.ensures.0 c.fill.ensures.1
 
 -- the tableau when its rows are reduced, by either table of inverses
 worked : (c : tie.Joined-p-eq-LISTED_PRIME) → let a = (start c.before).args in
-    TableauArray a.p c.if-p-eq-LISTED_PRIME.t-1 × Reduced a.p a.n a.a a.weights.now a.levels.now a.a c.before.fill.new.0 c.if-p-eq-LISTED_PRIME.t-1
-worked c = ⊎_elim (λ w. rw w.5 w.4.ensures) (λ w. rw w.4 w.3.ensures) c.if-p-eq-LISTED_PRIME.branch
+    TableauArray a.p c.if-p-eq-LISTED_PRIME.t × Reduced a.p a.n a.a a.weights.now a.levels.now a.a c.fill.new.t c.if-p-eq-LISTED_PRIME.t
+worked c = elim c.if-p-eq-LISTED_PRIME.branch [ then-p-eq-LISTED_PRIME w ↦ rw w.t-is w.reduce_rows.ensures | else-p-eq-LISTED_PRIME w ↦ rw w.t-is w.reduce_rows-else-p-eq-LISTED_PRIME.ensures ]
 
 is_reducible_requires : tie.Need-is_reducible-requires
 is_reducible_requires c κs = search rules
@@ -57,12 +58,12 @@ same_length c = search rules
 
 returns : tie.Need-returns-then-not-is_reducible
 returns c =
-    let e : taken (begun c.before) ≡ false = sym c.before.is_reducible.ensures ∙ not-true _ c.if-not-is_reducible.true-raw in
+    let e : taken (begun c.before) ≡ false = sym c.is_reducible.ensures ∙ not-true _ c.if-not-is_reducible.true-raw in
     record { is_valid = sym e; if_not = λ z. refl; if_valid = λ z. absurd (true≢false (sym z ∙ e)) }
 
 fill_requires : tie.Need-fill-requires
 fill_requires c κs =
-    let f = (good c.before.before).admitted.fits in
+    let f = (good c.before).admitted.fits in
     (refl, f.columns, f.constant_rows, f.constants_lent)
 
 listed_inverses_requires : tie.Need-listed_inverses-inverses-requires
@@ -80,14 +81,14 @@ reduce_rows_requires c κs =
     let f = table.before.before in
     let g = good (accepted f) in
     let m = g.admitted in
-    (filled f, rw table.before.if-p-eq-LISTED_PRIME.true table.listed_inverses-inverses.ensures.1, m.fits.columns, m.fits.constant_rows, g.weighed, g.levelled, m.prime)
+    (filled f, rw table.if-p-eq-LISTED_PRIME.true table.listed_inverses-inverses.ensures.1, m.fits.columns, m.fits.constant_rows, g.weighed, g.levelled, m.prime)
 
 cast_reduce_rows_2 : tie.Need-overflow_cast-p-else-p-eq-LISTED_PRIME
-cast_reduce_rows_2 c = omega (arith, (good (accepted c.before.before.before)).admitted.short_prime)
+cast_reduce_rows_2 c = omega (arith, (good (accepted c.before.before.before.before)).admitted.short_prime)
 
 reduce_rows_requires_2 : tie.Need-reduce_rows-requires-else-p-eq-LISTED_PRIME
 reduce_rows_requires_2 c κs =
-    let f = c.before.before.before in
+    let f = c.before.before.before.before in
     let g = good (accepted f) in
     let m = g.admitted in
     (filled f, record { entry = λ i l. absurd (omega arith) }, m.fits.columns, m.fits.constant_rows, g.weighed, g.levelled, m.prime)
@@ -112,8 +113,8 @@ returns_2 c =
     record {
       is_valid = sym e;
       if_not = λ z. absurd (true≢false (sym e ∙ z));
-      if_valid = λ z. rows_shown a.p a.n a.a (good (accepted filling)).admitted.prime _ j.if-p-eq-LISTED_PRIME.t-1 a.constants-1.now _ w.0.below
-          (w.1 (constant_at (modulus a.p).0 (modulus a.p).1 a.n a.constants-1.now)
+      if_valid = λ z. rows_shown a.p a.n a.a (good (accepted filling)).admitted.prime _ j.if-p-eq-LISTED_PRIME.t a.constants.now _ w.0.below
+          (w.1 (constant_at (modulus a.p).0 (modulus a.p).1 a.n a.constants.now)
           (λ i x li lx. ap (residue_of a.p) (filling.fill.ensures.1.done i x li lx))) copied.copy_back.ensures;
     }
 

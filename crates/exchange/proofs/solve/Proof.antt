@@ -30,7 +30,7 @@ accepted c = c.before.before
 
 -- what holds where the model is taken
 taken : (c : tie.Else-not-is_admissible) → let a = (begun c.before).args in admissible a.p a.n a.a a.b (whole a.offered) a.constants.now (row_numbers a.parameters.now) ≡ true
-taken c = sym c.before.is_admissible.ensures ∙ not-false _ c.if-not-is_admissible.false-raw
+taken c = sym c.is_admissible.ensures ∙ not-false _ c.if-not-is_admissible.false-raw
 
 good : (c : tie.Else-not-is_admissible) → let a = (begun c.before).args in Admissible a.p a.n a.a a.b (whole a.offered) a.constants.now (row_numbers a.parameters.now)
 good c = let a = (begun c.before).args in admissible_reads a.p a.n a.a a.b (whole a.offered) a.constants.now (row_numbers a.parameters.now) (taken c)
@@ -44,7 +44,7 @@ nothing_requires c κs = search rules
 returns : tie.Need-returns-then-not-is_admissible
 returns c =
     let a = (begun c.before.before).args in
-    let refused : admissible a.p a.n a.a a.b (whole a.offered) a.constants.now (row_numbers a.parameters.now) ≡ false = sym c.before.before.is_admissible.ensures ∙ not-true _ c.before.if-not-is_admissible.true-raw in
+    let refused : admissible a.p a.n a.a a.b (whole a.offered) a.constants.now (row_numbers a.parameters.now) ≡ false = sym c.is_admissible.ensures ∙ not-true _ c.if-not-is_admissible.true-raw in
     record {
       is_valid = c.nothing.ensures.0 ∙ sym refused;
       if_not = λ z. c.nothing.ensures.1;
@@ -52,20 +52,20 @@ returns c =
     }
 
 -- the tableau when it is filled
-filled : (c : tie.After-fill) → TableauArray (begun (accepted c).before).args.p c.fill.new.0
+filled : (c : tie.After-fill) → TableauArray (begun (accepted c).before).args.p c.fill.new.t
 filled c =
     let a = (begun (accepted c).before).args in
-    filled_tableau a.p a.n a.a a.b (whole a.offered) a.constants.now (row_numbers a.parameters.now) c.fill.new.0 (good (accepted c)) c.fill.ensures.0 c.fill.ensures.1
+    filled_tableau a.p a.n a.a a.b (whole a.offered) a.constants.now (row_numbers a.parameters.now) c.fill.new.t (good (accepted c)) c.fill.ensures.0 c.fill.ensures.1
 
 -- what an answer over it is
 solved : (c : tie.After-fill) (r : Solution) → let a = (begun (accepted c).before).args in let ws = row_numbers a.parameters.now in
-    (r.valid ≡ true) × ((G : Given a.p a.n a.b ws) → ShowsConstants a.p a.n a.a a.b ws G c.fill.new.0 → ((x : ℕ) → (x ∈ members (whole a.offered)) ↔ ((x < a.n) × (x ∈ G.E))) → SolvedBy (model_of a.p a.n a.a a.b ws G) r)
+    (r.valid ≡ true) × ((G : Given a.p a.n a.b ws) → ShowsConstants a.p a.n a.a a.b ws G c.fill.new.t → ((x : ℕ) → (x ∈ members (whole a.offered)) ↔ ((x < a.n) × (x ∈ G.E))) → SolvedBy (model_of a.p a.n a.a a.b ws G) r)
     → Solves a.p a.n a.a a.b a.offered a.constants.now ws r
 solved c r h =
     let k = accepted c in
     let start = begun k.before in
     let a = start.args in
-    let below : (x : ℕ) → x ∈ members (whole a.offered) → x < a.n = λ x e. (within_iff a.n (whole a.offered)).0 (good k).inside x (columns_below a.offered x (search (rules, start.good.1.1.1.1.0)) e) e in
+    let below : (x : ℕ) → x ∈ members (whole a.offered) → x < a.n = λ x e. (within_iff a.n (whole a.offered)).0 (good k).inside x (columns_below a.offered x (search (rules, start.well_formed.1.1.1.1.0)) e) e in
     record {
       is_valid = h.0 ∙ sym (taken k);
       if_not = λ z. absurd (true≢false (sym (taken k) ∙ z));
@@ -94,22 +94,22 @@ answer_requires c κs =
     let table = c.before.before in
     let k = table.before.before in
     let g = good (accepted k) in
-    (filled k, rw table.before.if-p-eq-LISTED_PRIME.true table.listed_inverses-inverses.ensures.1, g.fits.columns, g.fits.constant_rows, g.fits.parameter_rows, g.inside, g.prime)
+    (filled k, rw table.if-p-eq-LISTED_PRIME.true table.listed_inverses-inverses.ensures.1, g.fits.columns, g.fits.constant_rows, g.fits.parameter_rows, g.inside, g.prime)
 
 returns_2 : tie.Need-returns-then-p-eq-LISTED_PRIME
 returns_2 c = solved c.before.before.before.before.before c.answer.result c.answer.ensures
 
 cast_answer_2 : tie.Need-overflow_cast-p-2
-cast_answer_2 c = omega (arith, (good (accepted c.before.before.before)).short_prime)
+cast_answer_2 c = omega (arith, (good (accepted c.before.before.before.before)).short_prime)
 
 answer_requires_2 : tie.Need-answer-requires-2
 answer_requires_2 c κs =
-    let k = c.before.before.before in
+    let k = c.before.before.before.before in
     let g = good (accepted k) in
     (filled k, record { entry = λ i l. absurd (omega arith) }, g.fits.columns, g.fits.constant_rows, g.fits.parameter_rows, g.inside, g.prime)
 
 returns_3 : tie.Need-returns
-returns_3 c = solved c.before.before.before.before c.answer-2.result c.answer-2.ensures
+returns_3 c = solved c.before.before.before.before.before c.answer-2.result c.answer-2.ensures
 
 pub solve_spec : {M : Type 1} → statement M
 solve_spec =

@@ -33,13 +33,13 @@ abbrev Written : tie.Start → List ℕ → List ℕ → Type 0
 Written k = let a = k.args in WrittenOver (AcceptanceOf (listed_model a.p a.n a.a a.b a.constants.now (row_numbers a.parameters.now)) a.claim.now) acceptance_bytes
 
 -- the claim's area is too short, whatever the answer's
-short : (k : tie.Start) → first_refusal (tests k) ≡ 0 → area_test claim_length (length k.args.claim.now) ≡ false → AreaCall (tests k) (claim_question k.args.claim.now) acceptance_length (Written k) k.args.answer-1.now 8 k.args.answer-1.now
+short : (k : tie.Start) → first_refusal (tests k) ≡ 0 → area_test claim_length (length k.args.claim.now) ≡ false → AreaCall (tests k) (claim_question k.args.claim.now) acceptance_length (Written k) k.args.answer.now 8 k.args.answer.now
 unfolding first_refusal
 short k ok e =
     let eight : 8 ≡ first_refusal (tests k then unless false area_short) = then_passed (tests k) (unless false area_short) 8 ok refl in
-    elim (dec_lt (length k.args.answer-1.now) acceptance_length) [
-      | yes l ↦ refused_short (tests k) (claim_question k.args.claim.now) acceptance_length (Written k) k.args.answer-1.now l 8 eight
-      | no nl ↦ refused_beside (tests k) [] (area_test claim_length (length k.args.claim.now)) acceptance_length (Written k) k.args.answer-1.now (omega arith) e 8 eight
+    elim (dec_lt (length k.args.answer.now) acceptance_length) [
+      | yes l ↦ refused_short (tests k) (claim_question k.args.claim.now) acceptance_length (Written k) k.args.answer.now l 8 eight
+      | no nl ↦ refused_beside (tests k) [] (area_test claim_length (length k.args.claim.now)) acceptance_length (Written k) k.args.answer.now (omega arith) e 8 eight
     ]
 
 read_claim_requires : tie.Need-read_claim-c-requires
@@ -53,7 +53,7 @@ unfolding refusal
 returns c =
     let f = c.before.before in
     let k = begun f in
-    refused_before (tests k) (claim_question k.args.claim.now) acceptance_length (Written k) k.args.answer-1.now _ f.model_acceptance-r.ensures.is_refusal c.if-r-ne0.true
+    refused_before (tests k) (claim_question k.args.claim.now) acceptance_length (Written k) k.args.answer.now _ f.model_acceptance-r.ensures.is_refusal c.if-r-ne0.true
 
 returns_2 : tie.Need-returns-then-claim-lt-CLAIM_LENGTH
 unfolding area_test refusal
@@ -79,7 +79,7 @@ returns_3 c =
     let h = f.model_acceptance-r.ensures in
     let r = f.model_acceptance-r.result in
     let ok = sym h.is_refusal ∙ at-else.if-r-ne0.false in
-    answer_put acceptance_bytes (tests k) (claim_question k.args.claim.now) r (answered_of_bytes r (f.before.read_claim-c.ensures.if_long enough.if-claim-lt-CLAIM_LENGTH.false) (h.if_accepted ok)) ok
+    answer_put acceptance_bytes (tests k) (claim_question k.args.claim.now) r (answered_of_bytes r (f.read_claim-c.ensures.if_long enough.if-claim-lt-CLAIM_LENGTH.false) (h.if_accepted ok)) ok
     (zero_unless _ area_short ((area_reads _ _).1 enough.if-claim-lt-CLAIM_LENGTH.false)) d.put_acceptance.ensures
 
 pub harness_accepts_spec : {M : Type 1} → statement M

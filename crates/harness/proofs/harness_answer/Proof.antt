@@ -34,7 +34,7 @@ asked c =
     let k = begun c.before in
     let r = c.open_answer-r.result in
     subst (λ (w : ℕ). RankCall (answer_refusal (holding k w)) r.refusal (Refused r) (Answered (open_model (holding k w)) r))
-    c.before.of_bytes-set.ensures.is_number c.open_answer-r.ensures
+    c.of_bytes-set.ensures.is_number c.open_answer-r.ensures
 
 of_bytes_requires : tie.Need-of_bytes-set-requires
 of_bytes_requires c κs = search rules
@@ -47,7 +47,7 @@ unfolding answer_refusal
 returns c =
     let f = c.before.before in
     let k = begun f.before in
-    refused_before (answer_tests (holds k)) [] answer_length (AnswerWritten (open_model (holds k))) k.args.answer-1.now _ (asked f).is_refusal c.if-r-ne0.true
+    refused_before (answer_tests (holds k)) [] answer_length (AnswerWritten (open_model (holds k))) k.args.answer.now _ (asked f).is_refusal c.if-r-ne0.true
 
 put_answer_requires : tie.Need-put_answer-requires
 put_answer_requires c κs = search rules

@@ -34,7 +34,7 @@ unfolding refusal
 returns c =
     let r = listed c.before in
     let a = (begun r.before).args in
-    refused_before (model_tests a.p a.n a.a a.b a.constants.now (row_numbers a.parameters.now) (lent a.numbered a.numbers.now)) [] blocks_length (WrittenOver (BlocksAnswered (listed_model a.p a.n a.a a.b a.constants.now (row_numbers a.parameters.now))) blocks_bytes) a.answer-1.now _ r.model_blocks-r.ensures.is_refusal c.if-r-ne0.true
+    refused_before (model_tests a.p a.n a.a a.b a.constants.now (row_numbers a.parameters.now) (lent a.numbered a.numbers.now)) [] blocks_length (WrittenOver (BlocksAnswered (listed_model a.p a.n a.a a.b a.constants.now (row_numbers a.parameters.now))) blocks_bytes) a.answer.now _ r.model_blocks-r.ensures.is_refusal c.if-r-ne0.true
 
 put_blocks_requires : tie.Need-put_blocks-requires
 put_blocks_requires c κs = search rules

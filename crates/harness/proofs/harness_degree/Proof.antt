@@ -31,7 +31,7 @@ returns c =
     let f = c.before.before in
     let k = begun f in
     let a = k.args in
-    refused_before (tests k) [] degree_length (WrittenOver (DegreeAnswered (listed_model a.p a.n a.a a.b a.constants.now (row_numbers a.parameters.now)) (listed_powers a.n a.rowpowers.now a.columnpowers.now a.parameterpowers.now)) degree_bytes) a.answer-1.now _ f.model_degree-r.ensures.is_refusal c.if-r-ne0.true
+    refused_before (tests k) [] degree_length (WrittenOver (DegreeAnswered (listed_model a.p a.n a.a a.b a.constants.now (row_numbers a.parameters.now)) (listed_powers a.n a.rowpowers.now a.columnpowers.now a.parameterpowers.now)) degree_bytes) a.answer.now _ f.model_degree-r.ensures.is_refusal c.if-r-ne0.true
 
 put_degree_requires : tie.Need-put_degree-requires
 put_degree_requires c κs = search rules

@@ -22,16 +22,16 @@ entry c = c.before.before.before.before.before.before
 
 -- the kind is one of four, and the edit is the one named
 known : (c : tie.Else-named-ne0) → first_refusal (kind_tests (entry c).args.kind) ≡ 0
-known c = sym c.before.before.name_edit-named.ensures.is_refusal ∙ c.if-named-ne0.false
+known c = sym c.name_edit-named.ensures.is_refusal ∙ c.if-named-ne0.false
 
-named : (c : tie.Else-named-ne0) → let a = (entry c).args in meant c.before.before.name_edit-named.result.edit ≡ edit_by a.kind a.row a.column
-named c = c.before.before.name_edit-named.ensures.is_edit ∙ accepted_value 0 (sym (known c)) refl _ _
+named : (c : tie.Else-named-ne0) → let a = (entry c).args in meant c.name_edit-named.result.edit ≡ edit_by a.kind a.row a.column
+named c = c.name_edit-named.ensures.is_edit ∙ accepted_value 0 (sym (known c)) refl _ _
 
 -- the set is the one that the area shows
-held : (c : tie.After-of_bytes-set) → whole c.of_bytes-set.result ≡ number (take set_bytes (entry c.before.before.before).args.present-1.now)
+held : (c : tie.After-of_bytes-set) → whole c.of_bytes-set.result ≡ number (take set_bytes (entry c.before.before.before).args.present.now)
 held c =
-    let present = (entry c.before.before.before).args.present-1.now in
-    c.of_bytes-set.ensures.is_number ∙ ap number (take_all room_bytes (take set_bytes present) (omega (arith, length-take-le set_bytes present c.before.before.if-present-lt-SET_BYTES.false)))
+    let present = (entry c.before.before).args.present.now in
+    c.of_bytes-set.ensures.is_number ∙ ap number (take_all room_bytes (take set_bytes present) (omega (arith, length-take-le set_bytes present c.if-present-lt-SET_BYTES.false)))
 
 name_edit_requires : tie.Need-name_edit-named-requires
 name_edit_requires c κs = search rules
@@ -49,7 +49,7 @@ slice_reshare_prefix_of_bytes : tie.Need-slice_bounds-of_bytes-end
 slice_reshare_prefix_of_bytes c = search rules
 
 slice_aggregate_of_bytes : tie.Need-slice_bounds-of_bytes-end-2
-slice_aggregate_of_bytes c = sym (length-take-le _ (entry c.before.before).args.present-1.now (omega (arith, c.before.if-present-lt-SET_BYTES.false)))
+slice_aggregate_of_bytes c = sym (length-take-le _ (entry c.before).args.present.now (omega (arith, c.if-present-lt-SET_BYTES.false)))
 
 of_bytes_requires : tie.Need-of_bytes-set-requires
 of_bytes_requires c κs = search rules
@@ -68,7 +68,7 @@ returns_3 c =
     let r = c.before.before.before.before in
     let o = r.before.before in
     let l = o.before.before in
-    edit_refused _ _ _ _ _ _ _ _ _ _ (known l.before) l.if-present-lt-SET_BYTES.false _ (held o) _ (named l.before) r.edit_model-r.ensures c.if-r-ne0.true
+    edit_refused _ _ _ _ _ _ _ _ _ _ (known l) l.if-present-lt-SET_BYTES.false _ (held o) _ (named l) r.edit_model-r.ensures c.if-r-ne0.true
 
 put_set_requires : tie.Need-put_set-requires
 put_set_requires c κs = search rules
@@ -84,9 +84,9 @@ returns_4 c =
     let put = c.before.before in
     let passed = put.before.before in
     let r = passed.before.before.before.before in
-    let o = r.before.before in
+    let o = r.before.before.before in
     let l = o.before.before in
-    edit_put _ _ _ _ _ _ _ _ _ _ (known l.before) l.if-present-lt-SET_BYTES.false _ (held o) _ (named l.before) r.edit_model-r.ensures passed.if-r-ne0.false _ put.put_set.ensures
+    edit_put _ _ _ _ _ _ _ _ _ _ (known l) l.if-present-lt-SET_BYTES.false _ (held o) _ (named l) r.edit_model-r.ensures passed.if-r-ne0.false _ put.put_set.ensures
 
 pub harness_edit_spec : {M : Type 1} → statement M
 harness_edit_spec =

@@ -32,7 +32,7 @@ unfolding refusal
 returns c =
     let r = ranked c.before in
     let a = (begun r.before).args in
-    refused_before (model_tests a.p a.n a.a a.b a.constants.now (row_numbers a.parameters.now) (lent a.numbered a.numbers.now)) [] answer_length (AnswerWritten (listed_model a.p a.n a.a a.b a.constants.now (row_numbers a.parameters.now))) a.answer-1.now _ r.layered_rank-r.ensures.is_refusal c.if-r-ne0.true
+    refused_before (model_tests a.p a.n a.a a.b a.constants.now (row_numbers a.parameters.now) (lent a.numbered a.numbers.now)) [] answer_length (AnswerWritten (listed_model a.p a.n a.a a.b a.constants.now (row_numbers a.parameters.now))) a.answer.now _ r.layered_rank-r.ensures.is_refusal c.if-r-ne0.true
 
 put_answer_requires : tie.Need-put_answer-requires
 put_answer_requires c κs = search rules

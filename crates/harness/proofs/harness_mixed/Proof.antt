@@ -32,7 +32,7 @@ unfolding mixed_refusal
 returns c =
     let r = ranked c.before in
     let a = (begun r.before).args in
-    refused_before (mixed_tests a.p a.n a.a a.b a.constants.now (row_numbers a.parameters.now) (lent a.numbered a.numbers.now)) [] mixed_length (MixedWritten (mixed a.p a.a a.n a.constants.now (row_numbers a.parameters.now))) a.answer-1.now _ r.mixed_rank-r.ensures.is_refusal c.if-r-ne0.true
+    refused_before (mixed_tests a.p a.n a.a a.b a.constants.now (row_numbers a.parameters.now) (lent a.numbered a.numbers.now)) [] mixed_length (MixedWritten (mixed a.p a.a a.n a.constants.now (row_numbers a.parameters.now))) a.answer.now _ r.mixed_rank-r.ensures.is_refusal c.if-r-ne0.true
 
 put_mixed_requires : tie.Need-put_mixed-requires
 put_mixed_requires c κs = search rules

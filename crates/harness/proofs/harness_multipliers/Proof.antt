@@ -35,7 +35,7 @@ asked c =
     let k = begun c.before in
     let r = c.model_multipliers-r.result in
     subst (λ (w : ℕ). RankCall (first_refusal (tests k w)) r.refusal (MultipliersRefused r) (MultipliersAnswered k.args.p k.args.n k.args.a k.args.constants.now (members w) k.args.column r))
-    c.before.of_bytes-set.ensures.is_number c.model_multipliers-r.ensures
+    c.of_bytes-set.ensures.is_number c.model_multipliers-r.ensures
 
 of_bytes_requires : tie.Need-of_bytes-set-requires
 of_bytes_requires c κs = search rules
@@ -48,7 +48,7 @@ returns c =
     let f = c.before.before in
     let k = begun f.before in
     let a = k.args in
-    refused_before (tests k (held k)) [] multipliers_length (WrittenOver (MultipliersAnswered a.p a.n a.a a.constants.now (members (held k)) a.column) multipliers_bytes) a.answer-1.now _ (asked f).is_refusal c.if-r-ne0.true
+    refused_before (tests k (held k)) [] multipliers_length (WrittenOver (MultipliersAnswered a.p a.n a.a a.constants.now (members (held k)) a.column) multipliers_bytes) a.answer.now _ (asked f).is_refusal c.if-r-ne0.true
 
 put_multipliers_requires : tie.Need-put_multipliers-requires
 put_multipliers_requires c κs = search rules

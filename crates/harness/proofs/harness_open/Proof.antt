@@ -22,9 +22,9 @@ returns : tie.Need-returns-then-r-ne0
 unfolding refusal
 returns c =
     let r = c.before.before in
-    let a = r.before.before.before.before.before.args in
+    let a = r.args in
     refused_before (model_tests a.p a.n a.a a.b a.constants.now (row_numbers a.parameters.now) (lent a.numbered a.numbers.now)) [] set_bytes
-    (WrittenOver (ShowsColumns (opened a.p a.n a.a a.b a.constants.now (row_numbers a.parameters.now)).present-1) (λ s. bytes_of set_bytes (whole s))) a.present-1.now _ r.open_model-r.ensures.is_refusal c.if-r-ne0.true
+    (WrittenOver (ShowsColumns (opened a.p a.n a.a a.b a.constants.now (row_numbers a.parameters.now)).present) (λ s. bytes_of set_bytes (whole s))) a.present.now _ r.open_model-r.ensures.is_refusal c.if-r-ne0.true
 
 put_set_requires : tie.Need-put_set-requires
 put_set_requires c κs = search rules
@@ -38,7 +38,7 @@ returns_2 c =
     let put = c.before.before in
     let passed = put.before.before in
     let r = passed.before.before in
-    let a = r.before.before.before.before.before.args in
+    let a = r.args in
     let h = r.open_model-r.ensures in
     let ok = sym h.is_refusal ∙ passed.if-r-ne0.false in
     answer_put (λ s. bytes_of set_bytes (whole s)) (model_tests a.p a.n a.a a.b a.constants.now (row_numbers a.parameters.now) (lent a.numbered a.numbers.now)) [] _ (h.if_accepted ok) ok refl (set_put _ put.put_set.ensures)

@@ -30,7 +30,7 @@ returns c =
     let f = c.before.before in
     let k = begun f in
     let a = k.args in
-    refused_before (tests k) [] reason_length (WrittenOver (ReasonAnswered a.p a.n a.a a.b a.constants.now (row_numbers a.parameters.now) a.column) reason_bytes) a.answer-1.now _ f.model_reason-r.ensures.is_refusal c.if-r-ne0.true
+    refused_before (tests k) [] reason_length (WrittenOver (ReasonAnswered a.p a.n a.a a.b a.constants.now (row_numbers a.parameters.now) a.column) reason_bytes) a.answer.now _ f.model_reason-r.ensures.is_refusal c.if-r-ne0.true
 
 put_reason_requires : tie.Need-put_reason-requires
 put_reason_requires c κs = search rules

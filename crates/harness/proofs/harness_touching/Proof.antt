@@ -16,8 +16,8 @@ touching_rows_requires c κs = search rules
 
 returns : tie.Need-returns
 returns c =
-    let a = c.before.before.before.before.args in
-    c.touching_rows.ensures ∙ ap (λ (w : ℕ). touching_count a.n a.b (row_numbers a.parameters.now) (members w)) c.before.of_bytes.ensures.is_number
+    let a = c.args in
+    c.touching_rows.ensures ∙ ap (λ (w : ℕ). touching_count a.n a.b (row_numbers a.parameters.now) (members w)) c.of_bytes.ensures.is_number
 
 pub harness_touching_spec : {M : Type 1} → statement M
 harness_touching_spec = tie.close (tie.spec of_bytes_requires touching_rows_requires returns)

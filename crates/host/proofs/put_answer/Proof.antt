@@ -43,12 +43,12 @@ returns_2 c =
     let at_rows = c.before.before in
     let at_front = front_put at_rows.before.before in
     let at-else = at_front.before.before in
-    let r = at-else.before.before.args.answer in
+    let r = at-else.args.answer in
     let front = front_bytes r.verdict r.rank (whole r.placed) (whole r.constants) (whole r.short) in
     let room = at-else.if-out-lt-ANSWER_LENGTH.false in
     let long = (put_rows_requires at_rows.before at_rows.put_rows.lifetimes).1 in
-    let w₁ = wrote_first (answer_bytes r) front r.rows-1 front_length refl (omega (arith, length-append front r.rows-1, room)) at_front.put_front.ensures refl in
-    put_done answer_length (answer_bytes r) _ room (wrote_all (wrote_run r.rows-1 [] _ most_rows w₁ (sym (append-nil r.rows-1)) at_rows.put_rows.ensures long) refl)
+    let w₁ = wrote_first (answer_bytes r) front r.rows front_length refl (omega (arith, length-append front r.rows, room)) at_front.put_front.ensures refl in
+    put_done answer_length (answer_bytes r) _ room (wrote_all (wrote_run r.rows [] _ most_rows w₁ (sym (append-nil r.rows)) at_rows.put_rows.ensures long) refl)
 
 pub put_answer_spec : {M : Type 1} → statement M
 put_answer_spec =

@@ -10,7 +10,7 @@ abbrev front_put : tie.After-slice_known-2-1 → tie.After-put_front
 front_put c = c.before.before
 
 abbrev with_room : tie.After-slice_known-2-1 → tie.Else-out-lt-MIXED_LENGTH
-with_room c = (front_put c).before.before
+with_room c = (front_put c).before.before.before.before.before
 
 returns : tie.Need-returns-then-out-lt-MIXED_LENGTH
 returns c = put_refused mixed_length _ _ c.if-out-lt-MIXED_LENGTH.true

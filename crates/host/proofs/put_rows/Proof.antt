@@ -26,7 +26,7 @@ array_read_out : tie.Need-bounds-rows-at invariant-loop decreases-loop
 array_read_out c = search rules
 
 slice_write_out : tie.Need-bounds-out-at invariant-loop decreases-loop
-slice_write_out c = let l = c.before.loop-at in omega (arith, l.invariant.0, ap length (drop-cons c.before.before.args.rows l.at 0 (omega (arith, c.before.before.requires, c.loop-at-test.true))))
+slice_write_out c = let l = c.loop-at in omega (arith, l.invariant.0, ap length (drop-cons c.args.rows l.at 0 (omega (arith, c.requires, c.loop-at-test.true))))
 
 add_at : tie.Need-overflow_add-at invariant-loop decreases-loop
 add_at c = omega arith
@@ -36,18 +36,18 @@ loop_less c = omega arith
 
 loop_again : tie.Need-loop-at-preserved invariant-loop decreases-loop
 loop_again c =
-    let l = c.before.loop-at in
-    let rows = c.before.before.args.rows in
-    let next : drop l.at rows ≡ get_or rows l.at 0 ∷ drop (l.at + 1) rows = drop-cons rows l.at 0 (omega (arith, c.before.before.requires, c.loop-at-test.true)) ∙ rw add-one refl in
+    let l = c.loop-at in
+    let rows = c.args.rows in
+    let next : drop l.at rows ≡ get_or rows l.at 0 ∷ drop (l.at + 1) rows = drop-cons rows l.at 0 (omega (arith, c.requires, c.loop-at-test.true)) ∙ rw add-one refl in
     (wrote_set (get_or rows l.at 0) _ l.invariant.0 next, omega arith)
 
 same_length : tie.Need-shape_of-out invariant-loop decreases-loop
-same_length c = c.before.loop-at.invariant.0.same
+same_length c = c.loop-at.invariant.0.same
 
 returns : tie.Need-returns invariant-loop decreases-loop
 returns c =
-    let l = c.before.loop-at in
-    wrote_all l.invariant.0 (drop_of_length-le c.before.before.args.rows {i = l.at} (omega (arith, c.before.before.requires, c.loop-at-test.false)))
+    let l = c.loop-at in
+    wrote_all l.invariant.0 (drop_of_length-le c.args.rows {i = l.at} (omega (arith, c.requires, c.loop-at-test.false)))
 
 pub put_rows_spec : {M : Type 1} → statement M
 put_rows_spec =

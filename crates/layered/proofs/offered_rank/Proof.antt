@@ -45,15 +45,15 @@ abbrev judged : tie.After-rows-1 → tie.After-verdict_of-verdict
 judged c = (copied c).before.before
 
 -- the solver's answer has a place for each row, and its sets are sets
-rows_long : (c : tie.After-solve-s) → length c.solve-s.result.rows-1 ≡ most_rows
-rows_long c = search (rules, c.solve-s.type-inv.1.1.1.1.1.1.1)
+rows_long : (c : tie.After-solve-s) → length c.solve-s.result.rows ≡ most_rows
+rows_long c = search (rules, c.solve-s.type_inv.1.1.1.1.1.1.1)
 
-sets_fit : (c : tie.After-solve-s) → Fits c.solve-s.result.placed-1 × Fits c.solve-s.result.short-1
-sets_fit c = let sets = c.solve-s.type-inv.1.1.1.1 in (search (rules, sets.0), search (rules, sets.1.1.0))
+sets_fit : (c : tie.After-solve-s) → Fits c.solve-s.result.placed × Fits c.solve-s.result.short
+sets_fit c = let sets = c.solve-s.type_inv.1.1.1.1 in (search (rules, sets.0), search (rules, sets.1.1.0))
 
 -- the columns offered are a set
 offered_fits : (c : tie.After-solve-s) → Fits (entry c).args.offered
-offered_fits c = search (rules, (entry c).well-formed)
+offered_fits c = search (rules, (entry c).well_formed)
 
 -- what holds where the solver takes the model
 
@@ -83,9 +83,9 @@ returns c =
     let k = c.before.before.before in
     let a = (begun k).args in
     record {
-      is_refusal = c.refuse.ensures.0 ∙ c.before.judge_offered.ensures;
+      is_refusal = c.refuse.ensures.0 ∙ c.judge_offered.ensures;
       if_refused = λ z. c.refuse.ensures.1;
-      if_accepted = λ z. absurd (true≢false (sym (accepted_beforehand a.p a.n a.a a.b a.constants.now (row_numbers a.parameters.now) (offered_accepted _ _ _ _ _ _ _ z).0) ∙ sym k.passes_beforehand.ensures ∙ not-true _ c.before.before.if-not-passes_beforehand.true-raw));
+      if_accepted = λ z. absurd (true≢false (sym (accepted_beforehand a.p a.n a.a a.b a.constants.now (row_numbers a.parameters.now) (offered_accepted _ _ _ _ _ _ _ z).0) ∙ sym k.passes_beforehand.ensures ∙ not-true _ c.if-not-passes_beforehand.true-raw));
     }
 
 solve_requires : tie.Need-solve-s-requires
@@ -102,9 +102,9 @@ returns_2 c =
     let s = solved c.before.before.before in
     let a = (entry s).args in
     record {
-      is_refusal = c.refuse-then-not-s.ensures.0 ∙ c.before.judge_offered-then-not-s.ensures;
+      is_refusal = c.refuse-then-not-s.ensures.0 ∙ c.judge_offered-then-not-s.ensures;
       if_refused = λ z. c.refuse-then-not-s.ensures.1;
-      if_accepted = λ z. let ok = offered_accepted _ _ _ _ _ _ _ z in absurd (true≢false (sym (accepted_admissible (model_accepted _ _ _ _ _ _ none ok.0) _ ok.1) ∙ sym s.solve-s.ensures.is_valid ∙ not-true _ c.before.before.if-not-s.true));
+      if_accepted = λ z. let ok = offered_accepted _ _ _ _ _ _ _ z in absurd (true≢false (sym (accepted_admissible (model_accepted _ _ _ _ _ _ none ok.0) _ ok.1) ∙ sym s.solve-s.ensures.is_valid ∙ not-true _ c.if-not-s.true));
     }
 
 size_requires : tie.Need-size-requires
@@ -130,7 +130,7 @@ returns_3 c =
     let accepted = sized.before in
     let s = solved accepted.before in
     let a = (entry s).args in
-    let passed : beforehand a.p a.n a.b (row_numbers a.parameters.now) ≡ true = sym (tested s).passes_beforehand.ensures ∙ not-false _ s.before.if-not-passes_beforehand.false-raw in
+    let passed : beforehand a.p a.n a.b (row_numbers a.parameters.now) ≡ true = sym (tested s).passes_beforehand.ensures ∙ not-false _ s.if-not-passes_beforehand.false-raw in
     let zero : refusal a.p a.n a.a a.b a.constants.now (row_numbers a.parameters.now) none ≡ 0 = taken_accepted a.p a.n a.a a.b a.constants.now (row_numbers a.parameters.now) _ passed (taken accepted) in
     let inside : within a.n (whole a.offered) ≡ true = (admissible_reads _ _ _ _ _ _ _ (taken accepted)).inside in
     let none_refused = offered_passed _ _ _ _ _ _ _ zero inside in

@@ -17,7 +17,7 @@ offered_rank_requires c κs = search rules
 
 returns : tie.Need-returns
 returns c =
-    let all = c.before.below.ensures in
+    let all = c.below.ensures in
     let h = c.offered_rank.ensures in
     let e = all_offered _ _ _ _ _ _ _ (below_within _ _ all) in
     record {

@@ -22,25 +22,25 @@ rem_j : tie.Need-nonzero_rem-j
 rem_j c = width_positive c.args.m c.args.n c.args.k c.requires.2
 
 returns : tie.Need-returns-then-i-j
-returns c = let a = c.before.before.args in sym (entry_unit a.m a.n a.constants.now a.k c.before.if-j-m.true c.if-i-j.true)
+returns c = let a = c.args in sym (entry_unit a.m a.n a.constants.now a.k c.if-j-m.true c.if-i-j.true)
 
 returns_2 : tie.Need-returns-then-j-m
-returns_2 c = let a = c.before.before.args in sym (entry_other a.m a.n a.constants.now a.k c.before.if-j-m.true c.if-i-j.false)
+returns_2 c = let a = c.args in sym (entry_other a.m a.n a.constants.now a.k c.if-j-m.true c.if-i-j.false)
 
 mul_at : tie.Need-overflow_mul-at
-mul_at c = let a = c.before.args in omega (arith, small a.m a.n c.before.requires.1, constant_inside a.m a.n a.constants.now a.k c.before.requires.2 c.if-j-m.false)
+mul_at c = let a = c.args in omega (arith, small a.m a.n c.requires.1, constant_inside a.m a.n a.constants.now a.k c.requires.2 c.if-j-m.false)
 
 add_at : tie.Need-overflow_add-at
-add_at c = let a = c.before.args in omega (arith, small a.m a.n c.before.requires.1, constant_inside a.m a.n a.constants.now a.k c.before.requires.2 c.if-j-m.false)
+add_at c = let a = c.args in omega (arith, small a.m a.n c.requires.1, constant_inside a.m a.n a.constants.now a.k c.requires.2 c.if-j-m.false)
 
 mul_result : tie.Need-offset_bounds-constants-at
-mul_result c = let a = c.before.args in omega (arith, small a.m a.n c.before.requires.1, constant_inside a.m a.n a.constants.now a.k c.before.requires.2 c.if-j-m.false)
+mul_result c = let a = c.args in omega (arith, small a.m a.n c.requires.1, constant_inside a.m a.n a.constants.now a.k c.requires.2 c.if-j-m.false)
 
 shared_slice_read_result : tie.Need-bounds-constants-at
-shared_slice_read_result c = let a = c.before.before.args in omega (arith, c.before.before.requires.0, constant_inside a.m a.n a.constants.now a.k c.before.before.requires.2 c.before.if-j-m.false)
+shared_slice_read_result c = let a = c.args in omega (arith, c.requires.0, constant_inside a.m a.n a.constants.now a.k c.requires.2 c.if-j-m.false)
 
 returns_3 : tie.Need-returns
-returns_3 c = let a = c.before.before.args in sym (entry_constant a.m a.n a.constants.now a.k c.before.if-j-m.false)
+returns_3 c = let a = c.args in sym (entry_constant a.m a.n a.constants.now a.k c.if-j-m.false)
 
 pub entry_of_form_spec : {M : Type 1} → statement M
 entry_of_form_spec =

@@ -39,24 +39,24 @@ entry_of_form_requires : tie.Need-entry_of_form-requires invariant-loop decrease
 entry_of_form_requires c κs = ((begun c).requires.1, (begun c).requires.3, c.loop-k-test.true)
 
 mul_form : tie.Need-offset_bounds-form-k invariant-loop decreases-loop
-mul_form c = omega (arith, c.before.loop-k-test.true, room (begun c.before))
+mul_form c = omega (arith, c.loop-k-test.true, room (begun c.before))
 
 element_write_form : tie.Need-bounds-form-k invariant-loop decreases-loop
-element_write_form c = omega (arith, c.before.loop-k-test.true, room (begun c.before))
+element_write_form c = omega (arith, c.loop-k-test.true, room (begun c.before.before))
 
 add_k : tie.Need-overflow_step-k invariant-loop decreases-loop
-add_k c = omega (arith, c.before.loop-k-test.true, room (begun c.before))
+add_k c = omega (arith, c.loop-k-test.true, room (begun c.before.before))
 
 loop_less : tie.Need-loop-k-smaller invariant-loop decreases-loop
-loop_less c = omega (arith, c.before.loop-k-test.true)
+loop_less c = omega (arith, c.loop-k-test.true)
 
 loop_again : tie.Need-loop-k-preserved invariant-loop decreases-loop
 loop_again c =
-    let l = c.before.before.loop-k in
-    let a = (begun c.before).args in
+    let l = c.loop-k in
+    let a = (begun c.before.before).args in
     let v = c.entry_of_form.result in
-    let inside : l.k < length l.form = omega (arith, c.before.loop-k-test.true, room (begun c.before)) in (
-      omega (arith, c.before.loop-k-test.true),
+    let inside : l.k < length l.form = omega (arith, c.loop-k-test.true, room (begun c.before.before)) in (
+      omega (arith, c.loop-k-test.true),
       search rules,
       below_more (λ j. get_or (set l.form l.k v) j 0 ≡ form_entry a.m a.n a.constants.now j) l.k
           (λ j m. get_or-set_other l.form l.k j v 0 (λ z. omega arith) ∙ l.invariant.2 j m)
@@ -65,7 +65,7 @@ loop_again c =
 
 returns : tie.Need-returns invariant-loop decreases-loop
 returns c =
-    let l = c.before.loop-k in
+    let l = c.loop-k in
     (search rules, λ j m. l.invariant.2 j (omega (arith, c.loop-k-test.false)))
 
 pub fill_constants_spec : {M : Type 1} → statement M

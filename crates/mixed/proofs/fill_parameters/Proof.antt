@@ -60,31 +60,31 @@ loop_less c = search rules
 
 loop_again : tie.Need-loop-i-preserved invariant-loop decreases-loop
 loop_again c =
-    let put = c.before.before.put_row in
+    let put = c.put_row in
     let made = (completed c).with in
     let moved = (raised c).raised-own in
     let own = (read c).row in
     let l = (turn c).loop-i in
     let a = (begun (turn c)).args in
-    let ws = row_numbers l.words-1 in
+    let ws = row_numbers l.words in
     let w = whole made.result in
-    let rows_are : row_numbers put.new.0 ≡ set ws l.i w = ap row_numbers put.ensures ∙ rows_with_row l.words-1 l.i w in
+    let rows_are : row_numbers put.new.words ≡ set ws l.i w = ap row_numbers put.ensures ∙ rows_with_row l.words l.i w in
     let inside : l.i < length ws = omega arith in
     let is_made : members w ≡ form_row a.m (members (get_or (row_numbers a.parameters.now) l.i 0)) l.i = made.ensures ∙ ap (λ (S : Set). inserted S l.i) (moved.ensures ∙ ap (λ (v : ℕ). moved_up (members v) a.m) own.ensures) in (
       search rules,
-      ap length rows_are ∙ length-set ws l.i w ∙ l.inv.1,
+      ap length rows_are ∙ length-set ws l.i w ∙ l.invariant.1,
       rw rows_are (below_more (λ k. members (get_or (set ws l.i w) k 0) ≡ form_row a.m (members (get_or (row_numbers a.parameters.now) k 0)) k) l.i
-          (λ k m. ap members (get_or-set_other ws l.i k w 0 (λ z. omega arith)) ∙ l.inv.2 k m)
+          (λ k m. ap members (get_or-set_other ws l.i k w 0 (λ z. omega arith)) ∙ l.invariant.2 k m)
           (ap members (get_or-set_same ws l.i w 0 inside) ∙ is_made)),
-      ap length put.ensures ∙ with_row_length l.words-1 l.i w ∙ l.inv.3,
+      ap length put.ensures ∙ with_row_length l.words l.i w ∙ l.invariant.3,
     )
 
 same_length : tie.Need-shape_of-words invariant-loop decreases-loop
-same_length c = c.before.loop-i.invariant.3
+same_length c = c.loop-i.invariant.3
 
 returns : tie.Need-returns invariant-loop decreases-loop
 returns c =
-    let l = c.before.loop-i in
+    let l = c.loop-i in
     (l.invariant.1, λ k m. l.invariant.2 k (omega arith))
 
 pub fill_parameters_spec : {M : Type 1} → statement M

@@ -16,6 +16,7 @@ use Rattle.mixed.specs.MixedForm.{serves}
 use borrow.Author.Rules.{rules}
 use native.Mathlib.Omega.{arith}
 use Rattle.mixed.proofs.idle_rows.Statement.{statement}
+use Rattle.mixed.proofs.idle_rows.Lts.{then-not-serves_original, else-not-serves_original}
 use Rattle.mixed.proofs.idle_rows.Tie as tie
 
 -- the idle rows below k
@@ -68,19 +69,19 @@ loop_less c = search rules
 loop_again : tie.Need-loop-i-preserved invariant-loop decreases-loop
 loop_again c =
     let l = (turn c).loop-i in
-    let a = (turn c).before.before.args in
-    let s = c.before.serves_original in (
+    let a = (turn c).args in
+    let s = c.serves_original in (
       search rules,
-      ⊎_elim
-          (λ w. rw (w.2, w.1.ensures) (idle_more a.m a.t1 l.i (members (whole l.idle)) (omega arith) (s.ensures.1 (not-true _ w.0.taken)) l.inv.1))
-          (λ w. rw w.1 (idle_same a.m a.t1 l.i (members (whole l.idle)) (s.ensures.0 (not-false _ w.0.left)) l.inv.1))
-          c.if-not-serves_original.branch,
+      elim c.if-not-serves_original.branch [
+        | then-not-serves_original w ↦ rw (w.idle-is, w.with-idle.ensures) (idle_more a.m a.rows l.i (members (whole l.idle)) (omega arith) (s.ensures.1 (not-true _ w.if-not-serves_original.true-raw)) l.invariant.1)
+        | else-not-serves_original w ↦ rw w.idle-is (idle_same a.m a.rows l.i (members (whole l.idle)) (s.ensures.0 (not-false _ w.if-not-serves_original.false-raw)) l.invariant.1)
+      ],
     )
 
 returns : tie.Need-returns invariant-loop decreases-loop
 returns c =
-    let done : c.before.loop-i.i ≡ c.before.before.before.args.m = omega arith in
-    rw done at c.before.loop-i.invariant.1
+    let done : c.loop-i.i ≡ c.args.m = omega arith in
+    rw done at c.loop-i.invariant.1
 
 pub idle_rows_spec : {M : Type 1} → statement M
 idle_rows_spec =

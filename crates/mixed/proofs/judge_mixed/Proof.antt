@@ -21,13 +21,13 @@ passed c = c.before
 
 -- the model is accepted
 accepted : (c : tie.Else-number-ne0) → let a = (begun c.before).args in refusal a.p a.n a.a a.b a.constants.now (row_numbers a.parameters.now) (lent a.numbered a.numbers.now) ≡ 0
-accepted c = sym c.before.judge_model-number.ensures ∙ c.if-number-ne0.false
+accepted c = sym c.judge_model-number.ensures ∙ c.if-number-ne0.false
 
 judge_model_requires : tie.Need-judge_model-number-requires
 judge_model_requires c κs = search rules
 
 returns : tie.Need-returns-then-number-ne0
-returns c = let a = (begun c.before).args in at_model a.p a.n a.a a.b a.constants.now (row_numbers a.parameters.now) (lent a.numbered a.numbers.now) _ c.before.judge_model-number.ensures c.if-number-ne0.true
+returns c = let a = (begun c.before).args in at_model a.p a.n a.a a.b a.constants.now (row_numbers a.parameters.now) (lent a.numbered a.numbers.now) _ c.judge_model-number.ensures c.if-number-ne0.true
 
 returns_2 : tie.Need-returns-then-a-b
 returns_2 c =
@@ -48,7 +48,7 @@ returns_3 c =
 returns_4 : tie.Need-returns
 returns_4 c =
     let a = (begun (passed c.before).before).args in
-    at_none a.p a.n a.a a.b a.constants.now (row_numbers a.parameters.now) (lent a.numbered a.numbers.now) (accepted (passed c.before)) ((mixed_reads a.p a.n a.a a.b a.constants.now (row_numbers a.parameters.now) (lent a.numbered a.numbers.now)).1 (c.before.if-a-b.false, c.if-a-n-gt-MOST_COLUMNS.false))
+    at_none a.p a.n a.a a.b a.constants.now (row_numbers a.parameters.now) (lent a.numbered a.numbers.now) (accepted (passed c.before)) ((mixed_reads a.p a.n a.a a.b a.constants.now (row_numbers a.parameters.now) (lent a.numbered a.numbers.now)).1 (c.if-a-b.false, c.if-a-n-gt-MOST_COLUMNS.false))
 
 pub judge_mixed_spec : {M : Type 1} → statement M
 judge_mixed_spec =

@@ -12,11 +12,11 @@ lent c = c.before.before.before
 abbrev read : tie.After-struct_known-1 → tie.After-read_rows-sizes
 read c = c.before.before.before
 
-bytes : (c : tie.After-shared_slice_known-1) → AreBytes c.before.args.file.now
+bytes : (c : tie.After-shared_slice_known-1) → AreBytes c.args.file.now
 bytes c i = search (rules, c.shared_slice_known-1.given i)
 
 -- the file's bytes, where it is read
-file_bytes : (c : tie.After-read_rows-sizes) → AreBytes (lent c).before.args.file.now
+file_bytes : (c : tie.After-read_rows-sizes) → AreBytes (lent c).args.file.now
 file_bytes c = bytes (lent c)
 
 slice_aggregate_read_rows : tie.Need-slice_bounds-read_rows-end
@@ -34,7 +34,7 @@ refuse_requires c κs = search rules
 returns : tie.Need-returns-then-sizes-ne0
 returns c =
     let at_read = read c.before.before in
-    mixed_file_refused (file_bytes at_read) at_read.read_rows-sizes.ensures c.before.if-sizes-ne0.true _ c.refuse.ensures.0 c.refuse.ensures.1
+    mixed_file_refused (file_bytes at_read) at_read.read_rows-sizes.ensures c.if-sizes-ne0.true _ c.refuse.ensures.0 c.refuse.ensures.1
 
 slice_aggregate_unnumbered_mixed : tie.Need-slice_bounds-unnumbered_mixed-end
 slice_aggregate_unnumbered_mixed c = search rules

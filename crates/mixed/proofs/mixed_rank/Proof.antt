@@ -48,7 +48,7 @@ answered c = c.before.before
 
 -- the question is accepted
 none_refused : (c : tie.Else-number-ne0) → let a = (begun c.before).args in mixed_refusal a.p a.n a.a a.b a.constants.now (row_numbers a.parameters.now) (lent a.numbered a.numbers.now) ≡ 0
-none_refused c = sym c.before.judge_mixed-number.ensures ∙ c.if-number-ne0.false
+none_refused c = sym c.judge_mixed-number.ensures ∙ c.if-number-ne0.false
 
 accepted : (c : tie.Else-number-ne0) → let a = (begun c.before).args in Accepted a.p a.n a.a a.a a.constants.now (row_numbers a.parameters.now) (lent a.numbered a.numbers.now) × (a.a + a.n ≤ most_columns)
 accepted c = let a = (begun c.before).args in mixed_accepted a.p a.n a.a a.b a.constants.now (row_numbers a.parameters.now) (lent a.numbered a.numbers.now) (none_refused c)
@@ -68,8 +68,8 @@ form_solved c =
     (form_admissible a.p a.a a.n a.constants.now (row_numbers a.parameters.now) h.0 h.1 _ _ _ constants.0 room constants.1 all) _ _ _
     (shows_form a.p a.a a.n a.constants.now (row_numbers a.parameters.now) h.0 h.1 _ _ _ constants.0 room constants.1 all parameters.1)
 
-sets_fit : (c : tie.After-solve-s) → Fits c.solve-s.result.short-1
-sets_fit c = search (rules, c.solve-s.type-inv.1.1.1.1.1.1.0)
+sets_fit : (c : tie.After-solve-s) → Fits c.solve-s.result.short
+sets_fit c = search (rules, c.solve-s.type_inv.1.1.1.1.1.1.0)
 
 judge_mixed_requires : tie.Need-judge_mixed-number-requires
 judge_mixed_requires c κs = search rules
@@ -79,11 +79,11 @@ refuse_requires c κs = search rules
 
 returns : tie.Need-returns-then-number-ne0
 returns c =
-    let e = c.before.before.judge_mixed-number.ensures in
+    let e = c.judge_mixed-number.ensures in
     record {
       is_refusal = c.refuse.ensures.0 ∙ e;
       if_refused = λ z. c.refuse.ensures.1;
-      if_accepted = λ z. absurd (c.before.if-number-ne0.true (e ∙ z));
+      if_accepted = λ z. absurd (c.if-number-ne0.true (e ∙ z));
     }
 
 fill_constants_requires : tie.Need-fill_constants-requires
@@ -138,7 +138,7 @@ lowered_requires c κs = search rules
 returns_2 : tie.Need-returns
 unfolding moved_down
 returns_2 c =
-    let verdict = told c.before in
+    let verdict = told c.before.before in
     let solved = answered verdict in
     let k = passed solved in
     let a = (begun k.before).args in
@@ -147,7 +147,7 @@ returns_2 c =
       is_refusal = sym zero;
       if_refused = λ z. absurd (z zero);
       if_accepted = λ z. mixed_answered (mixed a.p a.a a.n a.constants.now (row_numbers a.parameters.now)) _ _ _ _ _ (form_solved solved) _ (omega (arith, (accepted k).1)) (sets_fit solved) refl
-          verdict.verdict_of-verdict.ensures c.before.idle_rows-rows.ensures (λ x. ap (λ (S : Set). S x) c.lowered-columns.ensures) (λ x. refl);
+          verdict.verdict_of-verdict.ensures c.idle_rows-rows.ensures (λ x. ap (λ (S : Set). S x) c.lowered-columns.ensures) (λ x. refl);
     }
 
 pub mixed_rank_spec : {M : Type 1} → statement M

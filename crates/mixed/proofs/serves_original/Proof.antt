@@ -12,12 +12,12 @@ widened_requires : tie.Need-widened-requires
 widened_requires c κs = search rules
 
 returns : tie.Need-returns-then-widened-m
-returns c = ((λ e. absurd (false≢true e)), λ e w. omega (arith, c.if-widened-m.true, c.before.widened.ensures.0, w.0))
+returns c = ((λ e. absurd (false≢true e)), λ e w. omega (arith, c.if-widened-m.true, c.widened.ensures.0, w.0))
 
 returns_2 : tie.Need-returns
 returns_2 c =
-    let y = c.before.before.args.y in
-    let e = c.before.widened.ensures.0 in
+    let y = c.args.y in
+    let e = c.widened.ensures.0 in
     ((λ t. (omega (arith, c.if-widened-m.false), ltb-true y no_column t)), λ f w. omega (arith, ltb-false y no_column f, w.1))
 
 pub serves_original_spec : {M : Type 1} → statement M

@@ -24,7 +24,7 @@ verdict_put c = c.before.before
 
 -- where the area is lent for the line of the rank
 abbrev rank_lent : tie.After-put_number_line-after_rank → tie.After-put_number_line-arg-1
-rank_lent c = c.before.before.before
+rank_lent c = c.before.before.before.before
 
 put_verdict_line_requires : tie.Need-put_verdict_line-after_verdict-requires
 put_verdict_line_requires c κs = search rules
@@ -51,9 +51,9 @@ returns : tie.Need-returns
 unfolding mixed_answer_text ascii
 returns c =
     let short = short_put c in
-    let columns = columns_put short.before.before.before in
-    let rows = rows_put columns.before.before.before in
-    let rank = rank_put rows.before.before.before in
+    let columns = columns_put short.before.before.before.before.before in
+    let rows = rows_put columns.before.before.before.before.before in
+    let rank = rank_put rows.before.before.before.before.before in
     let verdict = verdict_put (rank_lent rank).before in
     puts_then verdict.put_verdict_line-after_verdict.ensures (puts_then rank.put_number_line-after_rank.ensures (puts_then rows.put_column_line-after_rows.ensures (puts_then columns.put_column_line-after_columns.ensures short.put_column_line.ensures)))
 

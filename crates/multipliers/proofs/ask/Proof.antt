@@ -22,9 +22,9 @@ refuse_requires c κs = search rules
 
 returns : tie.Need-returns-then-column-n
 returns c =
-    let a = c.before.before.before.args in
+    let a = c.args in
     let e = c.refuse.ensures.0 in
-    call_refused (e ∙ column_refused a.n (whole a.held) a.column (omega (arith, c.before.if-column-n.true))) (λ z. omega (arith, e)) c.refuse.ensures.1
+    call_refused (e ∙ column_refused a.n (whole a.held) a.column (omega (arith, c.if-column-n.true))) (λ z. omega (arith, e)) c.refuse.ensures.1
 
 within_requires : tie.Need-within-requires
 within_requires c κs = search rules
@@ -37,8 +37,8 @@ returns_2 c =
     let t = c.before in
     let a = (begun t).args in
     let e = c.refuse-then-not-within.ensures.0 in
-    let out : within a.n (whole a.held) ≡ false = sym t.before.within.ensures ∙ not-true _ t.if-not-within.true-raw in
-    call_refused (e ∙ held_refused a.n (whole a.held) a.column (omega (arith, t.before.before.if-column-n.false)) out) (λ z. omega (arith, e)) c.refuse-then-not-within.ensures.1
+    let out : within a.n (whole a.held) ≡ false = sym t.within.ensures ∙ not-true _ t.if-not-within.true-raw in
+    call_refused (e ∙ held_refused a.n (whole a.held) a.column (omega (arith, t.if-column-n.false)) out) (λ z. omega (arith, e)) c.refuse-then-not-within.ensures.1
 
 column_dependence_requires : tie.Need-column_dependence-d-requires
 column_dependence_requires c κs = search rules
@@ -49,8 +49,8 @@ returns_3 c =
     let w = d.before.before in
     let k = w.before.before.before in
     let a = k.args in
-    let inside : within a.n (whole a.held) ≡ true = sym w.within.ensures ∙ not-false _ d.before.if-not-within.false-raw in
-    let l : a.column < a.n = omega (arith, w.before.if-column-n.false) in
+    let inside : within a.n (whole a.held) ≡ true = sym w.within.ensures ∙ not-false _ d.if-not-within.false-raw in
+    let l : a.column < a.n = omega (arith, w.if-column-n.false) in
     let zero = columns_pass a.n (whole a.held) a.column l inside in
     record {
       is_refusal = zero;

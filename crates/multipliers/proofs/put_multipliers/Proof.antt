@@ -21,18 +21,18 @@ begun c = c.before.before
 abbrev with_room : tie.After-slice_known-2-1 → tie.Else-out-lt-MULTIPLIERS_LENGTH
 with_room c = c.before.before.before.before.before.before
 
-long : (k : tie.Start) → length (entry_bytes k.args.answer.multipliers-1) ≡ 2 * most_columns
-long k = let m : length k.args.answer.multipliers-1 ≡ most_columns = search rules in omega (arith, (entries_back k.args.answer.multipliers-1).0)
+long : (k : tie.Start) → length (entry_bytes k.args.answer.multipliers) ≡ 2 * most_columns
+long k = let m : length k.args.answer.multipliers ≡ most_columns = search rules in omega (arith, (entries_back k.args.answer.multipliers).0)
 
 -- the bytes when they are written
-written : (c : tie.After-slice_known-2-1) → let a = (begun (with_room c)).args in let d = set a.out-1.now 0 a.answer.outcome in
-    Wrote (multipliers_bytes a.answer) [] a.out-1.now (take 1 d ++ (c.before.before.put_each.new.0 ++ drop (length d - 1) (drop 1 d))) (1 + 2 * most_columns)
+written : (c : tie.After-slice_known-2-1) → let a = (begun (with_room c)).args in let d = set a.out.now 0 a.answer.outcome in
+    Wrote (multipliers_bytes a.answer) [] a.out.now (take 1 d ++ (c.put_each.new.out ++ drop (length d - 1) (drop 1 d))) (1 + 2 * most_columns)
 written c =
     let at-else = with_room c in
     let k = begun at-else in
-    let m = entry_bytes k.args.answer.multipliers-1 in
-    let w = wrote_set k.args.answer.outcome m (wrote_none (multipliers_bytes k.args.answer) k.args.out-1.now (omega (arith, long k, at-else.if-out-lt-MULTIPLIERS_LENGTH.false))) refl in
-    wrote_room m [] _ (2 * most_columns) w (sym (append-nil m)) c.before.before.put_each.ensures.bytes_are (long k)
+    let m = entry_bytes k.args.answer.multipliers in
+    let w = wrote_set k.args.answer.outcome m (wrote_none (multipliers_bytes k.args.answer) k.args.out.now (omega (arith, long k, at-else.if-out-lt-MULTIPLIERS_LENGTH.false))) refl in
+    wrote_room m [] _ (2 * most_columns) w (sym (append-nil m)) c.put_each.ensures.bytes_are (long k)
 
 returns : tie.Need-returns-then-out-lt-MULTIPLIERS_LENGTH
 returns c = put_refused multipliers_length _ _ c.if-out-lt-MULTIPLIERS_LENGTH.true
@@ -41,10 +41,10 @@ slice_write_out : tie.Need-bounds-out-0
 slice_write_out c = search rules
 
 sub_put_each : tie.Need-slice_bounds-put_each-count
-sub_put_each c = let a = (begun c.before).args in omega (arith, c.before.if-out-lt-MULTIPLIERS_LENGTH.false, length-set a.out-1.now 0 a.answer.outcome)
+sub_put_each c = let a = (begun c.before).args in omega (arith, c.if-out-lt-MULTIPLIERS_LENGTH.false, length-set a.out.now 0 a.answer.outcome)
 
 part_put_each_start : tie.Need-slice_bounds-put_each-start
-part_put_each_start c = let a = (begun c.before).args in omega (arith, c.before.if-out-lt-MULTIPLIERS_LENGTH.false, length-set a.out-1.now 0 a.answer.outcome)
+part_put_each_start c = let a = (begun c.before).args in omega (arith, c.if-out-lt-MULTIPLIERS_LENGTH.false, length-set a.out.now 0 a.answer.outcome)
 
 part_put_each_end : tie.Need-slice_bounds-put_each-end
 part_put_each_end c = search rules

@@ -26,7 +26,7 @@ solved_by : (c : tie.After-solve-s) → let a = (begun c).args in
 solved_by c =
     let a = (begun c).args in
     let h = (begun c).requires in
-    let e = c.before.below-all.ensures in
+    let e = c.below-all.ensures in
     c.solve-s.ensures.if_valid (accepted_taken _ _ _ _ _ _ _ e (accepted_model _ _ _ _ _ _ none h)) _ _ _ (shows_model a.p a.n a.a a.b a.constants.now (row_numbers a.parameters.now) _ e (omega (arith, h.n_most)))
 
 -- where the solver has answered, seen from where the column was looked up in the placed set
@@ -38,7 +38,7 @@ abbrev asked : tie.After-solve-s → Model
 asked c = let a = (begun c).args in listed_model a.p a.n a.a a.b a.constants.now (row_numbers a.parameters.now)
 
 below : (c : tie.After-solve-s) → (begun c).args.column < (begun c).args.n
-below c = omega (arith, c.before.before.if-column-n.false)
+below c = omega (arith, c.if-column-n.false)
 
 -- whether the column was found there is whether it is placed
 found : (c : tie.After-contains) → c.contains.result ≡ placed (asked (answered c)) (begun (answered c)).args.column
@@ -49,9 +49,9 @@ refuse_requires c κs = search rules
 
 returns : tie.Need-returns-then-column-n
 returns c =
-    let a = c.before.before.before.before.args in
+    let a = c.args in
     let e = c.refuse.ensures.0 in
-    call_refused (e ∙ beyond_refused (listed_model a.p a.n a.a a.b a.constants.now (row_numbers a.parameters.now)) a.column (omega (arith, c.before.if-column-n.true))) (λ z. omega (arith, e)) c.refuse.ensures.1
+    call_refused (e ∙ beyond_refused (listed_model a.p a.n a.a a.b a.constants.now (row_numbers a.parameters.now)) a.column (omega (arith, c.if-column-n.true))) (λ z. omega (arith, e)) c.refuse.ensures.1
 
 below_requires : tie.Need-below-all-requires
 below_requires c κs = search rules
@@ -70,7 +70,7 @@ returns_2 c =
     let k = c.before.before in
     let s = answered k in
     let e = c.refuse-then-contains.ensures.0 in
-    call_refused (e ∙ placed_refused (asked s) (begun s).args.column (below s) (sym (found k) ∙ c.before.if-contains.true)) (λ z. omega (arith, e)) c.refuse-then-contains.ensures.1
+    call_refused (e ∙ placed_refused (asked s) (begun s).args.column (below s) (sym (found k) ∙ c.if-contains.true)) (λ z. omega (arith, e)) c.refuse-then-contains.ensures.1
 
 explain_requires : tie.Need-explain-requires
 explain_requires c κs =
@@ -82,7 +82,7 @@ returns_3 : tie.Need-returns
 returns_3 c =
     let k = c.before.before in
     let s = answered k in
-    let zero = unplaced_passes (asked s) (begun s).args.column (below s) (sym (found k) ∙ c.before.if-contains.false) in
+    let zero = unplaced_passes (asked s) (begun s).args.column (below s) (sym (found k) ∙ c.if-contains.false) in
     call_answered (sym zero) c.explain.ensures.no_refusal c.explain.ensures.answer
 
 pub ask_spec : {M : Type 1} → statement M

@@ -20,14 +20,14 @@ abbrev begun : tie.After-solve-s → tie.Start
 begun c = c.before.before.before.before
 
 short_fits : (c : tie.After-solve-s) → Fits c.solve-s.result.short
-short_fits c = search (rules, c.solve-s.type-inv.1.1.1.1.1.1.0)
+short_fits c = search (rules, c.solve-s.type_inv.1.1.1.1.1.1.0)
 
 -- the answer of the solver
 solved_by : (c : tie.After-solve-s) → let a = (begun c).args in
     SolvedBy (second_call (listed_model a.p a.n a.a a.b a.constants.now (row_numbers a.parameters.now)) a.column) c.solve-s.result
 solved_by c =
     let u = (begun c).requires in
-    c.solve-s.ensures.if_valid (drawn_taken u _ c.before.with-drawn.ensures) _ _ _ (drawn_shown u _ c.before.with-drawn.ensures)
+    c.solve-s.ensures.if_valid (drawn_taken u _ c.with-drawn.ensures) _ _ _ (drawn_shown u _ c.with-drawn.ensures)
 
 with_requires : tie.Need-with-drawn-requires
 with_requires c κs = search rules
@@ -67,7 +67,7 @@ returns_2 c =
     let k = o.before.before in
     let s = answered k in
     let u = (begun s).requires in
-    let e = not_touched u s.solve-s.result (short_fits s) (solved_by s) _ k.touching_rows-rows.ensures (omega (arith, o.before.if-rows-ne0.false)) in
+    let e = not_touched u s.solve-s.result (short_fits s) (solved_by s) _ k.touching_rows-rows.ensures (omega (arith, o.if-rows-ne0.false)) in
     let asked = d.column_dependence-d.ensures.if_valid (accepted_askable (constants_accepted u.accepted) _ _ (others_below u s.solve-s.result (short_fits s) (solved_by s) _ o.without-others.ensures) u.below) in
     record {
       no_refusal = refl;

@@ -21,7 +21,7 @@ lent c = c.before.before.before
 abbrev read : tie.After-struct_known-1 → tie.After-read_rows-sizes
 read c = c.before.before.before
 
-file_bytes : (c : tie.After-read_rows-sizes) → AreBytes (lent c).before.args.file.now
+file_bytes : (c : tie.After-read_rows-sizes) → AreBytes (lent c).args.file.now
 file_bytes c i = search (rules, (lent c).shared_slice_known-1.given i)
 
 slice_aggregate_read_rows : tie.Need-slice_bounds-read_rows-end
@@ -40,9 +40,9 @@ returns : tie.Need-returns-then-sizes-ne0
 unfolding judge
 returns c =
     let at_read = read c.before.before in
-    let file = (lent at_read).before.args.file.now in
+    let file = (lent at_read).args.file.now in
     let e = c.refuse.ensures.0 in
-    let nonzero : c.refuse.result.refusal ≢ 0 = λ z. c.before.if-sizes-ne0.true (sym e ∙ z) in
+    let nonzero : c.refuse.result.refusal ≢ 0 = λ z. c.if-sizes-ne0.true (sym e ∙ z) in
     call_refused (then_refused (closed fields file) _ _ (e ∙ own_refusal (file_bytes at_read) at_read.read_rows-sizes.ensures) nonzero) nonzero c.refuse.ensures.1
 
 slice_aggregate_ask : tie.Need-slice_bounds-ask-end
@@ -54,14 +54,14 @@ slice_aggregate_ask_2 c = search rules
 ask_requires : tie.Need-ask-requires
 ask_requires c κs =
     let at_read = read c.before.before.before in
-    model_accepted _ _ _ _ _ _ _ (own_accepted (file_bytes at_read) at_read.read_rows-sizes.ensures c.before.before.if-sizes-ne0.false)
+    model_accepted _ _ _ _ _ _ _ (own_accepted (file_bytes at_read) at_read.read_rows-sizes.ensures c.if-sizes-ne0.false)
 
 returns_2 : tie.Need-returns
 unfolding judge
 returns_2 c =
     let accepted = c.before.before.before in
     let at_read = read accepted.before in
-    let a = (lent at_read).before.args in
+    let a = (lent at_read).args in
     let bytes = file_bytes at_read in
     let call = at_read.read_rows-sizes.ensures in
     let ok = accepted.if-sizes-ne0.false in

@@ -34,17 +34,17 @@ unfolding refusal
 returns c =
     let j = c.before.before in
     let e = c.refuse.ensures.0 in
-    let nonzero : c.refuse.result.refusal ≢ 0 = λ z. c.before.if-number-ne0.true (sym e ∙ z) in
+    let nonzero : c.refuse.result.refusal ≢ 0 = λ z. c.if-number-ne0.true (sym e ∙ z) in
     call_refused (then_refused (judged j) (asked j) _ (e ∙ j.judge_model-number.ensures) nonzero) nonzero c.refuse.ensures.1
 
 ask_requires : tie.Need-ask-requires
-ask_requires c κs = unnumbered_accepted (model_accepted _ _ _ _ _ _ _ (sym c.before.judge_model-number.ensures ∙ c.if-number-ne0.false))
+ask_requires c κs = unnumbered_accepted (model_accepted _ _ _ _ _ _ _ (sym c.judge_model-number.ensures ∙ c.if-number-ne0.false))
 
 returns_2 : tie.Need-returns
 unfolding refusal
 returns_2 c =
     let j = c.before.before in
-    call_as (then_passed (judged j) (asked j) _ (sym j.judge_model-number.ensures ∙ c.before.if-number-ne0.false) refl) (λ x. x) c.ask.ensures
+    call_as (then_passed (judged j) (asked j) _ (sym j.judge_model-number.ensures ∙ c.if-number-ne0.false) refl) (λ x. x) c.ask.ensures
 
 pub model_reason_spec : {M : Type 1} → statement M
 model_reason_spec = tie.close (tie.spec judge_model_requires refuse_requires returns ask_requires returns_2)

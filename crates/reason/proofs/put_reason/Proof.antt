@@ -23,7 +23,7 @@ abbrev begun : tie.Else-out-lt-REASON_LENGTH → tie.Start
 begun c = c.before.before
 
 abbrev with_room : tie.After-put_set → tie.Else-out-lt-REASON_LENGTH
-with_room c = c.before.before.before
+with_room c = c.before.before.before.before
 
 abbrev set_put : tie.After-flag → tie.After-put_set
 set_put c = c.before.before.before
@@ -32,14 +32,14 @@ abbrev flagged : tie.After-slice_known-3-1 → tie.After-flag
 flagged c = c.before.before.before.before.before
 
 -- the bytes of the set, and how many those of the multipliers are
-long : (k : tie.Start) → (length (bytes_of set_bytes (whole k.args.answer.set)) ≡ set_bytes) × (length (entry_bytes k.args.answer.multipliers-1) ≡ 2 * most_columns)
+long : (k : tie.Start) → (length (bytes_of set_bytes (whole k.args.answer.set)) ≡ set_bytes) × (length (entry_bytes k.args.answer.multipliers) ≡ 2 * most_columns)
 long k =
-    let m : length k.args.answer.multipliers-1 ≡ most_columns = search rules in
-    (bytes_of_length set_bytes (whole k.args.answer.set), omega (arith, (entries_back k.args.answer.multipliers-1).0))
+    let m : length k.args.answer.multipliers ≡ most_columns = search rules in
+    (bytes_of_length set_bytes (whole k.args.answer.set), omega (arith, (entries_back k.args.answer.multipliers).0))
 
 -- the set and the flag behind it
 first_part : (c : tie.After-flag) → let p = set_put c in let a = (begun (with_room p)).args in
-    Wrote (reason_bytes a.answer) (entry_bytes a.answer.multipliers-1) a.out-1.now (set p.put_set.last.0 12 c.flag.result) 13
+    Wrote (reason_bytes a.answer) (entry_bytes a.answer.multipliers) a.out.now (set p.put_set.new.out 12 c.flag.result) 13
 first_part c =
     let p = set_put c in
     let at-else = with_room p in
@@ -47,20 +47,20 @@ first_part c =
     let r = k.args.answer in
     let l = long k in
     let bs = bytes_of set_bytes (whole r.set) in
-    let rest = indicator r.given ∷ entry_bytes r.multipliers-1 in
-    let fits : length (bs ++ rest) ≤ length k.args.out-1.now = omega (arith, length-append bs rest, l.0, l.1, at-else.if-out-lt-REASON_LENGTH.false) in
-    wrote_set c.flag.result (entry_bytes r.multipliers-1)
-    (wrote_first (reason_bytes r) bs rest set_bytes refl fits (p.put_set.ensures.bytes_are ∙ over_room_fits bs k.args.out-1.now (omega (arith, l.0, at-else.if-out-lt-REASON_LENGTH.false))) l.0)
-    (ap (λ (v : ℕ). v ∷ entry_bytes r.multipliers-1) (sym c.flag.ensures))
+    let rest = indicator r.given ∷ entry_bytes r.multipliers in
+    let fits : length (bs ++ rest) ≤ length k.args.out.now = omega (arith, length-append bs rest, l.0, l.1, at-else.if-out-lt-REASON_LENGTH.false) in
+    wrote_set c.flag.result (entry_bytes r.multipliers)
+    (wrote_first (reason_bytes r) bs rest set_bytes refl fits (p.put_set.ensures.bytes_are ∙ over_room_fits bs k.args.out.now (omega (arith, l.0, at-else.if-out-lt-REASON_LENGTH.false))) l.0)
+    (ap (λ (v : ℕ). v ∷ entry_bytes r.multipliers) (sym c.flag.ensures))
 
 -- all bytes
-written : (c : tie.After-slice_known-3-1) → let f = flagged c in let p = set_put f in let a = (begun (with_room p)).args in let d = set p.put_set.last.0 12 f.flag.result in
-    Wrote (reason_bytes a.answer) [] a.out-1.now (take 13 d ++ (c.before.before.put_each.new.0 ++ drop (length d - 13) (drop 13 d))) (13 + 2 * most_columns)
+written : (c : tie.After-slice_known-3-1) → let f = flagged c in let p = set_put f in let a = (begun (with_room p)).args in let d = set p.put_set.new.out 12 f.flag.result in
+    Wrote (reason_bytes a.answer) [] a.out.now (take 13 d ++ (c.put_each.new.out ++ drop (length d - 13) (drop 13 d))) (13 + 2 * most_columns)
 written c =
     let f = flagged c in
     let k = begun (with_room (set_put f)) in
-    let m = entry_bytes k.args.answer.multipliers-1 in
-    wrote_room m [] _ (2 * most_columns) (first_part f) (sym (append-nil m)) c.before.before.put_each.ensures.bytes_are (long k).1
+    let m = entry_bytes k.args.answer.multipliers in
+    wrote_room m [] _ (2 * most_columns) (first_part f) (sym (append-nil m)) c.put_each.ensures.bytes_are (long k).1
 
 returns : tie.Need-returns-then-out-lt-REASON_LENGTH
 returns c = put_refused reason_length _ _ c.if-out-lt-REASON_LENGTH.true

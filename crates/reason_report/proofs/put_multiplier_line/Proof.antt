@@ -21,7 +21,7 @@ word_put c = c.before.before
 
 -- where they are given
 abbrev with_them : tie.After-put_bytes-after_word → tie.Else-not-given
-with_them c = c.before.before.before
+with_them c = c.before.before.before.before
 
 returns : tie.Need-returns-then-not-given
 returns c = puts_as (sym (line_none _ _ (not-true _ c.if-not-given.true-raw))) (puts_none _ _)

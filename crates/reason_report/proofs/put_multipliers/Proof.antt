@@ -48,17 +48,17 @@ loop_less c = search rules
 loop_again : tie.Need-loop-x-preserved invariant-loop decreases-loop
 loop_again c =
     let turn = (multiplier_put c).before.before in
-    let l = turn.before.loop-x in
-    let multipliers = turn.before.before.before.args.multipliers in
-    (omega arith, l.inv.1, putting_next (pair_unless 0 l.x (get_or multipliers l.x 0)) _ l.inv.2 (pairs_next 0 l.x multipliers (omega arith)) (multiplier_put c).put_pair_unless-place.ensures)
+    let l = turn.loop-x in
+    let multipliers = turn.args.multipliers in
+    (omega arith, l.invariant.1, putting_next (pair_unless 0 l.x (get_or multipliers l.x 0)) _ l.invariant.2 (pairs_next 0 l.x multipliers (omega arith)) (multiplier_put c).put_pair_unless-place.ensures)
 
 same_length : tie.Need-shape_of-out invariant-loop decreases-loop
-same_length c = putting_same c.before.loop-x.invariant.2
+same_length c = putting_same c.loop-x.invariant.2
 
 returns : tie.Need-returns invariant-loop decreases-loop
 returns c =
-    let l = c.before.loop-x in
-    let multipliers = c.before.before.before.args.multipliers in
+    let l = c.loop-x in
+    let multipliers = c.args.multipliers in
     putting_all l.invariant.2 (pairs_none 0 l.x multipliers (omega arith))
 
 pub put_multipliers_spec : {M : Type 1} → statement M

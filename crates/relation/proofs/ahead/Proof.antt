@@ -16,8 +16,8 @@ without_requires c κs = search rules
 
 returns : tie.Need-returns-then-known
 returns c = record {
-  if_done = λ e. c.without.ensures ∙ ap (λ (S : Set). removed S c.before.before.before.args.y) c.before.difference.ensures;
-  if_not = λ e. absurd (true≢false (sym c.before.before.if-known.true ∙ e));
+  if_done = λ e. c.without.ensures ∙ ap (λ (S : Set). removed S c.args.y) c.difference.ensures;
+  if_not = λ e. absurd (true≢false (sym c.if-known.true ∙ e));
 }
 
 difference_requires_2 : tie.Need-difference-new-requires
@@ -33,9 +33,9 @@ returns_2 : tie.Need-returns
 returns_2 c =
     let u = c.before in
     let d = u.before in
-    let a = d.before.before.args in
+    let a = d.args in
     record {
-      if_done = λ e. absurd (true≢false (sym e ∙ d.before.if-known.false));
+      if_done = λ e. absurd (true≢false (sym e ∙ d.if-known.false));
       if_not = λ e. c.without-2.ensures ∙ ap (λ (S : Set). removed S a.y) (u.union.ensures ∙ ap (λ (S : Set). members (whole a.front) ∪ S) d.difference-new.ensures);
     }
 

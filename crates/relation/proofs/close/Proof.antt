@@ -29,7 +29,7 @@ abbrev row_found : tie.After-without-rest invariant-loop decreases-loop → tie.
 row_found c = (written c).before.before
 
 abbrev chosen : tie.After-without-rest invariant-loop decreases-loop → tie.After-pick_spread-x invariant-loop decreases-loop
-chosen c = (row_found c).before.before
+chosen c = (row_found c).before
 
 abbrev turn : tie.After-pick_spread-x invariant-loop decreases-loop → tie.At-loop-rest invariant-loop decreases-loop
 turn f = f.before.before.before
@@ -38,14 +38,14 @@ abbrev begun : tie.At-loop-rest invariant-loop decreases-loop → tie.Start inva
 begun k = k.before.before.before
 
 -- a column is left
-some : (c : tie.In-loop-rest invariant-loop decreases-loop) → # width (members (whole c.before.before.loop-rest.rest)) ≢ 0
-some c = eqb-false _ 0 (sym c.before.is_empty.ensures ∙ not_in _ c.loop-rest-test.true-raw)
+some : (c : tie.In-loop-rest invariant-loop decreases-loop) → # width (members (whole c.loop-rest.rest)) ≢ 0
+some c = eqb-false _ 0 (sym c.is_empty.ensures ∙ not_in _ c.loop-rest-test.true-raw)
 
 empty_requires : tie.Need-empty-done-requires invariant-loop decreases-loop
 empty_requires c κs = search rules
 
 loop_holds : tie.Need-loop-rest-init invariant-loop decreases-loop
-loop_holds c = closing_start (members (whole c.before.before.args.over)) (members (whole c.empty-done.result)) c.before.before.args.rows-1.now (empty_none c.empty-done.ensures)
+loop_holds c = closing_start (members (whole c.args.over)) (members (whole c.empty-done.result)) c.args.rows.now (empty_none c.empty-done.ensures)
 
 is_empty_requires : tie.Need-is_empty-requires invariant-loop decreases-loop
 is_empty_requires c κs = search rules
@@ -55,7 +55,7 @@ pick_spread_requires c κs = some c
 
 reached_requires : tie.Need-reached-all-requires invariant-loop decreases-loop
 reached_requires c κs =
-    let f = c.before in
+    let f = c in
     let t = f.pick_spread-x.ensures in
     (t.0, (turn f).loop-rest.invariant.apart f.pick_spread-x.result t.1)
 
@@ -78,19 +78,19 @@ loop_again c =
     let a = (begun (turn f)).args in
     let t = f.pick_spread-x.ensures in
     let r = row_found c in
-    rw (c.without-rest.ensures, c.before.with-done.ensures, (written c).put_row.ensures)
-    (closing_more (members (whole a.over)) (members (whole l.rest)) (members (whole l.done)) a.rows-1.now l.rows-1 l.inv f.pick_spread-x.result t.0 t.1 (whole r.reached-all.result)
-    (r.reached-all.ensures (row_of a.rows-1.now) l.inv.partly) (λ y e. columns_below r.reached-all.result y (search (rules, r.reached-all.ok)) e))
+    rw (c.without-rest.ensures, c.with-done.ensures, (written c).put_row.ensures)
+    (closing_more (members (whole a.over)) (members (whole l.rest)) (members (whole l.done)) a.rows.now l.rows l.invariant f.pick_spread-x.result t.0 t.1 (whole r.reached-all.result)
+    (r.reached-all.ensures (row_of a.rows.now) l.invariant.partly) (λ y e. columns_below r.reached-all.result y (search (rules, r.reached-all.type_inv)) e))
 
 same_length : tie.Need-shape_of-rows invariant-loop decreases-loop
-same_length c = c.before.before.loop-rest.invariant.others.same_length
+same_length c = c.loop-rest.invariant.others.same_length
 
 returns : tie.Need-returns invariant-loop decreases-loop
 returns c =
-    let l = c.before.before.loop-rest in
+    let l = c.loop-rest in
     let a = (begun c.before.before).args in
-    let gone : # width (members (whole l.rest)) ≡ 0 = eqb-true _ 0 (sym c.before.is_empty.ensures ∙ not-false _ c.loop-rest-test.false-raw) in
-    closing_done (members (whole a.over)) (members (whole l.rest)) (members (whole l.done)) a.rows-1.now l.rows-1 l.invariant
+    let gone : # width (members (whole l.rest)) ≡ 0 = eqb-true _ 0 (sym c.is_empty.ensures ∙ not-false _ c.loop-rest-test.false-raw) in
+    closing_done (members (whole a.over)) (members (whole l.rest)) (members (whole l.done)) a.rows.now l.rows l.invariant
     (λ x e. nothing_in width (members (whole l.rest)) gone x (columns_below a.over x (search rules) (l.invariant.inside x e)) e)
 
 pub close_spec : {M : Type 1} → statement M

@@ -29,7 +29,7 @@ abbrev made : tie.After-without-rest invariant-loop decreases-loop → tie.After
 made c = (written c).before.before
 
 abbrev chosen : tie.After-without-rest invariant-loop decreases-loop → tie.After-first-x invariant-loop decreases-loop
-chosen c = (made c).before.before.before
+chosen c = (made c).before.before
 
 abbrev turn : tie.After-first-x invariant-loop decreases-loop → tie.At-loop-set invariant-loop decreases-loop
 turn f = f.before.before.before
@@ -37,12 +37,12 @@ turn f = f.before.before.before
 -- the column of a turn is one of those that are left
 there : (f : tie.After-first-x invariant-loop decreases-loop) → (f.first-x.result < width) × (f.first-x.result ∈ members (whole (turn f).loop-set.rest))
 there f =
-    let some : # width (members (whole (turn f).loop-set.rest)) ≢ 0 = eqb-false _ 0 (sym f.before.before.is_empty.ensures ∙ not_in _ f.before.loop-set-test.true-raw) in
+    let some : # width (members (whole (turn f).loop-set.rest)) ≢ 0 = eqb-false _ 0 (sym f.is_empty.ensures ∙ not_in _ f.loop-set-test.true-raw) in
     let t = least_there width _ some in
     ((rw (sym f.first-x.ensures) at t).0, (rw (sym f.first-x.ensures) at t).1)
 
 loop_holds : tie.Need-loop-set-init invariant-loop decreases-loop
-loop_holds c = joining_start (members (whole c.before.args.at)) (members (whole c.before.args.set)) c.before.args.rows-1.now
+loop_holds c = joining_start (members (whole c.args.at)) (members (whole c.args.set)) c.args.rows.now
 
 is_empty_requires : tie.Need-is_empty-requires invariant-loop decreases-loop
 is_empty_requires c κs = search rules
@@ -70,20 +70,20 @@ loop_again c =
     let f = chosen c in
     let l = (turn f).loop-set in
     let u = made c in
-    let a = (turn f).before.before.args in
+    let a = (turn f).args in
     rw (c.without-rest.ensures, (written c).put_row.ensures)
-    (joining_more (members (whole a.at)) (members (whole l.rest)) (members (whole a.set)) a.rows-1.now l.rows-1 l.inv f.first-x.result (there f).1 (whole u.union-joined.result)
-    (u.union-joined.ensures ∙ ap (λ (w : ℕ). members w ∪ members (whole a.set)) u.before.row.ensures))
+    (joining_more (members (whole a.at)) (members (whole l.rest)) (members (whole a.set)) a.rows.now l.rows l.invariant f.first-x.result (there f).1 (whole u.union-joined.result)
+    (u.union-joined.ensures ∙ ap (λ (w : ℕ). members w ∪ members (whole a.set)) u.row.ensures))
 
 same_length : tie.Need-shape_of-rows invariant-loop decreases-loop
-same_length c = c.before.before.loop-set.invariant.others.same_length
+same_length c = c.loop-set.invariant.others.same_length
 
 returns : tie.Need-returns invariant-loop decreases-loop
 returns c =
-    let l = c.before.before.loop-set in
-    let a = c.before.before.before.before.args in
-    let gone : # width (members (whole l.rest)) ≡ 0 = eqb-true _ 0 (sym c.before.is_empty.ensures ∙ not-false _ c.loop-set-test.false-raw) in
-    joining_done (members (whole a.at)) (members (whole l.rest)) (members (whole a.set)) a.rows-1.now l.rows-1 l.invariant
+    let l = c.loop-set in
+    let a = c.args in
+    let gone : # width (members (whole l.rest)) ≡ 0 = eqb-true _ 0 (sym c.is_empty.ensures ∙ not-false _ c.loop-set-test.false-raw) in
+    joining_done (members (whole a.at)) (members (whole l.rest)) (members (whole a.set)) a.rows.now l.rows l.invariant
     (λ x e. nothing_in width (members (whole l.rest)) gone x (columns_below a.at x (search rules) (l.invariant.inside x e)) e)
 
 pub join_spec : {M : Type 1} → statement M

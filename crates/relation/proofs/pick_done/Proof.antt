@@ -21,7 +21,7 @@ first_requires c κs = search rules
 
 returns : tie.Need-returns-then-is_empty
 returns c =
-    let t = least_there width _ c.before.before.before.before.requires in
+    let t = least_there width _ c.requires in
     ((rw (sym c.first.ensures) at t).0, (rw (sym c.first.ensures) at t).1)
 
 first_requires_2 : tie.Need-first-requires-2
@@ -30,9 +30,9 @@ first_requires_2 c κs = search rules
 returns_2 : tie.Need-returns
 returns_2 c =
     let e = c.before.before in
-    let a = e.before.before.args in
-    let t = least_there width _ (eqb-false _ 0 (sym e.is_empty.ensures ∙ c.before.if-is_empty.false)) in
-    let k = ap (λ (S : Set). S c.first-2.result) e.before.intersection-both.ensures in
+    let a = e.args in
+    let t = least_there width _ (eqb-false _ 0 (sym e.is_empty.ensures ∙ c.if-is_empty.false)) in
+    let k = ap (λ (S : Set). S c.first-2.result) e.intersection-both.ensures in
     ((rw (sym c.first-2.ensures) at t).0, and_left (members (whole a.set) c.first-2.result) (members (whole a.done) c.first-2.result) (sym k ∙ (rw (sym c.first-2.ensures) at t).1))
 
 pub pick_done_spec : {M : Type 1} → statement M

@@ -14,7 +14,7 @@ size_requires : tie.Need-size-requires
 size_requires c κs = search rules
 
 mul_x : tie.Need-overflow_mul-x
-mul_x c = omega (arith, c.size.ensures, #-le width (members (whole c.before.args.set)))
+mul_x c = omega (arith, c.size.ensures, #-le width (members (whole c.args.set)))
 
 contains_requires : tie.Need-contains-requires
 contains_requires c κs = search rules
@@ -22,7 +22,7 @@ contains_requires c κs = search rules
 returns : tie.Need-returns-then-contains
 returns c =
     let k = c.before in
-    let a = k.before.before.args in
+    let a = k.args in
     let e = sym k.contains.ensures ∙ c.if-contains.true in
     (columns_below a.set _ (search rules) e, e)
 
@@ -31,7 +31,7 @@ first_requires c κs = search rules
 
 returns_2 : tie.Need-returns
 returns_2 c =
-    let t = least_there width _ c.before.before.before.before.requires in
+    let t = least_there width _ c.requires in
     ((rw (sym c.first.ensures) at t).0, (rw (sym c.first.ensures) at t).1)
 
 pub pick_spread_spec : {M : Type 1} → statement M

@@ -34,8 +34,8 @@ abbrev begun : tie.At-loop-done invariant-loop decreases-loop → tie.Start inva
 begun k = k.before.before.before.before.before
 
 -- the front of a turn is not empty
-some : (c : tie.In-loop-done invariant-loop decreases-loop) → # width (members (whole c.before.before.loop-done.front)) ≢ 0
-some c = eqb-false _ 0 (sym c.before.is_empty.ensures ∙ not_in _ c.loop-done-test.true-raw)
+some : (c : tie.In-loop-done invariant-loop decreases-loop) → # width (members (whole c.loop-done.front)) ≢ 0
+some c = eqb-false _ 0 (sym c.is_empty.ensures ∙ not_in _ c.loop-done-test.true-raw)
 
 row_requires : tie.Need-row-direct-requires invariant-loop decreases-loop
 row_requires c κs = search rules
@@ -49,11 +49,11 @@ without_requires c κs = search rules
 loop_holds : tie.Need-loop-done-init invariant-loop decreases-loop
 loop_holds c =
     let direct = c.before.before in
-    let a = c.before.before.before.before.args in
-    rw (c.without-front.ensures, c.before.with-found.ensures) (
+    let a = c.args in
+    rw (c.without-front.ensures, c.with-found.ensures) (
       search rules,
       inside_start _ _,
-      λ R p. reaching_start R a.x c.before.before.before.before.requires.0 _ (λ y. ap (λ (w : ℕ). members w y) direct.row-direct.ensures ∙ p.left a.x c.before.before.before.before.requires.1 y),
+      λ R p. reaching_start R a.x c.requires.0 _ (λ y. ap (λ (w : ℕ). members w y) direct.row-direct.ensures ∙ p.left a.x c.requires.1 y),
     )
 
 is_empty_requires : tie.Need-is_empty-requires invariant-loop decreases-loop
@@ -82,8 +82,8 @@ loop_less c =
     let l = (turn f).loop-done in
     let t = f.pick_done-y.ensures in
     rw c.union-found.ensures
-    (unread_less (members (whole l.found)) (members (whole l.front)) (members (whole r.row-row.result)) (members (whole h.ahead-front.result)) f.pick_done-y.result h.before.contains.result
-    t.0 t.1 l.inv.1 h.ahead-front.ensures)
+    (unread_less (members (whole l.found)) (members (whole l.front)) (members (whole r.row-row.result)) (members (whole h.ahead-front.result)) f.pick_done-y.result h.contains.result
+    t.0 t.1 l.invariant.1 h.ahead-front.ensures)
 
 loop_again : tie.Need-loop-done-preserved invariant-loop decreases-loop
 loop_again c =
@@ -97,22 +97,22 @@ loop_again c =
     let found = members (whole l.found) in
     let front = members (whole l.front) in
     let left = members (whole h.ahead-front.result) in
-    let known = h.before.contains.result in
+    let known = h.contains.result in
     let is_row : row ≡ row_of (begun (turn f)).args.rows.now y = ap members r.row-row.ensures in
     rw c.union-found.ensures (
-      search (rules, h.ahead-front.type-inv),
-      inside_more found front row left y known l.inv.1 h.ahead-front.ensures,
-      λ R p. reaching_more R (begun (turn f)).args.x found front row left y known (l.inv.2 R p) t.1
-          (λ e. rw is_row (p.finished y (sym h.before.contains.ensures ∙ e)))
-          (λ e v. ap (λ (S : Set). S v) is_row ∙ p.left y (sym h.before.contains.ensures ∙ e) v)
+      search (rules, h.ahead-front.type_inv),
+      inside_more found front row left y known l.invariant.1 h.ahead-front.ensures,
+      λ R p. reaching_more R (begun (turn f)).args.x found front row left y known (l.invariant.2 R p) t.1
+          (λ e. rw is_row (p.finished y (sym h.contains.ensures ∙ e)))
+          (λ e v. ap (λ (S : Set). S v) is_row ∙ p.left y (sym h.contains.ensures ∙ e) v)
           h.ahead-front.ensures,
     )
 
 returns : tie.Need-returns invariant-loop decreases-loop
 returns c =
-    let l = c.before.before.loop-done in
+    let l = c.loop-done in
     let a = (begun c.before.before).args in
-    let gone : # width (members (whole l.front)) ≡ 0 = eqb-true _ 0 (sym c.before.is_empty.ensures ∙ not-false _ c.loop-done-test.false-raw) in
+    let gone : # width (members (whole l.front)) ≡ 0 = eqb-true _ 0 (sym c.is_empty.ensures ∙ not-false _ c.loop-done-test.false-raw) in
     λ R p. reaching_done R a.x (members (whole l.found)) (members (whole l.front)) (l.invariant.2 R p)
     (λ z e. nothing_in width (members (whole l.front)) gone z (columns_below l.front z l.invariant.0 e) e)
 

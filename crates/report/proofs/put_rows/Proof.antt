@@ -44,17 +44,17 @@ loop_less c = search rules
 loop_again : tie.Need-loop-r-preserved invariant-loop decreases-loop
 loop_again c =
     let turn = (row_put c).before.before in
-    let l = turn.before.loop-r in
-    let rows = turn.before.before.before.args.rows in
-    (omega arith, l.inv.1, putting_next (pair_unless no_column l.r (get_or rows l.r 0)) _ l.inv.2 (pairs_next no_column l.r rows (omega arith)) (row_put c).put_pair_unless-place.ensures)
+    let l = turn.loop-r in
+    let rows = turn.args.rows in
+    (omega arith, l.invariant.1, putting_next (pair_unless no_column l.r (get_or rows l.r 0)) _ l.invariant.2 (pairs_next no_column l.r rows (omega arith)) (row_put c).put_pair_unless-place.ensures)
 
 same_length : tie.Need-shape_of-out invariant-loop decreases-loop
-same_length c = putting_same c.before.loop-r.invariant.2
+same_length c = putting_same c.loop-r.invariant.2
 
 returns : tie.Need-returns invariant-loop decreases-loop
 returns c =
-    let l = c.before.loop-r in
-    let rows = c.before.before.before.args.rows in
+    let l = c.loop-r in
+    let rows = c.args.rows in
     putting_all l.invariant.2 (pairs_none no_column l.r rows (omega arith))
 
 pub put_rows_spec : {M : Type 1} → statement M

@@ -15,7 +15,7 @@ same_length : tie.Need-shape_of-out
 same_length c = search rules
 
 returns_2 : tie.Need-returns
-returns_2 c = prints_whole c.before.before.put_bytes-length.ensures (omega arith)
+returns_2 c = prints_whole c.put_bytes-length.ensures (omega arith)
 
 pub print_spec : {M : Type 1} → statement M
 print_spec = tie.close (tie.spec returns put_bytes_requires same_length returns_2)

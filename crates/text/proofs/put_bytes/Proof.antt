@@ -46,15 +46,15 @@ loop_less c = search rules
 loop_again : tie.Need-loop-i-preserved invariant-loop decreases-loop
 loop_again c =
     let k = turn c in
-    let l = k.before.loop-i in
+    let l = k.loop-i in
     let t = (begun k.before).args.text.now in
-    (omega arith, putting_next (get_or t l.i 0 ∷ []) _ l.inv.1 (drop-cons t l.i 0 k.loop-i-test.true ∙ rw (add-one l.i) refl) (byte_put c).put_byte-place.ensures)
+    (omega arith, putting_next (get_or t l.i 0 ∷ []) _ l.invariant.1 (drop-cons t l.i 0 k.loop-i-test.true ∙ rw (add-one l.i) refl) (byte_put c).put_byte-place.ensures)
 
 same_length : tie.Need-shape_of-out invariant-loop decreases-loop
-same_length c = putting_same c.before.loop-i.invariant.1
+same_length c = putting_same c.loop-i.invariant.1
 
 returns : tie.Need-returns invariant-loop decreases-loop
-returns c = let l = c.before.loop-i in putting_all l.invariant.1 (drop_of_length-le (begun c.before).args.text.now c.loop-i-test.false)
+returns c = let l = c.loop-i in putting_all l.invariant.1 (drop_of_length-le (begun c.before).args.text.now c.loop-i-test.false)
 
 pub put_bytes_spec : {M : Type 1} → statement M
 put_bytes_spec =

@@ -28,11 +28,11 @@ item_put c = c.before.before.before
 abbrev column_found : tie.After-without-rest invariant-loop decreases-loop → tie.After-first-x invariant-loop decreases-loop
 column_found c = (item_put c).before.before
 
-some : (c : tie.After-first-x invariant-loop decreases-loop) → # width (members (whole c.before.before.before.loop-rest.rest)) ≢ 0
-some c = eqb-false _ 0 (sym c.before.before.is_empty.ensures ∙ not-true _ c.before.loop-rest-test.true-raw)
+some : (c : tie.After-first-x invariant-loop decreases-loop) → # width (members (whole c.loop-rest.rest)) ≢ 0
+some c = eqb-false _ 0 (sym c.is_empty.ensures ∙ not-true _ c.loop-rest-test.true-raw)
 
 -- what is left is the item of the first column and those of the others
-next : (c : tie.After-first-x invariant-loop decreases-loop) → let left = members (whole c.before.before.before.loop-rest.rest) in
+next : (c : tie.After-first-x invariant-loop decreases-loop) → let left = members (whole c.loop-rest.rest) in
     column_items left ≡ item c.first-x.result ++ column_items (removed left c.first-x.result)
 next c = rw c.first-x.ensures (column_items_next _ (some c))
 
@@ -61,13 +61,13 @@ loop_again : tie.Need-loop-rest-preserved invariant-loop decreases-loop
 loop_again c =
     let found = column_found c in
     let x = found.first-x.result in
-    putting_next (item x) _ found.before.before.before.loop-rest.invariant (next found ∙ ap (λ (S : Set). item x ++ column_items S) (sym c.without-rest.ensures)) (item_put c).put_item-place.ensures
+    putting_next (item x) _ found.loop-rest.invariant (next found ∙ ap (λ (S : Set). item x ++ column_items S) (sym c.without-rest.ensures)) (item_put c).put_item-place.ensures
 
 same_length : tie.Need-shape_of-out invariant-loop decreases-loop
-same_length c = putting_same c.before.before.loop-rest.invariant
+same_length c = putting_same c.loop-rest.invariant
 
 returns : tie.Need-returns invariant-loop decreases-loop
-returns c = putting_all c.before.before.loop-rest.invariant (column_items_none _ (eqb-true _ 0 (sym c.before.is_empty.ensures ∙ not-false _ c.loop-rest-test.false-raw)))
+returns c = putting_all c.loop-rest.invariant (column_items_none _ (eqb-true _ 0 (sym c.is_empty.ensures ∙ not-false _ c.loop-rest-test.false-raw)))
 
 pub put_columns_spec : {M : Type 1} → statement M
 put_columns_spec =

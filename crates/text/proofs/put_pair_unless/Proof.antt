@@ -16,7 +16,7 @@ same_length : tie.Need-shape_of-out
 same_length c = search rules
 
 returns_2 : tie.Need-returns
-returns_2 c = let put = c.before.before in puts_as (sym (pair_shown _ _ _ put.before.before.if-second-nothing.false)) put.put_pair.ensures
+returns_2 c = let put = c.before.before in puts_as (sym (pair_shown _ _ _ put.if-second-nothing.false)) put.put_pair.ensures
 
 pub put_pair_unless_spec : {M : Type 1} → statement M
 put_pair_unless_spec =

@@ -12,7 +12,7 @@ same_length c = search rules
 
 returns : tie.Need-returns
 unfolding refused_line ascii
-returns c = c.before.before.put_number_line.ensures
+returns c = c.put_number_line.ensures
 
 pub put_refused_line_spec : {M : Type 1} → statement M
 put_refused_line_spec =

@@ -13,19 +13,19 @@ abbrev determined_put : tie.After-slice_known-then-verdict-eq1-1 → tie.After-p
 determined_put c = c.before.before
 
 abbrev determined_branch : tie.After-put_bytes → tie.Then-verdict-eq1
-determined_branch c = c.before.before.before
+determined_branch c = c.before.before.before.before
 
 abbrev surplus_put : tie.After-slice_known-then-verdict-eq2-1 → tie.After-put_bytes-then-verdict-eq2
 surplus_put c = c.before.before
 
 abbrev surplus_branch : tie.After-put_bytes-then-verdict-eq2 → tie.Then-verdict-eq2
-surplus_branch c = c.before.before.before
+surplus_branch c = c.before.before.before.before
 
 abbrev open_put : tie.After-slice_known-2-1 → tie.After-put_bytes-2
 open_put c = c.before.before
 
 abbrev open_branch : tie.After-put_bytes-2 → tie.Else-verdict-eq2
-open_branch c = c.before.before.before
+open_branch c = c.before.before.before.before
 
 put_bytes_requires : tie.Need-put_bytes-requires
 put_bytes_requires c κs = search rules
@@ -38,7 +38,7 @@ unfolding ascii
 returns c =
     let put = determined_put c in
     let branch = determined_branch put in
-    puts_as (sym (verdict_determined branch.before.before.args.verdict (omega (arith, branch.if-verdict-eq1.true)))) put.put_bytes.ensures
+    puts_as (sym (verdict_determined branch.args.verdict (omega (arith, branch.if-verdict-eq1.true)))) put.put_bytes.ensures
 
 put_bytes_requires_2 : tie.Need-put_bytes-requires-then-verdict-eq2
 put_bytes_requires_2 c κs = search rules
@@ -51,7 +51,7 @@ unfolding ascii
 returns_2 c =
     let put = surplus_put c in
     let branch = surplus_branch put in
-    puts_as (sym (verdict_surplus branch.before.before.before.args.verdict (omega (arith, branch.if-verdict-eq2.true)))) put.put_bytes-then-verdict-eq2.ensures
+    puts_as (sym (verdict_surplus branch.args.verdict (omega (arith, branch.if-verdict-eq2.true)))) put.put_bytes-then-verdict-eq2.ensures
 
 put_bytes_requires_3 : tie.Need-put_bytes-requires-2
 put_bytes_requires_3 c κs = search rules
@@ -64,7 +64,7 @@ unfolding ascii
 returns_3 c =
     let put = open_put c in
     let branch = open_branch put in
-    puts_as (sym (verdict_open branch.before.before.before.args.verdict (λ e. omega (arith, branch.before.if-verdict-eq1.false)) (λ e. omega (arith, branch.if-verdict-eq2.false)))) put.put_bytes-2.ensures
+    puts_as (sym (verdict_open branch.args.verdict (λ e. omega (arith, branch.if-verdict-eq1.false)) (λ e. omega (arith, branch.if-verdict-eq2.false)))) put.put_bytes-2.ensures
 
 pub put_verdict_line_spec : {M : Type 1} → statement M
 put_verdict_line_spec =

@@ -32,10 +32,10 @@ abbrev begun : tie.At-loop-i invariant-loop decreases-loop → tie.Start invaria
 begun c = c.before.before.before
 
 -- the byte of the turn is the next that is left
-next : (k : tie.In-loop-i invariant-loop decreases-loop) → let l = k.before.loop-i in let a = (begun k.before).args in
+next : (k : tie.In-loop-i invariant-loop decreases-loop) → let l = k.loop-i in let a = (begun k.before).args in
     number_below a.limit a.digits.now ≡ read_on a.limit l.x (get_or a.digits.now l.i 0 ∷ drop (l.i + 1) a.digits.now)
 next k =
-    let l = k.before.loop-i in
+    let l = k.loop-i in
     let a = (begun k.before).args in
     l.invariant.3 ∙ ap (read_on a.limit l.x) (drop-cons a.digits.now l.i 0 k.loop-i-test.true ∙ rw (add-one l.i) refl)
 
@@ -68,7 +68,7 @@ digit_read d =
     let t = tested d in
     let l = (turn t).before in
     let a = (begun l).args in
-    let one = sym t.is_digit.ensures ∙ not-false _ d.before.if-not-is_digit.false-raw in
+    let one = sym t.is_digit.ensures ∙ not-false _ d.if-not-is_digit.false-raw in
     next (turn t) ∙ read_digit a.limit _ _ _ one ∙ ap (λ (y : ℕ). read_on a.limit y (drop (l.loop-i.i + 1) a.digits.now)) (sym d.with_digit-x.ensures)
 
 returns_3 : tie.Need-returns-then-x-past invariant-loop decreases-loop
@@ -83,11 +83,11 @@ loop_less c = search rules
 loop_again : tie.Need-loop-i-preserved invariant-loop decreases-loop
 loop_again c =
     let d = c.before in
-    let l = (turn (tested d)).before.loop-i in
+    let l = (turn (tested d)).loop-i in
     (omega arith, omega arith, refl, digit_read d)
 
 returns_4 : tie.Need-returns invariant-loop decreases-loop
-returns_4 c = sym (c.before.loop-i.invariant.3 ∙ ap (read_on _ _) (drop_of_length-le _ c.loop-i-test.false) ∙ read_all _ _ c.before.loop-i.invariant.1)
+returns_4 c = sym (c.loop-i.invariant.3 ∙ ap (read_on _ _) (drop_of_length-le _ c.loop-i-test.false) ∙ read_all _ _ c.loop-i.invariant.1)
 
 pub read_number_spec : {M : Type 1} → statement M
 read_number_spec =

@@ -13,6 +13,7 @@ use Rattle.columns.specs.ColumnSets.{whole, row_numbers, rows_touching}
 use Rattle.columns.specs.Words.Sets.{columns_below}
 use Rattle.touching.specs.RowCountLaws.{count_touching}
 use Rattle.touching.proofs.touching_rows.Statement.{statement}
+use Rattle.touching.proofs.touching_rows.Lts.{then-touches, else-touches}
 use Rattle.touching.proofs.touching_rows.Tie as tie
 
 abbrev invariant-loop : tie.invariant-loop-r
@@ -45,7 +46,7 @@ touches_requires : tie.Need-touches-requires invariant-loop decreases-loop
 touches_requires c κs = search rules
 
 add_many : tie.Need-overflow_add-many invariant-loop decreases-loop
-add_many c = let l = c.before.before.before.before.loop-r in omega (arith, #-le l.r (rows_touching (row_numbers (begun c.before.before.before.before).args.parameters.now) (members (whole c.before.before.before.before.before.intersection-inside.result))))
+add_many c = let l = c.loop-r in omega (arith, #-le l.r (rows_touching (row_numbers (begun c.before.before.before.before).args.parameters.now) (members (whole c.intersection-inside.result))))
 
 add_r : tie.Need-overflow_step-r invariant-loop decreases-loop
 add_r c = search rules
@@ -57,13 +58,13 @@ loop_again : tie.Need-loop-r-preserved invariant-loop decreases-loop
 unfolding indicator touching
 loop_again c =
     let l = c.before.before.before.before in
-    let S = rows_touching (row_numbers (begun l).args.parameters.now) (members (whole l.before.intersection-inside.result)) in
-    let met : c.before.touches.result ≡ S l.loop-r.r = c.before.touches.ensures ∙ ap (λ (w : ℕ). any width (members (whole l.before.intersection-inside.result) ∩ members w)) c.before.before.row.ensures in (
+    let S = rows_touching (row_numbers (begun l).args.parameters.now) (members (whole l.intersection-inside.result)) in
+    let met : c.touches.result ≡ S l.loop-r.r = c.touches.ensures ∙ ap (λ (w : ℕ). any width (members (whole l.intersection-inside.result) ∩ members w)) c.row.ensures in (
       search rules,
-      ⊎_elim
-          (λ w. rw w.1 (omega (arith, l.loop-r.invariant.1, #-next l.loop-r.r S true (sym met ∙ w.0.taken))))
-          (λ w. rw w.1 (omega (arith, l.loop-r.invariant.1, #-next l.loop-r.r S false (sym met ∙ w.0.left))))
-          c.if-touches.branch,
+      elim c.if-touches.branch [
+        | then-touches w ↦ rw w.many-is (omega (arith, l.loop-r.invariant.1, #-next l.loop-r.r S true (sym met ∙ w.if-touches.true)))
+        | else-touches w ↦ rw w.many-is (omega (arith, l.loop-r.invariant.1, #-next l.loop-r.r S false (sym met ∙ w.if-touches.false)))
+      ],
     )
 
 returns : tie.Need-returns invariant-loop decreases-loop
@@ -71,12 +72,12 @@ returns c =
     let l = c.before in
     let a = (begun l).args in
     let ws = row_numbers a.parameters.now in
-    let done : l.loop-r.r ≡ min a.b (length ws) = omega (arith, l.before.before.before.rows_below-end.ensures) in
-    let inside : members (whole l.before.intersection-inside.result) ≡ members (whole a.set) ∩ upto a.n = l.before.intersection-inside.ensures ∙ ap (λ (S : Set). members (whole a.set) ∩ S) l.before.before.below.ensures in
+    let done : l.loop-r.r ≡ min a.b (length ws) = omega (arith, l.rows_below-end.ensures) in
+    let inside : members (whole l.intersection-inside.result) ≡ members (whole a.set) ∩ upto a.n = l.intersection-inside.ensures ∙ ap (λ (S : Set). members (whole a.set) ∩ S) l.below.ensures in
     l.loop-r.invariant.1
-    ∙ ap (λ (k : ℕ). # k (rows_touching ws (members (whole l.before.intersection-inside.result)))) done
+    ∙ ap (λ (k : ℕ). # k (rows_touching ws (members (whole l.intersection-inside.result)))) done
     ∙ ap (λ (S : Set). # (min a.b (length ws)) (rows_touching ws S)) inside
-    ∙ count_touching a.n a.b ws (members (whole a.set)) (λ x e. columns_below a.set x (search (rules, (begun l).well-formed.1.1.1.0)) e)
+    ∙ count_touching a.n a.b ws (members (whole a.set)) (λ x e. columns_below a.set x (search (rules, (begun l).well_formed.1.1.1.0)) e)
 
 pub touching_rows_spec : {M : Type 1} → statement M
 touching_rows_spec =

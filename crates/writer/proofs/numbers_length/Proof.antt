@@ -29,11 +29,11 @@ abbrev entry : tie.In-loop-r invariant-loop decreases-loop → tie.Start invaria
 entry k = k.before.before.before
 
 -- row r has no parameter at column n or later
-inside : (k : tie.In-loop-r invariant-loop decreases-loop) → let s = entry k in within s.args.n (get_or (row_numbers s.args.parameters.now) k.before.loop-r.r 0) ≡ true
+inside : (k : tie.In-loop-r invariant-loop decreases-loop) → let s = entry k in within s.args.n (get_or (row_numbers s.args.parameters.now) k.loop-r.r 0) ≡ true
 inside k =
     let s = entry k in
     let ws = row_numbers s.args.parameters.now in
-    let r = k.before.loop-r.r in
+    let r = k.loop-r.r in
     rw (get_or-take s.args.b ws r 0 k.loop-r-test.true) at (all_at (λ w. within s.args.n w ≡ true) (take s.args.b ws) 0 s.requires.2 r (omega (arith, length-take-le s.args.b ws s.requires.1, k.loop-r-test.true)))
 
 loop_holds : tie.Need-loop-r-init invariant-loop decreases-loop
@@ -46,7 +46,7 @@ numbers_size_requires : tie.Need-numbers_size-length-requires invariant-loop dec
 numbers_size_requires c κs = rw c.row.ensures (inside c.before)
 
 add_length : tie.Need-overflow_add-length invariant-loop decreases-loop
-add_length c = let l = c.before.before.before.loop-r in omega (arith, c.numbers_size-length.ensures.1, l.invariant.1, c.before.before.loop-r-test.true, (entry c.before.before).requires.0)
+add_length c = let l = c.loop-r in omega (arith, c.numbers_size-length.ensures.1, l.invariant.1, c.loop-r-test.true, (entry c.before.before).requires.0)
 
 add_r : tie.Need-overflow_add-r invariant-loop decreases-loop
 add_r c = search rules
@@ -58,17 +58,17 @@ loop_again : tie.Need-loop-r-preserved invariant-loop decreases-loop
 unfolding number_fields_size
 loop_again c =
     let k = c.before.before in
-    let l = k.before.loop-r in
+    let l = k.loop-r in
     let s = entry k in
     let ws = row_numbers s.args.parameters.now in
-    let size : c.numbers_size-length.result ≡ head_bytes + 2 * parameter_count s.args.n (get_or ws l.r 0) = rw c.before.row.ensures at c.numbers_size-length.ensures.0 in
+    let size : c.numbers_size-length.result ≡ head_bytes + 2 * parameter_count s.args.n (get_or ws l.r 0) = rw c.row.ensures at c.numbers_size-length.ensures.0 in
     let next = ap (number_fields_size s.args.n) (first_left s.args.b l.r ws k.loop-r-test.true (omega (arith, k.loop-r-test.true, s.requires.1))) in
     (omega (arith, size, next, l.invariant.0), omega (arith, c.numbers_size-length.ensures.1, l.invariant.1), omega (arith, k.loop-r-test.true))
 
 returns : tie.Need-returns invariant-loop decreases-loop
 unfolding number_fields_size
 returns c =
-    let l = c.before.loop-r in
+    let l = c.loop-r in
     let s = c.before.before.before in
     let ws = row_numbers s.args.parameters.now in
     let none = ap (number_fields_size s.args.n) (drop_of_length-le (take s.args.b ws) {i = l.r} (omega (arith, length-take-le s.args.b ws s.requires.1, c.loop-r-test.false))) in

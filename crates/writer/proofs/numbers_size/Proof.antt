@@ -13,12 +13,12 @@ use Rattle.writer.proofs.numbers_size.Statement.{statement}
 use Rattle.writer.proofs.numbers_size.Tie as tie
 
 few : (c : tie.After-size) → c.size.result ≤ width
-few c = omega (arith, c.size.ensures, #-le width (members (whole c.before.args.set)))
+few c = omega (arith, c.size.ensures, #-le width (members (whole c.args.set)))
 
-count : (c : tie.After-size) → c.size.result ≡ parameter_count c.before.args.n (whole c.before.args.set)
+count : (c : tie.After-size) → c.size.result ≡ parameter_count c.args.n (whole c.args.set)
 count c =
     let s = c.before in
-    let fits : Fits s.args.set = search (rules, s.well-formed) in
+    let fits : Fits s.args.set = search (rules, s.well_formed) in
     c.size.ensures ∙ count_within s.args.n (whole s.args.set) (whole_below _ fits) s.requires
 
 size_requires : tie.Need-size-requires

@@ -25,7 +25,7 @@ abbrev behind_head : tie.After-slice_known-3-1 → tie.After-slice_known-2-1
 behind_head c = (entries_put c).before.before
 
 -- there is room behind the head
-room : (c : tie.After-slice_known-2-1) → let h = head_put c in h.put_head-at.result + length (entry_bytes (entry h.before).args.row.now) ≤ length h.put_head-at.last.0
+room : (c : tie.After-slice_known-2-1) → let h = head_put c in h.put_head-at.result + length (entry_bytes (entry h.before).args.row.now) ≤ length h.put_head-at.new.out
 room c =
     let h = (head_put c).put_head-at.ensures in
     let s = entry (head_put c).before in
@@ -51,7 +51,7 @@ part_put_entries_end : tie.Need-slice_bounds-put_entries-end
 part_put_entries_end c = search rules
 
 put_entries_requires : tie.Need-put_entries-requires
-put_entries_requires c κs = let h = (head_put c.before).put_head-at in omega (arith, room c.before, left_length h.result h.last.0)
+put_entries_requires c κs = let h = (head_put c.before).put_head-at in omega (arith, room c.before, left_length h.result h.new.out)
 
 add_result : tie.Need-overflow_add-result
 add_result c = let e = (entries_put c).put_entries.ensures.many_is in omega (arith, room (behind_head c))

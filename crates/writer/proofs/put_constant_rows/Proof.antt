@@ -27,31 +27,31 @@ abbrev put : tie.After-slice_known-in-loop-todo-1 invariant-loop decreases-loop 
 put c = c.before.before
 
 abbrev turn : tie.After-put_constant_row-at invariant-loop decreases-loop → tie.In-loop-todo invariant-loop decreases-loop
-turn c = c.before.before.before
+turn c = c.before.before
 
 -- the call's n, and the bytes of the turn's row
 
 abbrev columns : tie.At-loop-todo invariant-loop decreases-loop → ℕ
-columns k = k.before.before.before.args.n
+columns k = k.args.n
 
 abbrev row_bytes : tie.In-loop-todo invariant-loop decreases-loop → List ℕ
-row_bytes c = let n = columns c.before in constant_bytes n (take n c.before.loop-todo.rest-1.now)
+row_bytes c = let n = columns c.before in constant_bytes n (take n c.loop-todo.rest.now)
 
 -- while rows are left, the constants hold the next one, and the area has room for it
-left : (c : tie.In-loop-todo invariant-loop decreases-loop) → let l = c.before.loop-todo in let n = columns c.before in (n ≤ length l.rest-1.now) × ((l.todo - 1) * n ≤ length l.rest-1.now - n)
-left c = let l = c.before.loop-todo in rows_left (columns c.before) l.todo (length l.rest-1.now) c.loop-todo-test.true l.invariant.1
+left : (c : tie.In-loop-todo invariant-loop decreases-loop) → let l = c.loop-todo in let n = columns c.before in (n ≤ length l.rest.now) × ((l.todo - 1) * n ≤ length l.rest.now - n)
+left c = let l = c.loop-todo in rows_left (columns c.before) l.todo (length l.rest.now) c.loop-todo-test.true l.invariant.1
 
-room : (c : tie.In-loop-todo invariant-loop decreases-loop) → let l = c.before.loop-todo in
-    (l.at + length (row_bytes c) ≤ length l.out-1) × (length (row_bytes c) ≤ length (take (length l.out-1 - l.at) (drop l.at l.out-1)))
-room c = let l = c.before.loop-todo in room_left (row_bytes c) _ l.invariant.0 (constant_rows_next (columns c.before) l.todo l.rest-1.now c.loop-todo-test.true)
+room : (c : tie.In-loop-todo invariant-loop decreases-loop) → let l = c.loop-todo in
+    (l.at + length (row_bytes c) ≤ length l.out) × (length (row_bytes c) ≤ length (take (length l.out - l.at) (drop l.at l.out)))
+room c = let l = c.loop-todo in room_left (row_bytes c) _ l.invariant.0 (constant_rows_next (columns c.before) l.todo l.rest.now c.loop-todo-test.true)
 
 -- the row is put there
-written : (c : tie.After-put_constant_row-at invariant-loop decreases-loop) → let l = (turn c).before.loop-todo in
-    Put (row_bytes (turn c)) (take (length l.out-1 - l.at) (drop l.at l.out-1)) c.put_constant_row-at.new.0 c.put_constant_row-at.result
-written c = let k = turn c in rw (constant_bytes_cut (columns k.before) k.before.loop-todo.rest-1.now (left k).0) at c.put_constant_row-at.ensures
+written : (c : tie.After-put_constant_row-at invariant-loop decreases-loop) → let l = (turn c).loop-todo in
+    Put (row_bytes (turn c)) (take (length l.out - l.at) (drop l.at l.out)) c.put_constant_row-at.new.out c.put_constant_row-at.result
+written c = let k = turn c in rw (constant_bytes_cut (columns k.before) k.loop-todo.rest.now (left k).0) at c.put_constant_row-at.ensures
 
 loop_holds : tie.Need-loop-todo-init invariant-loop decreases-loop
-loop_holds c = let h = c.before.before.requires in (wrote_none _ _ h.2, h.1)
+loop_holds c = let h = c.requires in (wrote_none _ _ h.2, h.1)
 
 sub_put_constant_row : tie.Need-slice_bounds-put_constant_row-count invariant-loop decreases-loop
 sub_put_constant_row c = omega (arith, room c)
@@ -63,13 +63,13 @@ part_put_constant_row_end : tie.Need-slice_bounds-put_constant_row-end invariant
 part_put_constant_row_end c = omega (arith, room c)
 
 slice_aggregate_put_constant_row : tie.Need-slice_bounds-put_constant_row-end-in-loop-todo invariant-loop decreases-loop
-slice_aggregate_put_constant_row c = sym (length-take-le _ _ (left c.before.before).0)
+slice_aggregate_put_constant_row c = sym (length-take-le _ _ (left c.before).0)
 
 put_constant_row_requires : tie.Need-put_constant_row-at-requires invariant-loop decreases-loop
 put_constant_row_requires c κs =
-    let k = c.before.before in
+    let k = c.before in
     let n = columns k.before in
-    let r = k.before.loop-todo.rest-1.now in
+    let r = k.loop-todo.rest.now in
     let f = (left k).0 in
     (rw (length-take-le n r f) (omega arith), rw (constant_bytes_cut n r f) (room k).1)
 
@@ -98,17 +98,17 @@ loop_again : tie.Need-loop-todo-preserved invariant-loop decreases-loop
 loop_again c =
     let d = put c.before in
     let k = turn d in
-    let l = k.before.loop-todo in
+    let l = k.loop-todo in
     let n = columns k.before in
-    let t = tail_part n l.rest-1.now in
-    let next = constant_rows_next n l.todo l.rest-1.now k.loop-todo-test.true ∙ ap (λ (s : List ℕ). row_bytes k ++ flat_map (constant_bytes n) (rows_of n (l.todo - 1) s)) (sym t) in
-    (wrote_put (row_bytes k) _ _ l.inv.0 next (written d), rw (t, length-drop) (left k).1)
+    let t = tail_part n l.rest.now in
+    let next = constant_rows_next n l.todo l.rest.now k.loop-todo-test.true ∙ ap (λ (s : List ℕ). row_bytes k ++ flat_map (constant_bytes n) (rows_of n (l.todo - 1) s)) (sym t) in
+    (wrote_put (row_bytes k) _ _ l.invariant.0 next (written d), rw (t, length-drop) (left k).1)
 
 same_length : tie.Need-shape_of-out invariant-loop decreases-loop
-same_length c = c.before.loop-todo.invariant.0.same
+same_length c = c.loop-todo.invariant.0.same
 
 returns : tie.Need-returns invariant-loop decreases-loop
-returns c = put_all c.before.loop-todo.invariant.0 (constant_rows_done _ _ _ c.loop-todo-test.false)
+returns c = put_all c.loop-todo.invariant.0 (constant_rows_done _ _ _ c.loop-todo-test.false)
 
 pub put_constant_rows_spec : {M : Type 1} → statement M
 put_constant_rows_spec =

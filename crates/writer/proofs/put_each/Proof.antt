@@ -20,12 +20,12 @@ begun c = c.before.before.before
 returns : tie.Need-returns-then-out-numbers
 unfolding area_test
 returns c =
-    let a = c.before.before.before.args in
-    let short : length a.out-1.now < length (entry_bytes a.numbers.now) = omega (arith, (entries_back a.numbers.now).0) in
+    let a = c.args in
+    let short : length a.out.now < length (entry_bytes a.numbers.now) = omega (arith, (entries_back a.numbers.now).0) in
     record { refusal_is = first_fails _ _ _ (lt-leb _ _ short); bytes_are = over_no_room _ _ short }
 
 -- where the bytes have room
-fits : (c : tie.Else-out-numbers) → let a = (begun c).args in length (entry_bytes a.numbers.now) ≤ length a.out-1.now
+fits : (c : tie.Else-out-numbers) → let a = (begun c).args in length (entry_bytes a.numbers.now) ≤ length a.out.now
 fits c = omega (arith, (entries_back (begun c).args.numbers.now).0, c.if-out-numbers.false)
 
 put_entries_requires : tie.Need-put_entries-requires

@@ -32,11 +32,11 @@ abbrev first : List ℕ → List ℕ
 first r = get_or r 0 0 % 256 ∷ get_or r 0 0 / 256 ∷ []
 
 -- while entries are left, there is room for the next one
-room : (c : tie.In-loop-rest invariant-loop decreases-loop) → let l = c.before.loop-rest in (l.at + 2 ≤ length l.out-1) × (2 ≤ length (take (length l.out-1 - l.at) (drop l.at l.out-1)))
-room c = let l = c.before.loop-rest in room_left (first l.rest-1.now) _ l.invariant (entry_bytes_next l.rest-1.now c.loop-rest-test.true)
+room : (c : tie.In-loop-rest invariant-loop decreases-loop) → let l = c.loop-rest in (l.at + 2 ≤ length l.out) × (2 ≤ length (take (length l.out - l.at) (drop l.at l.out)))
+room c = let l = c.loop-rest in room_left (first l.rest.now) _ l.invariant (entry_bytes_next l.rest.now c.loop-rest-test.true)
 
 loop_holds : tie.Need-loop-rest-init invariant-loop decreases-loop
-loop_holds c = wrote_none _ _ c.before.before.requires
+loop_holds c = wrote_none _ _ c.requires
 
 sub_put_two : tie.Need-slice_bounds-put_two-count invariant-loop decreases-loop
 sub_put_two c = omega (arith, room c)
@@ -71,15 +71,15 @@ loop_less c = simp (length-take, length-drop) (omega arith)
 loop_again : tie.Need-loop-rest-preserved invariant-loop decreases-loop
 loop_again c =
     let d = put c.before in
-    let l = (turn d).before.loop-rest in
-    let r = l.rest-1.now in
-    wrote_put (first r) _ _ l.inv (entry_bytes_next r (turn d).loop-rest-test.true ∙ ap (λ (s : List ℕ). first r ++ entry_bytes s) (sym (tail_part 1 r))) d.put_two-at.ensures
+    let l = (turn d).loop-rest in
+    let r = l.rest.now in
+    wrote_put (first r) _ _ l.invariant (entry_bytes_next r (turn d).loop-rest-test.true ∙ ap (λ (s : List ℕ). first r ++ entry_bytes s) (sym (tail_part 1 r))) d.put_two-at.ensures
 
 same_length : tie.Need-shape_of-out invariant-loop decreases-loop
-same_length c = c.before.loop-rest.invariant.same
+same_length c = c.loop-rest.invariant.same
 
 returns : tie.Need-returns invariant-loop decreases-loop
-returns c = put_all c.before.loop-rest.invariant (entry_bytes_done _ c.loop-rest-test.false)
+returns c = put_all c.loop-rest.invariant (entry_bytes_done _ c.loop-rest-test.false)
 
 pub put_entries_spec : {M : Type 1} → statement M
 put_entries_spec =

@@ -24,7 +24,7 @@ entry c = c.before.before.before
 
 own : (c : tie.Else-not-contains) → entry_bytes (entry_at (members (whole (entry c.before).args.set)) (entry c.before).args.row.now (entry c.before).args.c) ≡ (let k = get_or (entry c.before).args.row.now (entry c.before).args.c 0 in k % 256 ∷ k / 256 ∷ [])
 unfolding entry_at entry_bytes
-own c = ap (bytes (entry c.before)) (sym c.before.contains.ensures ∙ not-false _ c.if-not-contains.false-raw)
+own c = ap (bytes (entry c.before)) (sym c.contains.ensures ∙ not-false _ c.if-not-contains.false-raw)
 
 contains_requires : tie.Need-contains-requires
 contains_requires c κs = search rules
@@ -33,7 +33,7 @@ returns : tie.Need-returns-then-not-contains
 unfolding entry_at entry_bytes
 returns c =
     let s = entry c.before in
-    subst (λ (t : List ℕ). Put t s.args.out-1.now s.args.out-1.now 0) (ap (bytes s) (sym (sym c.before.contains.ensures ∙ not-true _ c.if-not-contains.true-raw))) (record { many_is = refl; bytes_are = over_none _ })
+    subst (λ (t : List ℕ). Put t s.args.out.now s.args.out.now 0) (ap (bytes s) (sym (sym c.contains.ensures ∙ not-true _ c.if-not-contains.true-raw))) (record { many_is = refl; bytes_are = over_none _ })
 
 mul_put_two : tie.Need-offset_bounds-row-c
 mul_put_two c = search rules

@@ -107,39 +107,39 @@ back d k e = take k d ++ (e ++ drop (length d - k) (drop k d))
 
 -- the area, and where the next field goes, after each field
 abbrev area₁ : tie.After-slice_known-2-1 → List ℕ
-area₁ c = (prime_put c).put_prime-at.new.0
+area₁ c = (prime_put c).put_prime-at.new.out
 
 abbrev at₁ : tie.After-slice_known-2-1 → ℕ
 at₁ c = (prime_put c).put_prime-at.result
 
-written₁ : (c : tie.After-slice_known-2-1) → let s = entry₁ c in Wrote (file s) (left₁ s) s.args.out-1.now (area₁ c) (at₁ c)
+written₁ : (c : tie.After-slice_known-2-1) → let s = entry₁ c in Wrote (file s) (left₁ s) s.args.out.now (area₁ c) (at₁ c)
 written₁ c = let s = entry₁ c in first_put _ (prime s) (left₁ s) (fields s) s.requires.1 (prime_put c).put_prime-at.ensures
 
 abbrev area₂ : tie.After-slice_known-3-1 → List ℕ
-area₂ c = let d = before_sizes c in back (area₁ d) (at₁ d) (sizes_put c).put_sizes-at.new.0
+area₂ c = let d = before_sizes c in back (area₁ d) (at₁ d) (sizes_put c).put_sizes-at.new.out
 
 abbrev at₂ : tie.After-slice_known-3-1 → ℕ
 at₂ c = at₁ (before_sizes c) + (sizes_put c).put_sizes-at.result
 
-written₂ : (c : tie.After-slice_known-3-1) → let s = entry₂ c in Wrote (file s) (left₂ s) s.args.out-1.now (area₂ c) (at₂ c)
+written₂ : (c : tie.After-slice_known-3-1) → let s = entry₂ c in Wrote (file s) (left₂ s) s.args.out.now (area₂ c) (at₂ c)
 written₂ c = wrote_put (sizes (entry₂ c)) _ _ (written₁ (before_sizes c)) refl (sizes_put c).put_sizes-at.ensures
 
 abbrev area₃ : tie.After-slice_known-4-1 → List ℕ
-area₃ c = let d = before_rows c in back (area₂ d) (at₂ d) (rows_put c).put_constant_rows-at.new.0
+area₃ c = let d = before_rows c in back (area₂ d) (at₂ d) (rows_put c).put_constant_rows-at.new.out
 
 abbrev at₃ : tie.After-slice_known-4-1 → ℕ
 at₃ c = at₂ (before_rows c) + (rows_put c).put_constant_rows-at.result
 
-written₃ : (c : tie.After-slice_known-4-1) → let s = entry₃ c in Wrote (file s) (left₃ s) s.args.out-1.now (area₃ c) (at₃ c)
+written₃ : (c : tie.After-slice_known-4-1) → let s = entry₃ c in Wrote (file s) (left₃ s) s.args.out.now (area₃ c) (at₃ c)
 written₃ c = wrote_put (rows (entry₃ c)) _ _ (written₂ (before_rows c)) refl (rows_put c).put_constant_rows-at.ensures
 
 abbrev area₄ : tie.After-slice_known-5-1 → List ℕ
-area₄ c = let d = before_parameters c in back (area₃ d) (at₃ d) (parameters_put c).put_rows-at.new.0
+area₄ c = let d = before_parameters c in back (area₃ d) (at₃ d) (parameters_put c).put_rows-at.new.out
 
 abbrev at₄ : tie.After-slice_known-5-1 → ℕ
 at₄ c = at₃ (before_parameters c) + (parameters_put c).put_rows-at.result
 
-written₄ : (c : tie.After-slice_known-5-1) → let s = entry₄ c in Wrote (file s) end s.args.out-1.now (area₄ c) (at₄ c)
+written₄ : (c : tie.After-slice_known-5-1) → let s = entry₄ c in Wrote (file s) end s.args.out.now (area₄ c) (at₄ c)
 written₄ c = wrote_put (parameters (entry₄ c)) _ _ (written₃ (before_parameters c)) refl (parameters_put c).put_rows-at.ensures
 
 -- there is room for the next field

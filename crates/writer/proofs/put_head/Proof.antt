@@ -22,8 +22,8 @@ entry c = (size_put c).before.before.before
 abbrev bytes : tie.Start → List ℕ
 bytes s = s.args.size % 256 ∷ s.args.size / 256 ∷ []
 
-tagged : (s : tie.Start) → let a = s.args in Wrote (a.tag ∷ bytes s) (bytes s) a.out-1.now (set a.out-1.now 0 a.tag) 1
-tagged s = let a = s.args in wrote_set a.tag (bytes s) (wrote_none (a.tag ∷ bytes s) a.out-1.now (omega arith)) refl
+tagged : (s : tie.Start) → let a = s.args in Wrote (a.tag ∷ bytes s) (bytes s) a.out.now (set a.out.now 0 a.tag) 1
+tagged s = let a = s.args in wrote_set a.tag (bytes s) (wrote_none (a.tag ∷ bytes s) a.out.now (omega arith)) refl
 
 slice_write_out : tie.Need-bounds-out-0
 slice_write_out c = search rules

@@ -26,12 +26,12 @@ row s = parameter_bytes (length s.args.row.now) (whole s.args.set)
 abbrev own : tie.Start → List ℕ
 own s = number_bytes (length s.args.row.now) (whole s.args.set) s.args.row.now
 
-fits : (s : tie.Start) → length (row s) + length (own s) ≤ length s.args.out-1.now
+fits : (s : tie.Start) → length (row s) + length (own s) ≤ length s.args.out.now
 unfolding numbered_row_bytes
 fits s = omega (arith, length-append (row s) (own s), s.requires.2)
 
 -- there is room behind the row
-room : (c : tie.After-slice_known-2-1) → let r = (row_put c).put_parameter_row-at in (r.result ≤ length r.last.0) × (length (own (entry (row_put c))) ≤ length r.last.0 - r.result)
+room : (c : tie.After-slice_known-2-1) → let r = (row_put c).put_parameter_row-at in (r.result ≤ length r.new.out) × (length (own (entry (row_put c))) ≤ length r.new.out - r.result)
 room c =
     let r = (row_put c).put_parameter_row-at.ensures in
     let f = fits (entry (row_put c)) in
@@ -54,10 +54,10 @@ put_numbers_requires : tie.Need-put_numbers-requires
 put_numbers_requires c κs =
     let d = c.before in
     let s = entry (row_put d) in
-    (s.requires.0, s.requires.1, omega (arith, room d, left_length (row_put d).put_parameter_row-at.result (row_put d).put_parameter_row-at.new.0))
+    (s.requires.0, s.requires.1, omega (arith, room d, left_length (row_put d).put_parameter_row-at.result (row_put d).put_parameter_row-at.new.out))
 
 add_result : tie.Need-overflow_add-result
-add_result c = let d = c.before.before in let r = row_put d.before.before in let s = entry r in omega (arith, r.put_parameter_row-at.ensures.many_is, d.put_numbers.ensures.many_is, fits s, s.good)
+add_result c = let d = c.before.before in let r = row_put d.before.before in let s = entry r in omega (arith, r.put_parameter_row-at.ensures.many_is, d.put_numbers.ensures.many_is, fits s, s.well_formed)
 
 same_length : tie.Need-shape_of-out
 same_length c = search rules

@@ -34,7 +34,7 @@ abbrev put : tie.After-slice_known-in-loop-r-1 invariant-loop decreases-loop →
 put c = c.before.before
 
 abbrev turn : tie.After-put_numbered_row-at invariant-loop decreases-loop → tie.In-loop-r invariant-loop decreases-loop
-turn c = c.before.before.before.before
+turn c = c.before.before.before
 
 abbrev entry : tie.In-loop-r invariant-loop decreases-loop → tie.Start invariant-loop decreases-loop
 entry k = k.before.before.before.before.before
@@ -42,41 +42,41 @@ entry k = k.before.before.before.before.before
 -- the number of the turn's row, and its bytes
 
 abbrev row : tie.In-loop-r invariant-loop decreases-loop → ℕ
-row k = get_or (row_numbers (entry k).args.parameters.now) k.before.loop-r.r 0
+row k = get_or (row_numbers (entry k).args.parameters.now) k.loop-r.r 0
 
 abbrev row_bytes : tie.In-loop-r invariant-loop decreases-loop → List ℕ
-row_bytes k = let n = (entry k).args.n in numbered_row_bytes n (row k) (take n k.before.loop-r.rest-1.now)
+row_bytes k = let n = (entry k).args.n in numbered_row_bytes n (row k) (take n k.loop-r.rest.now)
 
 -- the numbers hold the next row
-left : (k : tie.In-loop-r invariant-loop decreases-loop) → let l = k.before.loop-r in let a = (entry k).args in (a.n ≤ length l.rest-1.now) × ((a.b - (l.r + 1)) * a.n ≤ length l.rest-1.now - a.n)
-left k = let l = k.before.loop-r in rows_room (entry k).args.n (entry k).args.b l.r (length l.rest-1.now) k.loop-r-test.true l.invariant.1
+left : (k : tie.In-loop-r invariant-loop decreases-loop) → let l = k.loop-r in let a = (entry k).args in (a.n ≤ length l.rest.now) × ((a.b - (l.r + 1)) * a.n ≤ length l.rest.now - a.n)
+left k = let l = k.loop-r in rows_room (entry k).args.n (entry k).args.b l.r (length l.rest.now) k.loop-r-test.true l.invariant.1
 
-next : (k : tie.In-loop-r invariant-loop decreases-loop) → let l = k.before.loop-r in let a = (entry k).args in let ws = take a.b (row_numbers a.parameters.now) in
-    numbered_bytes a.n (drop l.r ws) l.rest-1.now ≡ row_bytes k ++ numbered_bytes a.n (drop (l.r + 1) ws) (drop a.n l.rest-1.now)
-next k = let l = k.before.loop-r in let s = entry k in numbered_next s.args.n s.args.b l.r (row_numbers s.args.parameters.now) l.rest-1.now k.loop-r-test.true s.requires.1
+next : (k : tie.In-loop-r invariant-loop decreases-loop) → let l = k.loop-r in let a = (entry k).args in let ws = take a.b (row_numbers a.parameters.now) in
+    numbered_bytes a.n (drop l.r ws) l.rest.now ≡ row_bytes k ++ numbered_bytes a.n (drop (l.r + 1) ws) (drop a.n l.rest.now)
+next k = let l = k.loop-r in let s = entry k in numbered_next s.args.n s.args.b l.r (row_numbers s.args.parameters.now) l.rest.now k.loop-r-test.true s.requires.1
 
 -- there is room for it
-room : (k : tie.In-loop-r invariant-loop decreases-loop) → let l = k.before.loop-r in
-    (l.at + length (row_bytes k) ≤ length l.out-1) × (length (row_bytes k) ≤ length (take (length l.out-1 - l.at) (drop l.at l.out-1)))
-room k = room_left (row_bytes k) _ k.before.loop-r.invariant.0 (next k)
+room : (k : tie.In-loop-r invariant-loop decreases-loop) → let l = k.loop-r in
+    (l.at + length (row_bytes k) ≤ length l.out) × (length (row_bytes k) ≤ length (take (length l.out - l.at) (drop l.at l.out)))
+room k = room_left (row_bytes k) _ k.loop-r.invariant.0 (next k)
 
 -- it has no parameter at column n or later
 inside : (k : tie.In-loop-r invariant-loop decreases-loop) → within (entry k).args.n (row k) ≡ true
 inside k =
     let s = entry k in
     let ws = row_numbers s.args.parameters.now in
-    let r = k.before.loop-r.r in
+    let r = k.loop-r.r in
     rw (get_or-take s.args.b ws r 0 k.loop-r-test.true) at (all_at (λ w. within s.args.n w ≡ true) (take s.args.b ws) 0 s.requires.2 r (omega (arith, length-take-le s.args.b ws s.requires.1, k.loop-r-test.true)))
 
 -- the row is put there
-written : (c : tie.After-put_numbered_row-at invariant-loop decreases-loop) → let l = (turn c).before.loop-r in
-    Put (row_bytes (turn c)) (take (length l.out-1 - l.at) (drop l.at l.out-1)) c.put_numbered_row-at.new.0 c.put_numbered_row-at.result
+written : (c : tie.After-put_numbered_row-at invariant-loop decreases-loop) → let l = (turn c).loop-r in
+    Put (row_bytes (turn c)) (take (length l.out - l.at) (drop l.at l.out)) c.put_numbered_row-at.new.out c.put_numbered_row-at.result
 written c =
     let k = turn c in
-    let l = k.before.loop-r in
+    let l = k.loop-r in
     let n = (entry k).args.n in
-    subst (λ (t : List ℕ). Put t (take (length l.out-1 - l.at) (drop l.at l.out-1)) c.put_numbered_row-at.new.0 c.put_numbered_row-at.result)
-    (ap₂ (λ (j : ℕ) (w : ℕ). numbered_row_bytes j w (take n l.rest-1.now)) (length-take-le n l.rest-1.now (left k).0) c.before.before.row.ensures) c.put_numbered_row-at.ensures
+    subst (λ (t : List ℕ). Put t (take (length l.out - l.at) (drop l.at l.out)) c.put_numbered_row-at.new.out c.put_numbered_row-at.result)
+    (ap₂ (λ (j : ℕ) (w : ℕ). numbered_row_bytes j w (take n l.rest.now)) (length-take-le n l.rest.now (left k).0) c.row.ensures) c.put_numbered_row-at.ensures
 
 loop_holds : tie.Need-loop-r-init invariant-loop decreases-loop
 loop_holds c =
@@ -97,23 +97,23 @@ row_requires : tie.Need-row-requires invariant-loop decreases-loop
 row_requires c κs = search rules
 
 slice_aggregate_put_numbered_row : tie.Need-slice_bounds-put_numbered_row-end-in-loop-r invariant-loop decreases-loop
-slice_aggregate_put_numbered_row c = let k = c.before.before.before in sym (length-take-le _ _ (left k).0)
+slice_aggregate_put_numbered_row c = let k = c.before.before in sym (length-take-le _ _ (left k).0)
 
 put_numbered_row_requires : tie.Need-put_numbered_row-at-requires invariant-loop decreases-loop
 put_numbered_row_requires c κs =
-    let k = c.before.before.before in
+    let k = c.before.before in
     let s = entry k in
     let n = s.args.n in
-    let l = k.before.loop-r in
-    let long = sym (length-take-le n l.rest-1.now (left k).0) in
-    let own = sym c.before.row.ensures in (
+    let l = k.loop-r in
+    let long = sym (length-take-le n l.rest.now (left k).0) in
+    let own = sym c.row.ensures in (
       subst (λ (j : ℕ). j ≤ most_columns) long s.requires.0,
       ap₂ within (sym long) (sym own) ∙ inside k,
-      subst (λ (t : List ℕ). length t ≤ length (take (length l.out-1 - l.at) (drop l.at l.out-1))) (ap₂ (λ (j : ℕ) (w : ℕ). numbered_row_bytes j w (take n l.rest-1.now)) long own) (room k).1,
+      subst (λ (t : List ℕ). length t ≤ length (take (length l.out - l.at) (drop l.at l.out))) (ap₂ (λ (j : ℕ) (w : ℕ). numbered_row_bytes j w (take n l.rest.now)) long own) (room k).1,
     )
 
 add_at : tie.Need-overflow_add-at invariant-loop decreases-loop
-add_at c = let m = (written (put c)).many_is in omega (arith, m, room (turn (put c)), (entry (turn (put c))).good)
+add_at c = let m = (written (put c)).many_is in omega (arith, m, room (turn (put c)), (entry (turn (put c))).well_formed)
 
 mul_rest : tie.Need-offset_bounds-rest-n invariant-loop decreases-loop
 mul_rest c = omega (arith, (entry (turn (put c))).requires.0)
@@ -137,21 +137,21 @@ loop_again : tie.Need-loop-r-preserved invariant-loop decreases-loop
 loop_again c =
     let d = put c.before in
     let k = turn d in
-    let l = k.before.loop-r in
+    let l = k.loop-r in
     let a = (entry k).args in
     let ws = take a.b (row_numbers a.parameters.now) in
-    let t = tail_part a.n l.rest-1.now in (
-      wrote_put (row_bytes k) _ _ l.inv.0 (next k ∙ ap (λ (u : List ℕ). row_bytes k ++ numbered_bytes a.n (drop (l.r + 1) ws) u) (sym t)) (written d),
+    let t = tail_part a.n l.rest.now in (
+      wrote_put (row_bytes k) _ _ l.invariant.0 (next k ∙ ap (λ (u : List ℕ). row_bytes k ++ numbered_bytes a.n (drop (l.r + 1) ws) u) (sym t)) (written d),
       rw (t, length-drop) (left k).1,
       omega (arith, k.loop-r-test.true),
     )
 
 same_length : tie.Need-shape_of-out invariant-loop decreases-loop
-same_length c = c.before.loop-r.invariant.0.same
+same_length c = c.loop-r.invariant.0.same
 
 returns : tie.Need-returns invariant-loop decreases-loop
 returns c =
-    let l = c.before.loop-r in
+    let l = c.loop-r in
     let s = c.before.before.before.before.before in
     let ws = row_numbers s.args.parameters.now in
     put_all l.invariant.0 (numbered_done s.args.n _ _ (omega (arith, length-drop l.r (take s.args.b ws), length-take-le s.args.b ws s.requires.1, c.loop-r-test.false)))

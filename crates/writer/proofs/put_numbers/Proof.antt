@@ -37,7 +37,7 @@ few c = omega (arith, c.size-size.ensures, #-le width (members (whole (entry c).
 count : (c : tie.After-size-size) → let a = (entry c).args in c.size-size.result ≡ parameter_count (length a.row.now) (whole a.set)
 count c =
     let s = entry c in
-    let fits : Fits s.args.set = search (rules, s.good) in
+    let fits : Fits s.args.set = search (rules, s.well_formed) in
     c.size-size.ensures ∙ count_within (length s.args.row.now) (whole s.args.set) (whole_below _ fits) s.requires.1
 
 -- how long the field is
@@ -46,7 +46,7 @@ long s = number_bytes_length (length s.args.row.now) (whole s.args.set) s.args.r
 
 -- there is room behind the head
 room : (c : tie.After-slice_known-2-1) → let h = (head_put c).put_head-at in let s = entry (sized (head_put c)) in
-    (h.result ≤ length h.last.0) × (length (entry_bytes (picked (members (whole s.args.set)) 0 s.args.row.now)) ≤ length h.last.0 - h.result)
+    (h.result ≤ length h.new.out) × (length (entry_bytes (picked (members (whole s.args.set)) 0 s.args.row.now)) ≤ length h.new.out - h.result)
 room c =
     let h = (head_put c).put_head-at.ensures in
     let s = entry (sized (head_put c)) in
@@ -75,10 +75,10 @@ part_put_picked_end : tie.Need-slice_bounds-put_picked-end
 part_put_picked_end c = search rules
 
 put_picked_requires : tie.Need-put_picked-requires
-put_picked_requires c κs = omega (arith, room c.before, left_length (head_put c.before).put_head-at.result (head_put c.before).put_head-at.new.0)
+put_picked_requires c κs = omega (arith, room c.before, left_length (head_put c.before).put_head-at.result (head_put c.before).put_head-at.new.out)
 
 add_result : tie.Need-overflow_add-result
-add_result c = let d = c.before.before in let h = d.before.before in let s = entry (sized (head_put h)) in omega (arith, (head_put h).put_head-at.ensures.many_is, d.put_picked.ensures.many_is, long s, s.requires.2, s.good)
+add_result c = let d = c.before.before in let h = d.before.before in let s = entry (sized (head_put h)) in omega (arith, (head_put h).put_head-at.ensures.many_is, d.put_picked.ensures.many_is, long s, s.requires.2, s.well_formed)
 
 same_length : tie.Need-shape_of-out
 same_length c = search rules
@@ -90,8 +90,8 @@ returns c =
     let h = head_put d.before.before in
     let z = sized h in
     let s = entry z in
-    let head : Put (field_bytes number_tag (2 * parameter_count (length s.args.row.now) (whole s.args.set)) []) s.args.out-1.now h.put_head-at.last.0 h.put_head-at.result =
-    subst (λ (k : ℕ). Put (field_bytes number_tag (2 * k) []) s.args.out-1.now h.put_head-at.last.0 h.put_head-at.result) (count z) h.put_head-at.ensures in
+    let head : Put (field_bytes number_tag (2 * parameter_count (length s.args.row.now) (whole s.args.set)) []) s.args.out.now h.put_head-at.new.out h.put_head-at.result =
+    subst (λ (k : ℕ). Put (field_bytes number_tag (2 * k) []) s.args.out.now h.put_head-at.new.out h.put_head-at.result) (count z) h.put_head-at.ensures in
     put_next head d.put_picked.ensures
 
 pub put_numbers_spec : {M : Type 1} → statement M

@@ -29,7 +29,7 @@ abbrev behind_head : tie.After-slice_known-3-1 → tie.After-slice_known-2-1
 behind_head c = (set_put c).before.before
 
 -- there is room behind the head
-room : (c : tie.After-slice_known-2-1) → let h = (head_put c).put_head-at in h.result ≤ length h.last.0
+room : (c : tie.After-slice_known-2-1) → let h = (head_put c).put_head-at in h.result ≤ length h.new.out
 room c =
     let s = entry (head_put c).before in
     let h = (head_put c).put_head-at.ensures in
@@ -38,7 +38,7 @@ room c =
 
 -- the size is not large
 size_small : (c : tie.After-parameter_size-size) → c.parameter_size-size.result ≤ set_bytes
-size_small c = rw c.parameter_size-size.ensures (parameter_size_most c.before.before.args.n)
+size_small c = rw c.parameter_size-size.ensures (parameter_size_most c.args.n)
 
 parameter_size_requires : tie.Need-parameter_size-size-requires
 parameter_size_requires c κs = search rules

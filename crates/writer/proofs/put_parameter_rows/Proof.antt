@@ -38,25 +38,25 @@ abbrev rows : tie.At-loop-r invariant-loop decreases-loop → List ℕ
 rows k = row_numbers (entry k).args.parameters.now
 
 abbrev row_bytes : tie.In-loop-r invariant-loop decreases-loop → List ℕ
-row_bytes c = parameter_bytes (entry c.before).args.n (get_or (rows c.before) c.before.loop-r.r 0)
+row_bytes c = parameter_bytes (entry c.before).args.n (get_or (rows c.before) c.loop-r.r 0)
 
 -- the next row is the first of those that are left
-next : (c : tie.In-loop-r invariant-loop decreases-loop) → let a = (entry c.before).args in let ws = take a.b (rows c.before) in let r = c.before.loop-r.r in
+next : (c : tie.In-loop-r invariant-loop decreases-loop) → let a = (entry c.before).args in let ws = take a.b (rows c.before) in let r = c.loop-r.r in
     flat_map (parameter_bytes a.n) (drop r ws) ≡ row_bytes c ++ flat_map (parameter_bytes a.n) (drop (r + 1) ws)
-next c = let s = entry c.before in parameter_rows_next s.args.n s.args.b c.before.loop-r.r (rows c.before) c.loop-r-test.true s.requires.0
+next c = let s = entry c.before in parameter_rows_next s.args.n s.args.b c.loop-r.r (rows c.before) c.loop-r-test.true s.requires.0
 
 -- while rows are left, there is room for it
-room : (c : tie.In-loop-r invariant-loop decreases-loop) → let l = c.before.loop-r in
-    (l.at + length (row_bytes c) ≤ length l.out-1) × (length (row_bytes c) ≤ length (take (length l.out-1 - l.at) (drop l.at l.out-1)))
-room c = room_left (row_bytes c) _ c.before.loop-r.invariant.0 (next c)
+room : (c : tie.In-loop-r invariant-loop decreases-loop) → let l = c.loop-r in
+    (l.at + length (row_bytes c) ≤ length l.out) × (length (row_bytes c) ≤ length (take (length l.out - l.at) (drop l.at l.out)))
+room c = room_left (row_bytes c) _ c.loop-r.invariant.0 (next c)
 
 -- the row is put there
-written : (c : tie.After-put_parameter_row-at invariant-loop decreases-loop) → let l = (turn c).before.loop-r in
-    Put (row_bytes (turn c)) (take (length l.out-1 - l.at) (drop l.at l.out-1)) c.put_parameter_row-at.new.0 c.put_parameter_row-at.result
-written c = rw c.before.row.ensures at c.put_parameter_row-at.ensures
+written : (c : tie.After-put_parameter_row-at invariant-loop decreases-loop) → let l = (turn c).loop-r in
+    Put (row_bytes (turn c)) (take (length l.out - l.at) (drop l.at l.out)) c.put_parameter_row-at.new.out c.put_parameter_row-at.result
+written c = rw c.row.ensures at c.put_parameter_row-at.ensures
 
 loop_holds : tie.Need-loop-r-init invariant-loop decreases-loop
-loop_holds c = (wrote_none _ _ c.before.before.requires.1, omega arith)
+loop_holds c = (wrote_none _ _ c.requires.1, omega arith)
 
 sub_put_parameter_row : tie.Need-slice_bounds-put_parameter_row-count invariant-loop decreases-loop
 sub_put_parameter_row c = omega (arith, room c)
@@ -83,16 +83,16 @@ loop_less : tie.Need-loop-r-smaller invariant-loop decreases-loop
 loop_less c = search rules
 
 loop_again : tie.Need-loop-r-preserved invariant-loop decreases-loop
-loop_again c = let k = turn (put c) in (wrote_put (row_bytes k) _ _ k.before.loop-r.invariant.0 (next k) (written (put c)), omega arith)
+loop_again c = let k = turn (put c) in (wrote_put (row_bytes k) _ _ k.loop-r.invariant.0 (next k) (written (put c)), omega arith)
 
 same_length : tie.Need-shape_of-out invariant-loop decreases-loop
-same_length c = c.before.loop-r.invariant.0.same
+same_length c = c.loop-r.invariant.0.same
 
 returns : tie.Need-returns invariant-loop decreases-loop
 returns c =
     let s = entry c.before in
     let ws = rows c.before in
-    put_all c.before.loop-r.invariant.0 (parameter_rows_done _ _ (omega (arith, length-drop c.before.loop-r.r (take s.args.b ws), length-take-le s.args.b ws s.requires.0)))
+    put_all c.loop-r.invariant.0 (parameter_rows_done _ _ (omega (arith, length-drop c.loop-r.r (take s.args.b ws), length-take-le s.args.b ws s.requires.0)))
 
 pub put_parameter_rows_spec : {M : Type 1} → statement M
 put_parameter_rows_spec =

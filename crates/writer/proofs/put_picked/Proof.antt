@@ -34,19 +34,19 @@ entry k = k.before.before.before.before
 
 -- the bytes of the entry at column c are the first of those that are left
 abbrev own : tie.In-loop-c invariant-loop decreases-loop → List ℕ
-own k = let a = (entry k).args in entry_bytes (entry_at (members (whole a.set)) a.row.now k.before.loop-c.c)
+own k = let a = (entry k).args in entry_bytes (entry_at (members (whole a.set)) a.row.now k.loop-c.c)
 
-next : (k : tie.In-loop-c invariant-loop decreases-loop) → let a = (entry k).args in let S = members (whole a.set) in let c = k.before.loop-c.c in
+next : (k : tie.In-loop-c invariant-loop decreases-loop) → let a = (entry k).args in let S = members (whole a.set) in let c = k.loop-c.c in
     entry_bytes (picked S c (drop c a.row.now)) ≡ own k ++ entry_bytes (picked S (c + 1) (drop (c + 1) a.row.now))
 next k = let a = (entry k).args in let S = members (whole a.set) in
-    ap entry_bytes (picked_next S a.row.now k.before.loop-c.c k.loop-c-test.true) ∙ entry_bytes_append (entry_at S a.row.now k.before.loop-c.c) _
+    ap entry_bytes (picked_next S a.row.now k.loop-c.c k.loop-c-test.true) ∙ entry_bytes_append (entry_at S a.row.now k.loop-c.c) _
 
 -- there is room for them
-room : (k : tie.In-loop-c invariant-loop decreases-loop) → let l = k.before.loop-c in (l.at + length (own k) ≤ length l.out-1) × (length (own k) ≤ length (take (length l.out-1 - l.at) (drop l.at l.out-1)))
-room k = room_left (own k) _ k.before.loop-c.invariant (next k)
+room : (k : tie.In-loop-c invariant-loop decreases-loop) → let l = k.loop-c in (l.at + length (own k) ≤ length l.out) × (length (own k) ≤ length (take (length l.out - l.at) (drop l.at l.out)))
+room k = room_left (own k) _ k.loop-c.invariant (next k)
 
 loop_holds : tie.Need-loop-c-init invariant-loop decreases-loop
-loop_holds c = wrote_none _ _ c.before.before.requires
+loop_holds c = wrote_none _ _ c.requires
 
 sub_put_entry : tie.Need-slice_bounds-put_entry-count invariant-loop decreases-loop
 sub_put_entry c = omega (arith, room c)
@@ -58,10 +58,10 @@ part_put_entry_end : tie.Need-slice_bounds-put_entry-end invariant-loop decrease
 part_put_entry_end c = omega (arith, room c)
 
 put_entry_requires : tie.Need-put_entry-at-requires invariant-loop decreases-loop
-put_entry_requires c κs = (c.before.loop-c-test.true, (room c.before).1)
+put_entry_requires c κs = (c.loop-c-test.true, (room c.before).1)
 
 add_at : tie.Need-overflow_add-at invariant-loop decreases-loop
-add_at c = let d = c.before.before in let m = d.put_entry-at.ensures.many_is in omega (arith, m, room (turn d), (entry (turn d)).good)
+add_at c = let d = c.before.before in let m = d.put_entry-at.ensures.many_is in omega (arith, m, room (turn d), (entry (turn d)).well_formed)
 
 add_c : tie.Need-overflow_add-c invariant-loop decreases-loop
 add_c c = search rules
@@ -70,14 +70,14 @@ loop_less : tie.Need-loop-c-smaller invariant-loop decreases-loop
 loop_less c = omega arith
 
 loop_again : tie.Need-loop-c-preserved invariant-loop decreases-loop
-loop_again c = let d = c.before.before in let k = turn d in wrote_put (own k) _ _ k.before.loop-c.invariant (next k) d.put_entry-at.ensures
+loop_again c = let d = c.before.before in let k = turn d in wrote_put (own k) _ _ k.loop-c.invariant (next k) d.put_entry-at.ensures
 
 same_length : tie.Need-shape_of-out invariant-loop decreases-loop
-same_length c = c.before.loop-c.invariant.same
+same_length c = c.loop-c.invariant.same
 
 returns : tie.Need-returns invariant-loop decreases-loop
 unfolding entry_bytes
-returns c = let a = c.before.before.before.before.args in put_all c.before.loop-c.invariant (ap entry_bytes (picked_done (members (whole a.set)) a.row.now _ c.loop-c-test.false))
+returns c = let a = c.args in put_all c.loop-c.invariant (ap entry_bytes (picked_done (members (whole a.set)) a.row.now _ c.loop-c-test.false))
 
 pub put_picked_spec : {M : Type 1} → statement M
 put_picked_spec =

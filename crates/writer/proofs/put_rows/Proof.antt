@@ -22,7 +22,7 @@ put_parameter_rows_requires : tie.Need-put_parameter_rows-requires
 unfolding rows_bytes lent
 put_parameter_rows_requires c κs =
     let s = c.before.before.before.before.before in
-    (s.requires.1, subst (λ (t : Bool). length (bytes s t) ≤ length s.args.out-1.now) (not-true s.args.numbered c.before.if-not-numbered.true-raw) s.requires.4)
+    (s.requires.1, subst (λ (t : Bool). length (bytes s t) ≤ length s.args.out.now) (not-true s.args.numbered c.if-not-numbered.true-raw) s.requires.4)
 
 same_length : tie.Need-shape_of-out-then-not-numbered
 same_length c = search rules
@@ -32,19 +32,19 @@ unfolding rows_bytes lent
 returns c =
     let d = c.before.before in
     let s = d.before.before.before.before.before.before in
-    subst (λ (t : Bool). Put (bytes s t) s.args.out-1.now d.put_parameter_rows.new.0 d.put_parameter_rows.result) (sym (not-true s.args.numbered d.before.before.if-not-numbered.true-raw)) d.put_parameter_rows.ensures
+    subst (λ (t : Bool). Put (bytes s t) s.args.out.now d.put_parameter_rows.new.out d.put_parameter_rows.result) (sym (not-true s.args.numbered d.if-not-numbered.true-raw)) d.put_parameter_rows.ensures
 
 put_numbered_rows_requires : tie.Need-put_numbered_rows-requires
 unfolding rows_bytes lent numbers_room
 put_numbered_rows_requires c κs =
     let s = c.before.before.before.before.before in
     let a = s.args in
-    let t = not-false a.numbered c.before.if-not-numbered.false-raw in (
+    let t = not-false a.numbered c.if-not-numbered.false-raw in (
       s.requires.0,
       s.requires.1,
       s.requires.2,
       (area_reads _ _).0 (subst (λ (t : Bool). numbers_room (a.b * a.n) (lent t a.numbers.now) ≡ true) t s.requires.3),
-      subst (λ (t : Bool). length (bytes s t) ≤ length a.out-1.now) t s.requires.4,
+      subst (λ (t : Bool). length (bytes s t) ≤ length a.out.now) t s.requires.4,
     )
 
 same_length_2 : tie.Need-shape_of-out
@@ -55,7 +55,7 @@ unfolding rows_bytes lent
 returns_2 c =
     let d = c.before.before in
     let s = d.before.before.before.before.before.before in
-    subst (λ (t : Bool). Put (bytes s t) s.args.out-1.now d.put_numbered_rows.new.0 d.put_numbered_rows.result) (sym (not-false s.args.numbered d.before.before.if-not-numbered.false-raw)) d.put_numbered_rows.ensures
+    subst (λ (t : Bool). Put (bytes s t) s.args.out.now d.put_numbered_rows.new.out d.put_numbered_rows.result) (sym (not-false s.args.numbered d.if-not-numbered.false-raw)) d.put_numbered_rows.ensures
 
 pub put_rows_spec : {M : Type 1} → statement M
 put_rows_spec =

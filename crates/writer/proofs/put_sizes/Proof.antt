@@ -21,7 +21,7 @@ abbrev entry : tie.After-slice_known-2-1 → tie.Start
 entry c = (head_put c).before.before.before
 
 -- there is room behind the head
-room : (c : tie.After-slice_known-2-1) → let h = (head_put c).put_head-at in h.result + 3 ≤ length h.last.0
+room : (c : tie.After-slice_known-2-1) → let h = (head_put c).put_head-at in h.result + 3 ≤ length h.new.out
 room c = let h = (head_put c).put_head-at.ensures in omega (arith, h.many_is, put_same h (omega arith))
 
 cast_put_head : tie.Need-overflow_cast-put_head

@@ -58,7 +58,7 @@ returns_2 : tie.Need-returns
 returns_2 c =
     let d = c.before.before in
     let s = entry d in
-    (omega (arith, plain_is d, c.numbers_length.ensures.0, ap (whole s) (not-false s.args.numbered c.before.if-not-numbered.false-raw)), omega (arith, plain d, c.numbers_length.ensures.1, s.requires.0))
+    (omega (arith, plain_is d, c.numbers_length.ensures.0, ap (whole s) (not-false s.args.numbered c.if-not-numbered.false-raw)), omega (arith, plain d, c.numbers_length.ensures.1, s.requires.0))
 
 pub rows_length_spec : {M : Type 1} → statement M
 rows_length_spec =

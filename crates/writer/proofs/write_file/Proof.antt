@@ -32,7 +32,7 @@ abbrev model : tie.Start → FileModel
 model s = let a = s.args in handed_over a.p a.n a.a a.b a.constants.now (row_numbers a.parameters.now) (lent a.numbered a.numbers.now)
 
 refused : (c : tie.Else-r-ne0) → let a = (entry c).args in refusal a.p a.n a.a a.b a.constants.now (row_numbers a.parameters.now) (lent a.numbered a.numbers.now) ≡ 0
-refused c = sym c.before.judge_model-r.ensures ∙ c.if-r-ne0.false
+refused c = sym c.judge_model-r.ensures ∙ c.if-r-ne0.false
 
 accepted : (c : tie.Else-r-ne0) → let a = (entry c).args in Accepted a.p a.n a.a a.b a.constants.now (row_numbers a.parameters.now) (lent a.numbered a.numbers.now)
 accepted c = model_accepted _ _ _ _ _ _ _ (refused c)
@@ -48,18 +48,18 @@ long c =
     let size = split a.numbered (λ t. cond t (number_fields_size a.n (take a.b ws)) 0 ≡ numbers_size a.n (take a.b ws) (lent t a.numbers.now)) (λ _. refl) (λ _. refl) in
     c.file_length.ensures
     ∙ ap (λ (k : ℕ). (head_bytes + 2) + (head_bytes + 3) + a.a * (head_bytes + 2 * a.n) + k + head_bytes)
-    (c.before.rows_length-rows.ensures.0 ∙ ap (λ (k : ℕ). a.b * (head_bytes + parameter_size a.n) + k) size)
+    (c.rows_length-rows.ensures.0 ∙ ap (λ (k : ℕ). a.b * (head_bytes + parameter_size a.n) + k) size)
     ∙ sym (handed_over_length a.p a.n a.a a.b a.constants.now ws (lent a.numbered a.numbers.now) h.constants_lent h.parameters_lent h.numbers_lent)
 
 -- the area holds it
-holds : (c : tie.Else-out-file_length) → let s = entry (passed c.before) in length (encode (model s)) ≤ length s.args.out-1.now
-holds c = subst (λ (k : ℕ). k ≤ length (entry (passed c.before)).args.out-1.now) (long c.before) c.if-out-file_length.false
+holds : (c : tie.Else-out-file_length) → let s = entry (passed c.before) in length (encode (model s)) ≤ length s.args.out.now
+holds c = subst (λ (k : ℕ). k ≤ length (entry (passed c.before)).args.out.now) (long c.before) c.if-out-file_length.false
 
 judge_model_requires : tie.Need-judge_model-r-requires
 judge_model_requires c κs = search rules
 
 returns : tie.Need-returns-then-r-ne0
-returns c = writing_refused _ _ _ _ _ _ _ _ _ c.before.judge_model-r.ensures c.if-r-ne0.true
+returns c = writing_refused _ _ _ _ _ _ _ _ _ c.judge_model-r.ensures c.if-r-ne0.true
 
 rows_length_requires : tie.Need-rows_length-rows-requires
 rows_length_requires c κs = let h = accepted c in (h.b_most, h.parameters_lent, h.parameters_within)
@@ -68,7 +68,7 @@ file_length_requires : tie.Need-file_length-requires
 file_length_requires c κs = let h = accepted c.before in (h.n_most, h.a_most, c.rows_length-rows.ensures.1)
 
 returns_2 : tie.Need-returns-then-out-file_length
-returns_2 c = writing_short _ _ _ _ _ _ _ _ (refused (passed c.before)) (subst (λ (k : ℕ). length (entry (passed c.before)).args.out-1.now < k) (long c.before) c.if-out-file_length.true)
+returns_2 c = writing_short _ _ _ _ _ _ _ _ (refused (passed c.before)) (subst (λ (k : ℕ). length (entry (passed c.before)).args.out.now < k) (long c.before) c.if-out-file_length.true)
 
 cast_put_file : tie.Need-overflow_cast-p
 cast_put_file c = omega (arith, (accepted (passed c.before.before)).p_most)

@@ -48,7 +48,7 @@ add_result c = search rules
 
 returns : tie.Need-returns
 returns c =
-    ap₂ (λ (low high : ℕ). low + 4294967296 * high) c.before.before.before.before.before.four_bytes-low.ensures.0 c.four_bytes-high.ensures.0
+    ap₂ (λ (low high : ℕ). low + 4294967296 * high) c.four_bytes-low.ensures.0 c.four_bytes-high.ensures.0
     ∙ sym (number_eight (begun c).args.bytes.now)
 
 pub all_bytes_spec : {M : Type 1} → statement M

@@ -15,10 +15,10 @@ cast_result : tie.Need-overflow_cast-result
 cast_result c = search rules
 
 returns : tie.Need-returns-then-k-lt-BYTES
-returns c = sym (byte_at 8 c.before.args.k c.before.args.word c.if-k-lt-BYTES.true)
+returns c = sym (byte_at 8 c.args.k c.args.word c.if-k-lt-BYTES.true)
 
 returns_2 : tie.Need-returns
-returns_2 c = sym (byte_past 8 c.before.args.k c.before.args.word c.if-k-lt-BYTES.false)
+returns_2 c = sym (byte_past 8 c.args.k c.args.word c.if-k-lt-BYTES.false)
 
 pub byte_spec : {M : Type 1} → statement M
 byte_spec = tie.close (tie.spec mul_result shr_result cast_result returns returns_2)

@@ -15,7 +15,7 @@ returns : tie.Need-returns-then-k-bytes
 returns c = search rules
 
 returns_2 : tie.Need-returns
-returns_2 c = sym (get_or-eq_default c.before.before.args.bytes.now 0 c.if-k-bytes.false)
+returns_2 c = sym (get_or-eq_default c.args.bytes.now 0 c.if-k-bytes.false)
 
 pub byte_or_zero_spec : {M : Type 1} → statement M
 byte_or_zero_spec =

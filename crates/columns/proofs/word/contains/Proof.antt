@@ -14,7 +14,7 @@ unfolding members
 returns c = refl
 
 returns_2 : tie.Need-returns
-returns_2 c = sym (members_beyond word_width c.before.args.word c.before.args.x (search rules) c.if-x-lt-WIDTH.false)
+returns_2 c = sym (members_beyond word_width c.args.word c.args.x (search rules) c.if-x-lt-WIDTH.false)
 
 pub contains_spec : {M : Type 1} → statement M
 contains_spec = tie.close (tie.spec shr_result returns returns_2)

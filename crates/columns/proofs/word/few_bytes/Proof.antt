@@ -44,19 +44,19 @@ sub_k c = omega arith
 
 mul_word : tie.Need-overflow_mul-word invariant-loop decreases-loop
 mul_word c =
-    let v = c.before.loop-k in
-    omega (arith, small _ v.k v.word (λ i. search (rules, c.before.before.shared_slice_known-1.given i)) c.loop-k-test.true v.invariant.1)
+    let v = c.loop-k in
+    omega (arith, small _ v.k v.word (λ i. search (rules, c.shared_slice_known-1.given i)) c.loop-k-test.true v.invariant.1)
 
 byte_or_zero_requires : tie.Need-byte_or_zero-requires invariant-loop decreases-loop
 byte_or_zero_requires c κs = search rules
 
 add_word : tie.Need-overflow_add-word invariant-loop decreases-loop
 add_word c =
-    let v = c.before.before.loop-k in
-    let known = c.before.before.before.shared_slice_known-1.given in
+    let v = c.loop-k in
+    let known = c.shared_slice_known-1.given in
     omega (
       arith,
-      small _ v.k v.word (λ i. search (rules, known i)) c.before.loop-k-test.true v.invariant.1,
+      small _ v.k v.word (λ i. search (rules, known i)) c.loop-k-test.true v.invariant.1,
       c.byte_or_zero.ensures,
       known (v.k - 1),
     )
@@ -66,14 +66,14 @@ loop_less c = omega arith
 
 loop_again : tie.Need-loop-k-preserved invariant-loop decreases-loop
 loop_again c =
-    let v = c.before.before.loop-k in
-    (omega arith, turn _ v.k v.word c.byte_or_zero.result c.before.loop-k-test.true v.invariant.0 v.invariant.1 c.byte_or_zero.ensures)
+    let v = c.loop-k in
+    (omega arith, turn _ v.k v.word c.byte_or_zero.result c.loop-k-test.true v.invariant.0 v.invariant.1 c.byte_or_zero.ensures)
 
 returns : tie.Need-returns invariant-loop decreases-loop
 returns c =
-    let v = c.before.loop-k in
+    let v = c.loop-k in
     let done : v.k ≡ 0 = omega (arith, c.loop-k-test.false) in
-    v.invariant.1 ∙ ap (λ (k : ℕ). number (take (word_bytes - k) (drop k c.before.before.before.args.bytes.now))) done
+    v.invariant.1 ∙ ap (λ (k : ℕ). number (take (word_bytes - k) (drop k c.args.bytes.now))) done
 
 pub few_bytes_spec : {M : Type 1} → statement M
 few_bytes_spec =

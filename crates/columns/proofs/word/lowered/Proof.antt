@@ -10,10 +10,10 @@ shr_result : tie.Need-overflow_shr-result
 shr_result c = search rules
 
 returns : tie.Need-returns-then-m-lt-WIDTH
-returns c = members_down c.before.args.word c.before.args.m
+returns c = members_down c.args.word c.args.m
 
 returns_2 : tie.Need-returns
-returns_2 c = members_zero ∙ none_down word_width c.before.args.word c.before.args.m (search rules) c.if-m-lt-WIDTH.false
+returns_2 c = members_zero ∙ none_down word_width c.args.word c.args.m (search rules) c.if-m-lt-WIDTH.false
 
 pub lowered_spec : {M : Type 1} → statement M
 lowered_spec = tie.close (tie.spec shr_result returns returns_2)

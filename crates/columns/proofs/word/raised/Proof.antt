@@ -10,10 +10,10 @@ shl_result : tie.Need-overflow_shl-result
 shl_result c = search rules
 
 returns : tie.Need-returns-then-m-lt-WIDTH
-returns c = members_up word_width c.before.args.word c.before.args.m
+returns c = members_up word_width c.args.word c.args.m
 
 returns_2 : tie.Need-returns
-returns_2 c = members_zero ∙ none_up word_width (members c.before.args.word) c.before.args.m c.if-m-lt-WIDTH.false
+returns_2 c = members_zero ∙ none_up word_width (members c.args.word) c.args.m c.if-m-lt-WIDTH.false
 
 pub raised_spec : {M : Type 1} → statement M
 raised_spec = tie.close (tie.spec shl_result returns returns_2)

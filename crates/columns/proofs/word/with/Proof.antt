@@ -14,11 +14,11 @@ shl_result c = search rules
 
 returns : tie.Need-returns-then-x-lt-WIDTH
 returns c =
-    let a = c.before.args in
+    let a = c.args in
     ap (λ (m : ℕ). members (bit_or a.word m)) (shl_one a.x c.if-x-lt-WIDTH.true) ∙ members_with word_width a.word a.x c.if-x-lt-WIDTH.true
 
 returns_2 : tie.Need-returns
-returns_2 c = inserted_beyond word_width (members c.before.args.word) c.before.args.x c.if-x-lt-WIDTH.false
+returns_2 c = inserted_beyond word_width (members c.args.word) c.args.x c.if-x-lt-WIDTH.false
 
 pub with_spec : {M : Type 1} → statement M
 with_spec = tie.close (tie.spec shl_result returns returns_2)

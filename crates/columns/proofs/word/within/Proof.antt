@@ -11,10 +11,10 @@ shr_result : tie.Need-overflow_shr-result
 shr_result c = search rules
 
 returns : tie.Need-returns-then-n-lt-WIDTH
-returns c = within_shift word_width c.before.args.n c.before.args.word (search rules)
+returns c = within_shift word_width c.args.n c.args.word (search rules)
 
 returns_2 : tie.Need-returns
-returns_2 c = sym ((within_in_iff word_width c.before.args.n c.before.args.word).1 (λ x l m. omega (arith, c.if-n-lt-WIDTH.false)))
+returns_2 c = sym ((within_in_iff word_width c.args.n c.args.word).1 (λ x l m. omega (arith, c.if-n-lt-WIDTH.false)))
 
 pub within_spec : {M : Type 1} → statement M
 within_spec = tie.close (tie.spec shr_result returns returns_2)

@@ -14,12 +14,12 @@ shl_result c = search rules
 
 returns : tie.Need-returns-then-x-lt-WIDTH
 returns c =
-    let a = c.before.args in
+    let a = c.args in
     ap (λ (m : ℕ). members (bit_and a.word (2 ^ word_width - 1 - m))) (shl_one a.x c.if-x-lt-WIDTH.true)
     ∙ members_without word_width a.word a.x (search rules) c.if-x-lt-WIDTH.true
 
 returns_2 : tie.Need-returns
-returns_2 c = removed_beyond word_width c.before.args.word c.before.args.x (search rules) c.if-x-lt-WIDTH.false
+returns_2 c = removed_beyond word_width c.args.word c.args.x (search rules) c.if-x-lt-WIDTH.false
 
 pub without_spec : {M : Type 1} → statement M
 without_spec = tie.close (tie.spec shl_result returns returns_2)

@@ -40,35 +40,35 @@ abbrev begun : tie.After-first_heights-heights invariant-loop decreases-loop →
 begun c = c.before.before.before.before.before.before
 
 abbrev raised : tie.After-tops-levels invariant-loop decreases-loop → tie.After-first_heights-heights invariant-loop decreases-loop
-raised c = c.before.before.before.before.before.before.before
+raised c = c.before.before.before.before.before.before
 
 abbrev levelled : tie.At-loop-s invariant-loop decreases-loop → tie.After-tops-levels invariant-loop decreases-loop
-levelled c = c.before.before.before.before.before
+levelled c = c.before.before.before.before
 
 abbrev start : tie.At-loop-s invariant-loop decreases-loop → tie.Start invariant-loop decreases-loop
 start c = begun (raised (levelled c))
 
 -- the first state
 first_state : (c : tie.After-tops-levels invariant-loop decreases-loop) → let k = begun (raised c) in let a = k.args in
-    (Q : ℕ → ℕ → (field_of a.p).F) → ConstantsShown a.p a.n a.a Q a.constants-1.now
+    (Q : ℕ → ℕ → (field_of a.p).F) → ConstantsShown a.p a.n a.a Q a.constants.now
     → rank (layered (model_with a.p a.n a.a a.b Q (row_numbers a.parameters.now) a.rowpowers.now a.columnpowers.now a.parameterpowers.now)) ≡ a.n
-    → Descending a.p a.n a.a a.b Q (row_numbers a.parameters.now) a.rowpowers.now a.columnpowers.now a.parameterpowers.now a.constants-1.now
+    → Descending a.p a.n a.a a.b Q (row_numbers a.parameters.now) a.rowpowers.now a.columnpowers.now a.parameterpowers.now a.constants.now
     c.tops-levels.result (raised c).first_heights-heights.result 0
 first_state c Q shown full =
     let f = raised c in
     let w = c.before.before.before.before in
-    descending_starts _ _ _ _ Q _ _ _ _ _ (begun f).requires.0 shown full _ w.before.before.below-all.ensures _ _ w.weights-weights.result f.first_heights-heights.ensures w.weights-weights.ensures c.tops-levels.ensures
-    (search (rules, c.tops-levels.type-inv)) (search (rules, f.first_heights-heights.ok))
+    descending_starts _ _ _ _ Q _ _ _ _ _ (begun f).requires.0 shown full _ w.below-all.ensures _ _ w.weights-weights.result f.first_heights-heights.ensures w.weights-weights.ensures c.tops-levels.ensures
+    (search (rules, c.tops-levels.type_inv)) (search (rules, f.first_heights-heights.type_inv))
 
 -- the state of a turn, of the constants that are known to be there
 now_state : (c : tie.At-loop-s invariant-loop decreases-loop) → let k = start c in let a = k.args in let l = c.loop-s in
-    Descending a.p a.n a.a a.b k.requires.1.0 (row_numbers a.parameters.now) a.rowpowers.now a.columnpowers.now a.parameterpowers.now l.constants-1 l.levels-1 l.heights-1 l.risen
-    × SolvedBy (tight_part a.p a.n a.a a.b k.requires.1.0 (row_numbers a.parameters.now) a.rowpowers.now a.columnpowers.now a.parameterpowers.now l.constants-1 l.levels-1 l.heights-1) l.s
+    Descending a.p a.n a.a a.b k.requires.1.0 (row_numbers a.parameters.now) a.rowpowers.now a.columnpowers.now a.parameterpowers.now l.constants l.levels l.heights l.risen
+    × SolvedBy (tight_part a.p a.n a.a a.b k.requires.1.0 (row_numbers a.parameters.now) a.rowpowers.now a.columnpowers.now a.parameterpowers.now l.constants l.levels l.heights) l.s
 now_state c = let k = start c in c.loop-s.invariant.3 k.requires.1.0 k.requires.1.1 k.requires.1.2
 
 first_heights_requires : tie.Need-first_heights-heights-requires invariant-loop decreases-loop
 first_heights_requires c κs =
-    let r = c.before.before.before.before.before.requires.0 in
+    let r = c.requires.0 in
     (r.columns, r.column_powers_lent, r.column_powers_low, r.powers_lent, r.rows_within, r.powers_low)
 
 below_requires : tie.Need-below-all-requires invariant-loop decreases-loop
@@ -91,7 +91,7 @@ slice_aggregate_tops_2 c = search rules
 
 tops_requires : tie.Need-tops-levels-requires invariant-loop decreases-loop
 tops_requires c κs =
-    let f = c.before.before.before.before.before.before in
+    let f = c.before.before.before.before.before in
     let r = (begun f).requires.0 in
     record {
       columns = r.columns;
@@ -112,16 +112,16 @@ slice_aggregate_solve_tight_2 c = search rules
 
 solve_tight_requires : tie.Need-solve_tight-s-requires invariant-loop decreases-loop
 solve_tight_requires c κs =
-    let t = c.before.before.before in
+    let t = c.before.before in
     let k = begun (raised t) in
     (k.requires.1.0, k.args.rowpowers.now, 0, first_state t k.requires.1.0 k.requires.1.1 k.requires.1.2)
 
 loop_holds : tie.Need-loop-s-init invariant-loop decreases-loop
 loop_holds c =
-    let t = c.before.before.before.before in (
+    let t = c.before.before.before in (
       refl,
-      search (rules, (raised t).first_heights-heights.type-inv),
-      search (rules, t.tops-levels.type-inv),
+      search (rules, (raised t).first_heights-heights.type_inv),
+      search (rules, t.tops-levels.type_inv),
       λ Q shown full. let d = first_state t Q shown full in (d, c.solve_tight-s.ensures Q _ 0 d),
     )
 
@@ -138,23 +138,23 @@ entered c = c.before.before.before.before.before
 -- the short set is small in every state of which the loop speaks
 turn_small : (c : tie.After-heights-in-loop-s-1 invariant-loop decreases-loop) → let m = entered c in let a = (start m).args in let l = m.loop-s in
     (Q : ℕ → ℕ → (field_of a.p).F)
-    → Descending a.p a.n a.a a.b Q (row_numbers a.parameters.now) a.rowpowers.now a.columnpowers.now a.parameterpowers.now l.constants-1 l.levels-1 l.heights-1 l.risen
-    → SolvedBy (tight_part a.p a.n a.a a.b Q (row_numbers a.parameters.now) a.rowpowers.now a.columnpowers.now a.parameterpowers.now l.constants-1 l.levels-1 l.heights-1) l.s
-    → sum (tight_part a.p a.n a.a a.b Q (row_numbers a.parameters.now) a.rowpowers.now a.columnpowers.now a.parameterpowers.now l.constants-1 l.levels-1 l.heights-1) (members (whole l.s.short)) < a.n
+    → Descending a.p a.n a.a a.b Q (row_numbers a.parameters.now) a.rowpowers.now a.columnpowers.now a.parameterpowers.now l.constants l.levels l.heights l.risen
+    → SolvedBy (tight_part a.p a.n a.a a.b Q (row_numbers a.parameters.now) a.rowpowers.now a.columnpowers.now a.parameterpowers.now l.constants l.levels l.heights) l.s
+    → sum (tight_part a.p a.n a.a a.b Q (row_numbers a.parameters.now) a.rowpowers.now a.columnpowers.now a.parameterpowers.now l.constants l.levels l.heights) (members (whole l.s.short)) < a.n
 turn_small c Q d h =
     let m = entered c in
     let a = (start m).args in
     let l = m.loop-s in
     short_set_is_small (model_with a.p a.n a.a a.b Q (row_numbers a.parameters.now) a.rowpowers.now a.columnpowers.now a.parameterpowers.now) first_most l.risen
-    (tableau_of a.p a.n l.constants-1) (λ q. get_or l.levels-1 q 0) (λ x. get_or l.heights-1 x 0) d.after
-    l.s.rank (members (whole l.s.placed)) (members (whole l.s.constants-1)) (members (whole l.s.short)) l.s.rows h c.before.before.before.loop-s-test.true
+    (tableau_of a.p a.n l.constants) (λ q. get_or l.levels q 0) (λ x. get_or l.heights x 0) d.after
+    l.s.rank (members (whole l.s.placed)) (members (whole l.s.constants)) (members (whole l.s.short)) l.s.rows h c.loop-s-test.true
 
 turn_requires : tie.Need-turn-rise-requires invariant-loop decreases-loop
 turn_requires c κs =
-    let m = entered c in
+    let m = entered c.before in
     let k = start m in
     let w = now_state m in
-    (k.requires.1.0, k.args.rowpowers.now, m.loop-s.risen, w.0, turn_small c k.requires.1.0 w.0 w.1)
+    (k.requires.1.0, k.args.rowpowers.now, m.loop-s.risen, w.0, turn_small c.before k.requires.1.0 w.0 w.1)
 
 cast_risen : tie.Need-overflow_cast-risen invariant-loop decreases-loop
 cast_risen c = search rules
@@ -176,37 +176,37 @@ slice_aggregate_solve_tight_4 c = search rules
 
 solve_tight_requires_2 : tie.Need-solve_tight-s-requires-in-loop-s invariant-loop decreases-loop
 solve_tight_requires_2 c κs =
-    let t = turned c.before.before.before in
-    let m = entered t.before in
+    let t = turned c.before.before in
+    let m = entered t.before.before in
     let k = start m in
     let w = now_state m in
-    (k.requires.1.0, k.args.rowpowers.now, m.loop-s.risen + t.turn-rise.result, (t.turn-rise.ensures k.requires.1.0 k.args.rowpowers.now m.loop-s.risen w.0 (turn_small t.before k.requires.1.0 w.0 w.1)).1)
+    (k.requires.1.0, k.args.rowpowers.now, m.loop-s.risen + t.turn-rise.result, (t.turn-rise.ensures k.requires.1.0 k.args.rowpowers.now m.loop-s.risen w.0 (turn_small t.before.before k.requires.1.0 w.0 w.1)).1)
 
 loop_less : tie.Need-loop-s-smaller invariant-loop decreases-loop
 loop_less c =
-    let t = turned c.before.before.before.before in
-    let m = entered t.before in
+    let t = turned c.before.before.before in
+    let m = entered t.before.before in
     let k = start m in
     let w = now_state m in
-    omega (arith, risen_small _ _ _ _ _ _ _ _ _ _ _ _ _ w.0, (t.turn-rise.ensures k.requires.1.0 k.args.rowpowers.now m.loop-s.risen w.0 (turn_small t.before k.requires.1.0 w.0 w.1)).0)
+    omega (arith, risen_small _ _ _ _ _ _ _ _ _ _ _ _ _ w.0, (t.turn-rise.ensures k.requires.1.0 k.args.rowpowers.now m.loop-s.risen w.0 (turn_small t.before.before k.requires.1.0 w.0 w.1)).0)
 
 -- a turn keeps the number of constants
-long : (c : tie.After-constants-1 invariant-loop decreases-loop) → length c.before.turn-rise.new.1.1.1.1.0 ≡ length (start (entered c.before.before)).args.constants-1.now
-long c = search (rules, (entered c.before.before).loop-s.invariant.0, c.constants-1.given)
+long : (c : tie.After-constants-1 invariant-loop decreases-loop) → length c.turn-rise.new.constants ≡ length (start (entered c.before.before)).args.constants.now
+long c = search (rules, (entered c.before.before.before).loop-s.invariant.0, c.constants.given)
 
 loop_again : tie.Need-loop-s-preserved invariant-loop decreases-loop
 loop_again c =
-    let t = turned c.before.before.before.before in
-    let m = entered t.before in
+    let t = turned c.before.before.before in
+    let m = entered t.before.before in
     let k = start m in
     let w = now_state m in
-    let next = (t.turn-rise.ensures k.requires.1.0 k.args.rowpowers.now m.loop-s.risen w.0 (turn_small t.before k.requires.1.0 w.0 w.1)).1 in (
-      long c.before.before.before.before.before.before.before,
+    let next = (t.turn-rise.ensures k.requires.1.0 k.args.rowpowers.now m.loop-s.risen w.0 (turn_small t.before.before k.requires.1.0 w.0 w.1)).1 in (
+      long c.before.before.before.before.before.before,
       next.height_count,
       next.level_count,
       λ Q shown full.
           let v = m.loop-s.invariant.3 Q shown full in
-          let d = (t.turn-rise.ensures Q k.args.rowpowers.now m.loop-s.risen v.0 (turn_small t.before Q v.0 v.1)).1 in
+          let d = (t.turn-rise.ensures Q k.args.rowpowers.now m.loop-s.risen v.0 (turn_small t.before.before Q v.0 v.1)).1 in
           (d, c.solve_tight-s-in-loop-s.ensures Q _ _ d),
     )
 
@@ -244,7 +244,7 @@ same_length c = search (rules, (ended c.before.before.before).loop-s.invariant.0
 
 -- how many rows the answer has
 rows_long : (c : tie.After-found invariant-loop decreases-loop) → length c.found.result.rows ≡ most_rows
-rows_long c = search (rules, c.found.type-inv)
+rows_long c = search (rules, c.found.type_inv)
 
 returns : tie.Need-returns invariant-loop decreases-loop
 returns c =

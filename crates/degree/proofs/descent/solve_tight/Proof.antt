@@ -62,8 +62,8 @@ returns c =
     let w = tc.before.before in
     let b = w.before in
     let a = (begun b).args in
-    let long : length tc.tight_constants-tight.result ≡ most_constants = search (rules, tc.tight_constants-tight.type-inv) in
-    let many : length (row_numbers tp.tight_parameters-rows.result) ≡ most_rows = most_words_rows _ (search (rules, tp.tight_parameters-rows.type-inv)) in
+    let long : length tc.tight_constants-tight.result ≡ most_constants = search (rules, tc.tight_constants-tight.type_inv) in
+    let many : length (row_numbers tp.tight_parameters-rows.result) ≡ most_rows = most_words_rows _ (search (rules, tp.tight_parameters-rows.type_inv)) in
     λ Q rp k d.
     c.solve.ensures.if_valid (tight_taken a.p a.n a.a a.b Q a.constants.now (row_numbers a.parameters.now) rp a.columnpowers.now a.parameterpowers.now d.ready
     a.levels.now a.heights.now w.weights-weights.result _ b.below-all.ensures w.weights-weights.ensures _ _ tc.tight_constants-tight.ensures tp.tight_parameters-rows.ensures long many) _ _ _

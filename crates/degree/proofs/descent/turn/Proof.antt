@@ -17,32 +17,32 @@ abbrev begun : tie.After-weights-arg → tie.Start
 begun c = c.before.before.before.before.before.before.before
 
 abbrev weighed : tie.After-reduce → tie.After-weights-weights
-weighed c = c.before.before.before.before
+weighed c = c.before.before.before
 
 abbrev reduction : tie.After-tops-tops → tie.After-reduce
-reduction c = c.before.before.before.before.before.before
+reduction c = c.before.before.before.before
 
 abbrev topped : tie.After-rise-rise → tie.After-tops-tops
-topped c = c.before.before.before
+topped c = c.before.before
 
 abbrev start : tie.After-tops-tops → tie.Start
 start c = begun (weighed (reduction c)).before
 
 -- the heights are small
-low : (k : tie.Start) → (x : ℕ) → x < k.args.n → get_or k.args.heights-1.now x 0 ≤ 60000
+low : (k : tie.Start) → (x : ℕ) → x < k.args.n → get_or k.args.heights.now x 0 ≤ 60000
 low k x l = omega (arith, heights_small _ _ _ _ _ _ _ _ _ _ _ _ _ k.requires.3 x l)
 
 -- how many weights and tops there are
 many_weights : (c : tie.After-weights-weights) → length c.weights-weights.result ≡ most_columns
-many_weights c = search (rules, c.weights-weights.type-inv)
+many_weights c = search (rules, c.weights-weights.type_inv)
 
 many_tops : (c : tie.After-tops-tops) → length c.tops-tops.result ≡ most_columns
-many_tops c = search (rules, c.tops-tops.type-inv)
+many_tops c = search (rules, c.tops-tops.type_inv)
 
 -- the rows are reduced
 rows_shown : (c : tie.After-reduce) → let a = (begun (weighed c).before).args in
-    RowsShown a.p a.n a.a (reduced (field_of a.p) a.n (λ x. get_or (weighed c).weights-weights.result x 0) (λ h. get_or a.levels-1.now h 0) (tableau_of a.p a.n a.constants-1.now) a.a)
-    a.constants-1.now c.reduce.new.1.1.1.1.1.0
+    RowsShown a.p a.n a.a (reduced (field_of a.p) a.n (λ x. get_or (weighed c).weights-weights.result x 0) (λ h. get_or a.levels.now h 0) (tableau_of a.p a.n a.constants.now) a.a)
+    a.constants.now c.reduce.new.constants
 rows_shown c =
     let k = begun (weighed c).before in
     let a = k.args in
@@ -62,7 +62,7 @@ slice_aggregate_tops c = search rules
 
 tops_requires : tie.Need-tops-tops-requires
 tops_requires c κs =
-    let r = c.before.before.before.before.before in
+    let r = c.before.before.before in
     let k = begun (weighed r).before in
     let d = k.requires.3 in
     record {
@@ -80,7 +80,7 @@ slice_aggregate_rise : tie.Need-slice_bounds-rise-end
 slice_aggregate_rise c = search rules
 
 rise_requires : tie.Need-rise-rise-requires
-rise_requires c κs = let t = c.before.before in let d = (start t).requires.3 in (omega (arith, d.level_count, d.ready.columns), omega (arith, many_tops t, d.ready.columns))
+rise_requires c κs = let t = c.before in let d = (start t).requires.3 in (omega (arith, d.level_count, d.ready.columns), omega (arith, many_tops t, d.ready.columns))
 
 slice_aggregate_raise_levels : tie.Need-slice_bounds-raise_levels-end
 slice_aggregate_raise_levels c = search rules

@@ -14,6 +14,7 @@ use Rattle.degree.proofs.LevelLaws.{Keeping, keeping_start, keeping_stays, keepi
 use borrow.Author.Rules.{rules}
 use native.Mathlib.Omega.{arith}
 use Rattle.degree.proofs.levels.at_level.Statement.{statement}
+use Rattle.degree.proofs.levels.at_level.Lts.{then-powers-from, else-powers-from}
 use Rattle.degree.proofs.levels.at_level.Tie as tie
 
 abbrev invariant-loop : tie.invariant-loop-rest
@@ -32,7 +33,7 @@ begun k = k.before.before.before
 -- the column of a turn is one of those that are left,
 there : (f : tie.After-first-x invariant-loop decreases-loop) → (f.first-x.result < width) × (f.first-x.result ∈ members (whole (turn f).loop-rest.rest))
 there f =
-    let some : # width (members (whole (turn f).loop-rest.rest)) ≢ 0 = eqb-false _ 0 (sym f.before.before.is_empty.ensures ∙ not_in _ f.before.loop-rest-test.true-raw) in
+    let some : # width (members (whole (turn f).loop-rest.rest)) ≢ 0 = eqb-false _ 0 (sym f.is_empty.ensures ∙ not_in _ f.loop-rest-test.true-raw) in
     let t = least_there width _ some in
     ((rw (sym f.first-x.ensures) at t).0, (rw (sym f.first-x.ensures) at t).1)
 
@@ -73,7 +74,7 @@ add_if2_2 c =
     let f = c.before.before in
     let s = begun (turn f) in
     let x = f.first-x.result in
-    omega (arith, c.before.shared_slice_known-in-loop-rest-1.given (s.args.from + x), s.requires.heights_low x (below f))
+    omega (arith, c.shared_slice_known-in-loop-rest-1.given (s.args.from + x), s.requires.heights_low x (below f))
 
 without_requires : tie.Need-without-kept-requires invariant-loop decreases-loop
 without_requires c κs = search rules
@@ -94,16 +95,16 @@ loop_again c =
     let rest = members (whole l.rest) in
     let kept = members (whole l.kept) in
     rw c.without-rest.ensures
-    (⊎_elim
-    (λ w. rw (w.2, w.1.ensures) (keeping_goes a.from a.level a.powers.now a.heights.now row rest kept x w.0.taken l.inv))
-    (λ w. rw w.1 (keeping_stays a.from a.level a.powers.now a.heights.now row rest kept x (there f).1 w.0.left l.inv))
-    c.before.if-powers-from.branch)
+    (elim c.if-powers-from.branch [
+      | then-powers-from w ↦ rw (w.kept-is, w.without-kept.ensures) (keeping_goes a.from a.level a.powers.now a.heights.now row rest kept x w.if-powers-from.true l.invariant)
+      | else-powers-from w ↦ rw w.kept-is (keeping_stays a.from a.level a.powers.now a.heights.now row rest kept x (there f).1 w.if-powers-from.false l.invariant)
+    ])
 
 returns : tie.Need-returns invariant-loop decreases-loop
 returns c =
     let k = c.before.before in
     let rest = members (whole k.loop-rest.rest) in
-    let gone : # width rest ≡ 0 = eqb-true _ 0 (sym c.before.is_empty.ensures ∙ not-false _ c.loop-rest-test.false-raw) in
+    let gone : # width rest ≡ 0 = eqb-true _ 0 (sym c.is_empty.ensures ∙ not-false _ c.loop-rest-test.false-raw) in
     λ x l. k.loop-rest.invariant.done x (not_true (rest x) (nothing_in width rest gone x (omega (arith, (begun k).requires.columns))))
 
 pub at_level_spec : {M : Type 1} → statement M

@@ -8,6 +8,7 @@ use Rattle.degree.proofs.TopLaws.{top_none, top_more, top_same}
 use borrow.Author.Rules.{rules}
 use native.Mathlib.Omega.{arith}
 use Rattle.degree.proofs.levels.constant_top.Statement.{statement}
+use Rattle.degree.proofs.levels.constant_top.Lts.{then-constants-from-ne0+then-w-top, then-constants-from-ne0+else-w-top, else-constants-from-ne0}
 use Rattle.degree.proofs.levels.constant_top.Tie as tie
 
 abbrev invariant-loop : tie.invariant-loop-x
@@ -45,19 +46,17 @@ loop_again c =
     let k = c.before.before.before.before in
     let l = k.loop-x in (
       omega arith,
-      ⊎_elim
-          (λ w. rw w.2 (top_more w.0.taken w.1.taken l.invariant.1))
-          (λ z. ⊎_elim
-          (λ w. rw w.2 (top_same (λ e. w.1.left) l.invariant.1))
-          (λ w. rw w.1 (top_same (λ e. absurd (e w.0.left)) l.invariant.1))
-          z)
-          c.if-constants-from-ne0.branch,
+      elim c.if-constants-from-ne0.branch [
+        | then-constants-from-ne0+then-w-top w ↦ rw w.top-is (top_more w.if-constants-from-ne0.true w.if-w-top.true l.invariant.1)
+        | then-constants-from-ne0+else-w-top w ↦ rw w.top-is (top_same (λ e. w.if-w-top.false) l.invariant.1)
+        | else-constants-from-ne0 w ↦ rw w.top-is (top_same (λ e. absurd (e w.if-constants-from-ne0.false)) l.invariant.1)
+      ],
     )
 
 returns : tie.Need-returns invariant-loop decreases-loop
 returns c =
-    let done : c.before.loop-x.x ≡ c.before.before.args.n = omega arith in
-    rw done at c.before.loop-x.invariant.1
+    let done : c.loop-x.x ≡ c.args.n = omega arith in
+    rw done at c.loop-x.invariant.1
 
 pub constant_top_spec : {M : Type 1} → statement M
 constant_top_spec =

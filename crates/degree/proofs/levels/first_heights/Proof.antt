@@ -27,7 +27,7 @@ abbrev begun : tie.At-loop-r invariant-loop decreases-loop → tie.Start invaria
 begun k = k.before.before.before.before
 
 loop_holds : tie.Need-loop-r-init invariant-loop decreases-loop
-loop_holds c = (search rules, search rules, low_start _ c.before.before.before.requires.0)
+loop_holds c = (search rules, search rules, low_start _ c.requires.0)
 
 slice_aggregate_lower_row : tie.Need-slice_bounds-lower_row-end invariant-loop decreases-loop
 slice_aggregate_lower_row c = search rules
@@ -63,8 +63,8 @@ loop_less c = search rules
 
 loop_again : tie.Need-loop-r-preserved invariant-loop decreases-loop
 loop_again c =
-    let e = c.before.lower_row.ensures in
-    (search rules, e.0 ∙ c.before.before.before.before.before.loop-r.invariant.1, e.1)
+    let e = c.lower_row.ensures in
+    (search rules, e.0 ∙ c.loop-r.invariant.1, e.1)
 
 slice_aggregate_lower_row_2 : tie.Need-slice_bounds-lower_row-end-2 invariant-loop decreases-loop
 slice_aggregate_lower_row_2 c = search rules
@@ -88,7 +88,7 @@ lower_row_requires_2 c κs =
     )
 
 returns : tie.Need-returns invariant-loop decreases-loop
-returns c = c.before.lower_row-2.ensures.1
+returns c = c.lower_row-2.ensures.1
 
 pub first_heights_spec : {M : Type 1} → statement M
 first_heights_spec =

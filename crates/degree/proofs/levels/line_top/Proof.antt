@@ -22,7 +22,7 @@ begun c = c.before.before.before.before.before.before.before.before
 
 met : (c : tie.After-intersection-row) (x : ℕ) → let a = (begun c).args in
     members (whole c.intersection-row.result) x ≡ (members (get_or (row_numbers a.parameters.now) (a.q - a.a) 0) ∩ members (whole a.set)) x
-met c x = ap (λ (S : Set). S x) (c.intersection-row.ensures ∙ ap (λ (w : ℕ). members w ∩ members (whole (begun c).args.set)) c.before.row.ensures)
+met c x = ap (λ (S : Set). S x) (c.intersection-row.ensures ∙ ap (λ (w : ℕ). members w ∩ members (whole (begun c).args.set)) c.row.ensures)
 
 mul_constant_top : tie.Need-overflow_mul-q
 mul_constant_top c =
@@ -36,7 +36,7 @@ constant_top_requires c κs =
     (omega (arith, row_within k.args.q k.args.a k.args.n c.if-q-a.true, k.requires.1.constants_lent), k.requires.1.weights_lent)
 
 returns : tie.Need-returns-then-q-a
-returns c = ((λ l. c.constant_top.ensures), λ r e. absurd (omega (arith, c.before.if-q-a.true)))
+returns c = ((λ l. c.constant_top.ensures), λ r e. absurd (omega (arith, c.if-q-a.true)))
 
 row_requires : tie.Need-row-requires
 row_requires c κs = search rules
@@ -55,7 +55,7 @@ parameter_top_requires c κs =
     let k = begun c in
     let a = k.args in
     let lines = k.requires.1 in
-    let there : a.q - a.a < k.requires.0 = omega (arith, k.requires.2, c.before.before.if-q-a.false) in
+    let there : a.q - a.a < k.requires.0 = omega (arith, k.requires.2, c.if-q-a.false) in
     record {
       columns = lines.columns;
       row_within = within_part _ _ _ (λ x e. and_left _ _ (sym (met c x) ∙ e)) (lines.rows_within (a.q - a.a) there);
@@ -71,7 +71,7 @@ returns_2 c =
     let ws = row_numbers a.parameters.now in
     let row = members (get_or ws (a.q - a.a) 0) in
     let set = members (whole a.set) in (
-      (λ l. absurd (omega (arith, i.before.before.if-q-a.false))),
+      (λ l. absurd (omega (arith, i.if-q-a.false))),
       λ r e. subst (λ (r : ℕ). Top a.n (λ x. (x ∈ members (get_or ws r 0)) × (x ∈ set)) (λ x. get_or a.powers.now (r * a.n + x) 0 + get_or a.heights.now x 0) c.parameter_top.result) (omega arith)
           (top_as (λ x m. (and_left (row x) (set x) (sym (met i x) ∙ m), and_right (row x) (set x) (sym (met i x) ∙ m))) (λ x m. met i x ∙ and_in m.0 m.1) c.parameter_top.ensures),
     )

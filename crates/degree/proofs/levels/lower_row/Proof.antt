@@ -34,7 +34,7 @@ begun k = k.before.before.before
 -- the column of a turn is one of those that are left,
 there : (f : tie.After-first-x invariant-loop decreases-loop) → (f.first-x.result < width) × (f.first-x.result ∈ members (whole (turn f).loop-rest.rest))
 there f =
-    let some : # width (members (whole (turn f).loop-rest.rest)) ≢ 0 = eqb-false _ 0 (sym f.before.before.is_empty.ensures ∙ not_in _ f.before.loop-rest-test.true-raw) in
+    let some : # width (members (whole (turn f).loop-rest.rest)) ≢ 0 = eqb-false _ 0 (sym f.is_empty.ensures ∙ not_in _ f.loop-rest-test.true-raw) in
     let t = least_there width _ some in
     ((rw (sym f.first-x.ensures) at t).0, (rw (sym f.first-x.ensures) at t).1)
 
@@ -51,7 +51,7 @@ height_there : (f : tie.After-first-x invariant-loop decreases-loop) → f.first
 height_there f = omega (arith, below f, (begun (turn f)).requires.3, (turn f).loop-rest.invariant.0)
 
 loop_holds : tie.Need-loop-rest-init invariant-loop decreases-loop
-loop_holds c = (refl, (λ x e. e), c.before.before.requires.5)
+loop_holds c = (refl, (λ x e. e), c.requires.5)
 
 is_empty_requires : tie.Need-is_empty-requires invariant-loop decreases-loop
 is_empty_requires c κs = search rules
@@ -92,21 +92,21 @@ loop_less c = let w = there c.before.before.before.before in rw c.without-rest.e
 
 loop_again : tie.Need-loop-rest-preserved invariant-loop decreases-loop
 loop_again c =
-    let v = c.before.lower in
+    let v = c.lower in
     let f = c.before.before.before.before in
     let l = (turn f).loop-rest in
     let x = f.first-x.result in
     rw c.without-rest.ensures (
-      length-set l.heights x v.result ∙ l.inv.0,
-      (λ z e. l.inv.1 z (removed_old (members (whole l.rest)) x z e)),
-      low_more (begun (turn f)).args.n x v.result l.heights (height_there f) v.ensures.0 v.ensures.1 l.inv.2,
+      length-set l.heights x v.result ∙ l.invariant.0,
+      (λ z e. l.invariant.1 z (removed_old (members (whole l.rest)) x z e)),
+      low_more (begun (turn f)).args.n x v.result l.heights (height_there f) v.ensures.0 v.ensures.1 l.invariant.2,
     )
 
 same_length : tie.Need-shape_of-heights invariant-loop decreases-loop
-same_length c = c.before.before.loop-rest.invariant.0
+same_length c = c.loop-rest.invariant.0
 
 returns : tie.Need-returns invariant-loop decreases-loop
-returns c = let l = c.before.before.loop-rest in (l.invariant.0, l.invariant.2)
+returns c = let l = c.loop-rest in (l.invariant.0, l.invariant.2)
 
 pub lower_row_spec : {M : Type 1} → statement M
 lower_row_spec =

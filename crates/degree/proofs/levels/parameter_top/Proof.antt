@@ -16,6 +16,7 @@ use Rattle.degree.proofs.TopLaws.{Seeking, seeking_start, seeking_more, seeking_
 use borrow.Author.Rules.{rules}
 use native.Mathlib.Omega.{arith}
 use Rattle.degree.proofs.levels.parameter_top.Statement.{statement}
+use Rattle.degree.proofs.levels.parameter_top.Lts.{then-w-top, else-w-top}
 use Rattle.degree.proofs.levels.parameter_top.Tie as tie
 
 abbrev invariant-loop : tie.invariant-loop-rest
@@ -34,7 +35,7 @@ begun k = k.before.before.before
 -- the column of a turn is one of those that are left
 there : (f : tie.After-first-x invariant-loop decreases-loop) → (f.first-x.result < width) × (f.first-x.result ∈ members (whole (turn f).loop-rest.rest))
 there f =
-    let some : # width (members (whole (turn f).loop-rest.rest)) ≢ 0 = eqb-false _ 0 (sym f.before.before.is_empty.ensures ∙ not_in _ f.before.loop-rest-test.true-raw) in
+    let some : # width (members (whole (turn f).loop-rest.rest)) ≢ 0 = eqb-false _ 0 (sym f.is_empty.ensures ∙ not_in _ f.loop-rest-test.true-raw) in
     let t = least_there width _ some in
     ((rw (sym f.first-x.ensures) at t).0, (rw (sym f.first-x.ensures) at t).1)
 
@@ -58,7 +59,7 @@ shared_slice_read_w : tie.Need-bounds-powers-from invariant-loop decreases-loop
 shared_slice_read_w c = omega (arith, low c.before, (begun (turn c.before)).requires.powers_lent)
 
 cast_w : tie.Need-overflow_cast-w invariant-loop decreases-loop
-cast_w c = omega (arith, c.shared_slice_known-in-loop-rest-1.given ((begun (turn c.before)).args.from + c.before.first-x.result))
+cast_w c = omega (arith, c.shared_slice_known-in-loop-rest-1.given ((begun (turn c.before)).args.from + c.first-x.result))
 
 mul_w : tie.Need-offset_bounds-heights-x invariant-loop decreases-loop
 mul_w c = omega (arith, (there c.before).0)
@@ -67,7 +68,7 @@ shared_slice_read_w_2 : tie.Need-bounds-heights-x invariant-loop decreases-loop
 shared_slice_read_w_2 c = omega (arith, low c.before.before, (begun (turn c.before.before)).requires.heights_lent)
 
 add_w_2 : tie.Need-overflow_add-w-in-loop-rest invariant-loop decreases-loop
-add_w_2 c = let f = c.before.before in omega (arith, c.before.shared_slice_known-in-loop-rest-1.given ((begun (turn f)).args.from + f.first-x.result), (begun (turn f)).requires.heights_low f.first-x.result (low f))
+add_w_2 c = let f = c.before.before in omega (arith, c.shared_slice_known-in-loop-rest-1.given ((begun (turn f)).args.from + f.first-x.result), (begun (turn f)).requires.heights_low f.first-x.result (low f))
 
 without_requires : tie.Need-without-rest-requires invariant-loop decreases-loop
 without_requires c κs = search rules
@@ -81,10 +82,10 @@ loop_again c =
     let l = (turn f).loop-rest in
     let x = f.first-x.result in
     rw c.without-rest.ensures
-    (⊎_elim
-    (λ w. rw w.1 (seeking_more x (low f) (there f).1 w.0.taken l.inv))
-    (λ w. rw w.1 (seeking_same x w.0.left l.inv))
-    c.before.if-w-top.branch)
+    (elim c.if-w-top.branch [
+      | then-w-top w ↦ rw w.top-is (seeking_more x (low f) (there f).1 w.if-w-top.true l.invariant)
+      | else-w-top w ↦ rw w.top-is (seeking_same x w.if-w-top.false l.invariant)
+    ])
 
 returns : tie.Need-returns invariant-loop decreases-loop
 returns c =
@@ -92,7 +93,7 @@ returns c =
     let l = k.loop-rest in
     let a = (begun k).args in
     let rest = members (whole l.rest) in
-    let gone : # width rest ≡ 0 = eqb-true _ 0 (sym c.before.is_empty.ensures ∙ not-false _ c.loop-rest-test.false-raw) in
+    let gone : # width rest ≡ 0 = eqb-true _ 0 (sym c.is_empty.ensures ∙ not-false _ c.loop-rest-test.false-raw) in
     seeking_done (λ x e. nothing_in width rest gone x (columns_below a.row x (search rules) (l.invariant.inside x e)) e) l.invariant
 
 pub parameter_top_spec : {M : Type 1} → statement M

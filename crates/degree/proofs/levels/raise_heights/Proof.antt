@@ -32,18 +32,18 @@ mul_raised_height : tie.Need-offset_bounds-heights-x invariant-loop decreases-lo
 mul_raised_height c = search rules
 
 slice_read_raised_height : tie.Need-bounds-heights-x invariant-loop decreases-loop
-slice_read_raised_height c = omega (arith, c.before.before.loop-x.invariant.1.same_length)
+slice_read_raised_height c = omega (arith, c.loop-x.invariant.1.same_length)
 
 raised_height_requires : tie.Need-raised_height-requires invariant-loop decreases-loop
 raised_height_requires c κs =
-    let l = c.before.before.loop-x in
+    let l = c.loop-x in
     omega (arith, l.invariant.1.left l.x (omega arith), (begun c.before.before).requires.1 l.x (omega arith))
 
 mul_heights : tie.Need-offset_bounds-heights-x-in-loop-x invariant-loop decreases-loop
 mul_heights c = search rules
 
 slice_write_heights : tie.Need-bounds-heights-x-in-loop-x invariant-loop decreases-loop
-slice_write_heights c = omega (arith, c.before.before.before.loop-x.invariant.1.same_length)
+slice_write_heights c = omega (arith, c.loop-x.invariant.1.same_length)
 
 add_x : tie.Need-overflow_step-x invariant-loop decreases-loop
 add_x c = search rules
@@ -61,10 +61,10 @@ loop_again c =
     (search rules, written_more l.x _ a.heights.now l.heights _ (omega (arith, l.invariant.1.same_length)) now l.invariant.1)
 
 same_length : tie.Need-shape_of-heights invariant-loop decreases-loop
-same_length c = c.before.loop-x.invariant.1.same_length
+same_length c = c.loop-x.invariant.1.same_length
 
 returns : tie.Need-returns invariant-loop decreases-loop
-returns c = let h = c.before.loop-x.invariant.1 in record { same_length = h.same_length; each = λ x l. h.done x (omega arith) }
+returns c = let h = c.loop-x.invariant.1 in record { same_length = h.same_length; each = λ x l. h.done x (omega arith) }
 
 pub raise_heights_spec : {M : Type 1} → statement M
 raise_heights_spec =

@@ -31,7 +31,7 @@ mul_raised_level : tie.Need-offset_bounds-levels-q invariant-loop decreases-loop
 mul_raised_level c = search rules
 
 slice_read_raised_level : tie.Need-bounds-levels-q invariant-loop decreases-loop
-slice_read_raised_level c = omega (arith, c.before.before.loop-q.invariant.1.same_length)
+slice_read_raised_level c = omega (arith, c.loop-q.invariant.1.same_length)
 
 mul_raised_level_2 : tie.Need-offset_bounds-tops-q invariant-loop decreases-loop
 mul_raised_level_2 c = search rules
@@ -41,14 +41,14 @@ shared_slice_read_raised_level c = search rules
 
 raised_level_requires : tie.Need-raised_level-requires invariant-loop decreases-loop
 raised_level_requires c κs =
-    let l = c.before.before.before.loop-q in
+    let l = c.loop-q in
     omega (arith, l.invariant.1.left l.q (omega arith), (begun c.before.before.before).requires.2 l.q (omega arith))
 
 mul_levels : tie.Need-offset_bounds-levels-q-in-loop-q invariant-loop decreases-loop
 mul_levels c = search rules
 
 slice_write_levels : tie.Need-bounds-levels-q-in-loop-q invariant-loop decreases-loop
-slice_write_levels c = omega (arith, c.before.before.before.before.loop-q.invariant.1.same_length)
+slice_write_levels c = omega (arith, c.loop-q.invariant.1.same_length)
 
 add_q : tie.Need-overflow_step-q invariant-loop decreases-loop
 add_q c = search rules
@@ -66,10 +66,10 @@ loop_again c =
     (search rules, written_more l.q _ a.levels.now l.levels _ (omega (arith, l.invariant.1.same_length)) now l.invariant.1)
 
 same_length : tie.Need-shape_of-levels invariant-loop decreases-loop
-same_length c = c.before.loop-q.invariant.1.same_length
+same_length c = c.loop-q.invariant.1.same_length
 
 returns : tie.Need-returns invariant-loop decreases-loop
-returns c = let h = c.before.loop-q.invariant.1 in record { same_length = h.same_length; each = λ q l. h.done q (omega arith) }
+returns c = let h = c.loop-q.invariant.1 in record { same_length = h.same_length; each = λ q l. h.done q (omega arith) }
 
 pub raise_levels_spec : {M : Type 1} → statement M
 raise_levels_spec =

@@ -14,13 +14,13 @@ add_result c = search rules
 
 returns : tie.Need-returns-then-contains
 returns c =
-    let a = c.before.before.args in
-    sym (ap (λ (b : Bool). cond b (a.height + a.rise) a.height) (sym c.before.contains.ensures ∙ c.if-contains.true))
+    let a = c.args in
+    sym (ap (λ (b : Bool). cond b (a.height + a.rise) a.height) (sym c.contains.ensures ∙ c.if-contains.true))
 
 returns_2 : tie.Need-returns
 returns_2 c =
-    let a = c.before.before.args in
-    sym (ap (λ (b : Bool). cond b (a.height + a.rise) a.height) (sym c.before.contains.ensures ∙ c.if-contains.false))
+    let a = c.args in
+    sym (ap (λ (b : Bool). cond b (a.height + a.rise) a.height) (sym c.contains.ensures ∙ c.if-contains.false))
 
 pub raised_height_spec : {M : Type 1} → statement M
 raised_height_spec = tie.close (tie.spec contains_requires add_result returns returns_2)

@@ -11,7 +11,7 @@ add_result : tie.Need-overflow_add-result
 add_result c = search rules
 
 returns_2 : tie.Need-returns-then-top-level
-returns_2 c = raised_touched _ _ _ c.before.if-top-eq0.false c.if-top-level.true
+returns_2 c = raised_touched _ _ _ c.if-top-eq0.false c.if-top-level.true
 
 returns_3 : tie.Need-returns
 returns_3 c = raised_apart _ _ _ c.if-top-level.false

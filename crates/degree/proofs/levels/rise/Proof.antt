@@ -7,6 +7,7 @@ use Rattle.degree.proofs.LevelLaws.{rise_none, rise_more}
 use borrow.Author.Rules.{rules}
 use native.Mathlib.Omega.{arith}
 use Rattle.degree.proofs.levels.rise.Statement.{statement}
+use Rattle.degree.proofs.levels.rise.Lts.{then-r-least, else-r-least}
 use Rattle.degree.proofs.levels.rise.Tie as tie
 
 abbrev invariant-loop : tie.invariant-loop-q
@@ -44,20 +45,20 @@ loop_again c =
     let r = c.before in
     let k = r.before.before.before.before in
     let l = k.loop-q in
-    let a = k.before.before.before.args in
+    let a = k.args in
     let s = r.room-r.result in
     let more = rise_more l.q a.levels.now a.tops.now l.least s in (
       search rules,
-      ⊎_elim
-          (λ w. rw w.1 (more s (omega (arith, w.0.taken)) (omega arith) r.room-r.ensures.0 r.room-r.ensures.1 l.invariant.1))
-          (λ w. rw w.1 (more l.least (omega arith) (omega (arith, w.0.left)) l.invariant.1.some r.room-r.ensures.1 l.invariant.1))
-          c.if-r-least.branch,
+      elim c.if-r-least.branch [
+        | then-r-least w ↦ rw w.least-is (more s (omega (arith, w.if-r-least.true)) (omega arith) r.room-r.ensures.0 r.room-r.ensures.1 l.invariant.1)
+        | else-r-least w ↦ rw w.least-is (more l.least (omega arith) (omega (arith, w.if-r-least.false)) l.invariant.1.some r.room-r.ensures.1 l.invariant.1)
+      ],
     )
 
 returns : tie.Need-returns invariant-loop decreases-loop
 returns c =
     let k = c.before in
-    let done : k.loop-q.q ≡ k.before.before.before.args.lines = omega arith in
+    let done : k.loop-q.q ≡ k.args.lines = omega arith in
     rw done at k.loop-q.invariant.1
 
 pub rise_spec : {M : Type 1} → statement M

@@ -26,14 +26,14 @@ shared_slice_read_all c = search rules
 cast_all : tie.Need-overflow_cast-all invariant-loop decreases-loop
 cast_all c =
     let k = c.before.before in
-    omega (arith, k.before.requires.2 k.loop-i.i (omega arith))
+    omega (arith, k.requires.2 k.loop-i.i (omega arith))
 
 add_all : tie.Need-overflow_add-all invariant-loop decreases-loop
 add_all c =
     let k = c.before.before in
-    let a = k.before.args in
+    let a = k.args in
     let i = k.loop-i.i in
-    let low = k.before.requires.2 in
+    let low = k.requires.2 in
     omega (arith, low i (omega arith), total_below i 15 (λ j. get_or a.powers.now j 0) (λ j l. low j (omega arith)))
 
 add_i : tie.Need-overflow_step-i invariant-loop decreases-loop
@@ -45,12 +45,12 @@ loop_less c = search rules
 loop_again : tie.Need-loop-i-preserved invariant-loop decreases-loop
 loop_again c =
     let k = c.before.before in
-    (search rules, omega (arith, k.loop-i.invariant.1, total_next k.loop-i.i (λ j. get_or k.before.args.powers.now j 0)))
+    (search rules, omega (arith, k.loop-i.invariant.1, total_next k.loop-i.i (λ j. get_or k.args.powers.now j 0)))
 
 returns : tie.Need-returns invariant-loop decreases-loop
 returns c =
     let k = c.before in
-    let done : k.loop-i.i ≡ k.before.args.k = omega arith in
+    let done : k.loop-i.i ≡ k.args.k = omega arith in
     rw done at k.loop-i.invariant.1
 
 pub sum_powers_spec : {M : Type 1} → statement M

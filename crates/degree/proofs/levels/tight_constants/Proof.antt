@@ -64,12 +64,12 @@ loop_again : tie.Need-loop-h-preserved invariant-loop decreases-loop
 loop_again c =
     let k = c.before.before.before.before.before in
     let a = (begun k).args in
-    let t = c.before.tight_row.ensures in
-    let more = tight_constants_more a.n k.loop-h.h a.constants.now a.weights.now a.levels.now k.loop-h.out-1 _ k.loop-h.invariant.2 t in
+    let t = c.tight_row.ensures in
+    let more = tight_constants_more a.n k.loop-h.h a.constants.now a.weights.now a.levels.now k.loop-h.out _ k.loop-h.invariant.2 t in
     (search rules, t.same_length ∙ k.loop-h.invariant.1, more)
 
 returns : tie.Need-returns invariant-loop decreases-loop
-returns c = λ h x l m. c.before.loop-h.invariant.2 h x (omega arith) m
+returns c = λ h x l m. c.loop-h.invariant.2 h x (omega arith) m
 
 pub tight_constants_spec : {M : Type 1} → statement M
 tight_constants_spec =

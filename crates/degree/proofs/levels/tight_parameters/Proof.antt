@@ -50,7 +50,7 @@ at_level_requires c κs =
     let s = begun k in
     record {
       columns = s.requires.0;
-      row_within = rw c.before.row.ensures (s.requires.3 k.loop-r.r (omega arith));
+      row_within = rw c.row.ensures (s.requires.3 k.loop-r.r (omega arith));
       powers_lent = omega (arith, row_within k.loop-r.r s.args.b s.args.n (omega arith), s.requires.4);
       heights_lent = s.requires.5;
       heights_low = s.requires.6;
@@ -72,10 +72,10 @@ loop_again : tie.Need-loop-r-preserved invariant-loop decreases-loop
 loop_again c =
     let k = c.before.before.before.before.before.before.before in
     let a = (begun k).args in
-    let out = k.loop-r.out-1 in
-    let put = c.before.put_row.ensures in
-    let row = c.before.before.before.at_level-row in
-    let own = c.before.before.before.before.before.row.ensures in (
+    let out = k.loop-r.out in
+    let put = c.put_row.ensures in
+    let row = c.at_level-row in
+    let own = c.row.ensures in (
       search rules,
       ap length put ∙ with_row_length out k.loop-r.r (whole row.result) ∙ k.loop-r.invariant.1,
       rw put
@@ -84,7 +84,7 @@ loop_again c =
     )
 
 returns : tie.Need-returns invariant-loop decreases-loop
-returns c = λ r x l m. c.before.loop-r.invariant.2 r x (omega arith) m
+returns c = λ r x l m. c.loop-r.invariant.2 r x (omega arith) m
 
 pub tight_parameters_spec : {M : Type 1} → statement M
 tight_parameters_spec =

@@ -12,6 +12,7 @@ use Rattle.degree.proofs.LevelLaws.{tight_row_none, tight_row_more}
 use borrow.Author.Rules.{rules}
 use native.Mathlib.Omega.{arith}
 use Rattle.degree.proofs.levels.tight_row.Statement.{statement}
+use Rattle.degree.proofs.levels.tight_row.Lts.{then-weights-x, else-weights-x}
 use Rattle.degree.proofs.levels.tight_row.Tie as tie
 
 abbrev invariant-loop : tie.invariant-loop-x
@@ -42,7 +43,7 @@ mul_out : tie.Need-offset_bounds-out-i invariant-loop decreases-loop
 mul_out c = search rules
 
 slice_write_out : tie.Need-bounds-out-i invariant-loop decreases-loop
-slice_write_out c = omega (arith, c.before.before.before.before.loop-x.invariant.1.same_length)
+slice_write_out c = omega (arith, c.loop-x.invariant.1.same_length)
 
 add_x : tie.Need-overflow_step-x invariant-loop decreases-loop
 add_x c = search rules
@@ -54,24 +55,24 @@ loop_again : tie.Need-loop-x-preserved invariant-loop decreases-loop
 loop_again c =
     let k = c.before.before.before.before in
     let l = k.loop-x in
-    let a = k.before.args in
+    let a = k.args in
     let w = get_or a.weights.now l.x 0 in
     let v = get_or a.constants.now (a.from + l.x) 0 in
     let kept : c.if-weights-x.out ≡ cond (eqb w a.level) v 0 =
-    ⊎_elim
-    (λ z. z.1 ∙ sym (ap (λ (b : Bool). cond b v 0) (eq-eqb w a.level z.0.taken)))
-    (λ z. z.1 ∙ sym (ap (λ (b : Bool). cond b v 0) (ne_eqb w a.level z.0.left)))
-    c.if-weights-x.branch in
+    elim c.if-weights-x.branch [
+      | then-weights-x z ↦ z.out-is ∙ sym (ap (λ (b : Bool). cond b v 0) (eq-eqb w a.level z.if-weights-x.true))
+      | else-weights-x z ↦ z.out-is ∙ sym (ap (λ (b : Bool). cond b v 0) (ne_eqb w a.level z.if-weights-x.false))
+    ] in
     let room : a.from + l.x < length l.out = omega (arith, l.invariant.1.same_length) in
     (search rules, tight_row_more l.x a.from a.level a.constants.now a.weights.now a.out.now l.out _ room kept l.invariant.1)
 
 same_length : tie.Need-shape_of-out invariant-loop decreases-loop
-same_length c = c.before.loop-x.invariant.1.same_length
+same_length c = c.loop-x.invariant.1.same_length
 
 returns : tie.Need-returns invariant-loop decreases-loop
 returns c =
-    let done : c.before.loop-x.x ≡ c.before.before.args.n = omega arith in
-    rw done at c.before.loop-x.invariant.1
+    let done : c.loop-x.x ≡ c.args.n = omega arith in
+    rw done at c.loop-x.invariant.1
 
 pub tight_row_spec : {M : Type 1} → statement M
 tight_row_spec =

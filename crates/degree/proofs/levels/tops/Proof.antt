@@ -33,7 +33,7 @@ abbrev begun : tie.At-loop-q invariant-loop decreases-loop → tie.Start invaria
 begun k = k.before.before.before.before.before.before
 
 add_q_end : tie.Need-overflow_add-q-end invariant-loop decreases-loop
-add_q_end c = omega (arith, c.before.before.before.before.before.requires.lines)
+add_q_end c = omega (arith, c.requires.lines)
 
 loop_holds : tie.Need-loop-q-init invariant-loop decreases-loop
 loop_holds c = (omega arith, search rules, λ i l. absurd (omega arith))
@@ -66,7 +66,7 @@ loop_again c =
 
 returns : tie.Need-returns invariant-loop decreases-loop
 returns c =
-    let l = c.before.loop-q in
+    let l = c.loop-q in
     record { constants = λ h m. (l.invariant.2 h (omega arith)).0 m; parameters = λ r m. (l.invariant.2 ((begun c.before).args.a + r) (omega arith)).1 r refl }
 
 pub tops_spec : {M : Type 1} → statement M

@@ -13,10 +13,10 @@ add_result : tie.Need-overflow_add-result
 add_result c = search rules
 
 returns : tie.Need-returns-then-contains
-returns c = let a = c.before.before.args in sym (ap (λ (b : Bool). cond b (a.power + a.height) 0) (sym c.before.contains.ensures ∙ c.if-contains.true))
+returns c = let a = c.args in sym (ap (λ (b : Bool). cond b (a.power + a.height) 0) (sym c.contains.ensures ∙ c.if-contains.true))
 
 returns_2 : tie.Need-returns
-returns_2 c = let a = c.before.before.args in sym (ap (λ (b : Bool). cond b (a.power + a.height) 0) (sym c.before.contains.ensures ∙ c.if-contains.false))
+returns_2 c = let a = c.args in sym (ap (λ (b : Bool). cond b (a.power + a.height) 0) (sym c.contains.ensures ∙ c.if-contains.false))
 
 pub weight_at_spec : {M : Type 1} → statement M
 weight_at_spec = tie.close (tie.spec contains_requires add_result returns returns_2)

@@ -32,7 +32,7 @@ shared_slice_read_weight_at_2 : tie.Need-bounds-heights-x invariant-loop decreas
 shared_slice_read_weight_at_2 c = search rules
 
 weight_at_requires : tie.Need-weight_at-requires invariant-loop decreases-loop
-weight_at_requires c κs = let k = c.before.before.before in k.before.before.before.requires.3 k.loop-x.x (omega arith)
+weight_at_requires c κs = let k = c.before.before.before in k.requires.3 k.loop-x.x (omega arith)
 
 mul_out : tie.Need-offset_bounds-out-x invariant-loop decreases-loop
 mul_out c = search rules
@@ -49,13 +49,13 @@ loop_less c = search rules
 loop_again : tie.Need-loop-x-preserved invariant-loop decreases-loop
 loop_again c =
     let k = c.before.before.before.before in
-    let a = k.before.before.before.args in
+    let a = k.args in
     (omega arith, search rules, filled_more (λ x w. w ≡ cond (members (whole a.set) x) (get_or a.powers.now x 0 + get_or a.heights.now x 0) 0) k.loop-x.out k.loop-x.x _ (omega (arith, k.loop-x.invariant.1)) k.loop-x.invariant.2 c.weight_at.ensures)
 
 returns : tie.Need-returns invariant-loop decreases-loop
 returns c =
-    let l = c.before.loop-x in
-    let done : l.x ≡ c.before.before.before.before.args.n = omega arith in
+    let l = c.loop-x in
+    let done : l.x ≡ c.args.n = omega arith in
     rw done at l.invariant.2
 
 pub weights_spec : {M : Type 1} → statement M

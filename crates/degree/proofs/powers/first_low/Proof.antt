@@ -38,12 +38,12 @@ loop_less c = search rules
 loop_again : tie.Need-loop-i-preserved invariant-loop decreases-loop
 loop_again c =
     let k = c.before.before.before in
-    (omega arith, below_more (λ j. leb (get_or k.before.args.powers.now j 0) most_power ≡ true) k.loop-i.i k.loop-i.invariant.1 (le-leb _ _ c.if-powers-i-gt-MOST_POWER.false))
+    (omega arith, below_more (λ j. leb (get_or k.args.powers.now j 0) most_power ≡ true) k.loop-i.i k.loop-i.invariant.1 (le-leb _ _ c.if-powers-i-gt-MOST_POWER.false))
 
 returns_2 : tie.Need-returns invariant-loop decreases-loop
 returns_2 c =
-    let l = c.before.loop-i in
-    let done : l.i ≡ c.before.before.args.k = omega arith in
+    let l = c.loop-i in
+    let done : l.i ≡ c.args.k = omega arith in
     sym ((all_iff _ _).1 (rw done at l.invariant.1))
 
 pub first_low_spec : {M : Type 1} → statement M

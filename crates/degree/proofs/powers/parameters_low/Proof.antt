@@ -52,12 +52,12 @@ flat k x l = get_or-replicate {A = ℕ} most_columns x 0 0 (omega (arith, (begun
 low : (c : tie.After-parameter_top invariant-loop decreases-loop) → c.parameter_top.result ≤ most_power → within_limit (turn c) (row_word (turn c)) ≡ true
 low c l =
     let k = turn c in
-    subst (λ (w : ℕ). within_limit k w ≡ true) c.before.before.row-row.ensures (row_low (power k) (λ x m. omega (arith, flat k x m)) c.parameter_top.ensures l)
+    subst (λ (w : ℕ). within_limit k w ≡ true) c.row-row.ensures (row_low (power k) (λ x m. omega (arith, flat k x m)) c.parameter_top.ensures l)
 
 high : (c : tie.After-parameter_top invariant-loop decreases-loop) → most_power < c.parameter_top.result → within_limit (turn c) (row_word (turn c)) ≡ false
 high c l =
     let k = turn c in
-    subst (λ (w : ℕ). within_limit k w ≡ false) c.before.before.row-row.ensures (row_high (power k) (λ x m. omega (arith, flat k x m)) c.parameter_top.ensures l)
+    subst (λ (w : ℕ). within_limit k w ≡ false) c.row-row.ensures (row_high (power k) (λ x m. omega (arith, flat k x m)) c.parameter_top.ensures l)
 
 loop_holds : tie.Need-loop-r-init invariant-loop decreases-loop
 loop_holds c = (omega arith, λ j l. absurd (omega arith))
@@ -78,7 +78,7 @@ parameter_top_requires c κs =
     let l : k.loop-r.r < a.b = omega arith in
     record {
       columns = (begun k).requires.0;
-      row_within = ap (within a.n) c.before.row-row.ensures ∙ (begun k).requires.2 k.loop-r.r l;
+      row_within = ap (within a.n) c.row-row.ensures ∙ (begun k).requires.2 k.loop-r.r l;
       powers_lent = omega (arith, row_within k.loop-r.r a.b a.n l, (begun k).requires.1);
       heights_lent = (begun k).requires.0;
       heights_low = λ x m. omega (arith, flat k x m);
@@ -104,8 +104,8 @@ loop_again c =
 
 returns_2 : tie.Need-returns invariant-loop decreases-loop
 returns_2 c =
-    let l = c.before.loop-r in
-    let done : l.r ≡ c.before.before.before.before.args.b = omega arith in
+    let l = c.loop-r in
+    let done : l.r ≡ c.args.b = omega arith in
     sym ((all_iff _ _).1 (rw done at l.invariant.1))
 
 pub parameters_low_spec : {M : Type 1} → statement M

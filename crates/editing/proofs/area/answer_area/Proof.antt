@@ -26,17 +26,17 @@ abbrev read : tie.After-struct_known-1 → tie.After-read_rows-sizes
 read c = c.before.before.before
 
 abbrev area : tie.After-read_rows-sizes → List ℕ
-area c = (lent c).before.args.area.now
+area c = (lent c).args.area.now
 
-bytes : (c : tie.After-shared_slice_known-1) → AreBytes c.before.args.area.now
+bytes : (c : tie.After-shared_slice_known-1) → AreBytes c.args.area.now
 bytes c i = search (rules, c.shared_slice_known-1.given i)
 
 -- what was read is the area's file
 rows : (c : tie.After-read_rows-sizes)
-    → RowsReading (area_file (area c)) own_constants own_parameters c.read_rows-sizes.result c.read_rows-sizes.new.1.0 (row_numbers c.read_rows-sizes.new.1.1.0)
+    → RowsReading (area_file (area c)) own_constants own_parameters c.read_rows-sizes.result c.read_rows-sizes.new.constants (row_numbers c.read_rows-sizes.new.parameters)
 rows c =
-    subst (λ (s : List ℕ). RowsReading s own_constants own_parameters c.read_rows-sizes.result c.read_rows-sizes.new.1.0 (row_numbers c.read_rows-sizes.new.1.1.0))
-    c.before.before.before.file_in-file.ensures c.read_rows-sizes.ensures
+    subst (λ (s : List ℕ). RowsReading s own_constants own_parameters c.read_rows-sizes.result c.read_rows-sizes.new.constants (row_numbers c.read_rows-sizes.new.parameters))
+    c.file_in-file.ensures c.read_rows-sizes.ensures
 
 file_in_requires : tie.Need-file_in-file-requires
 file_in_requires c κs = search rules
@@ -61,8 +61,8 @@ returns c =
     let told = c.before in
     let at_read = read told.before.before in
     answer_refused (area at_read)
-    (ap (λ (h : Header). h.refusal) told.read_unnumbered_header.ensures ∙ unnumbered_header_refusal _ ∙ ap unnumbered_judge at_read.before.before.before.file_in-file.ensures)
-    (read_refused (area at_read) (bytes (lent at_read)) (rows at_read) told.before.if-sizes-ne0.true) c.refuse.ensures
+    (ap (λ (h : Header). h.refusal) told.read_unnumbered_header.ensures ∙ unnumbered_header_refusal _ ∙ ap unnumbered_judge at_read.file_in-file.ensures)
+    (read_refused (area at_read) (bytes (lent at_read)) (rows at_read) told.if-sizes-ne0.true) c.refuse.ensures
 
 read_unnumbered_header_requires_2 : tie.Need-read_unnumbered_header-requires-then-sizes
 read_unnumbered_header_requires_2 c κs = search rules
@@ -76,14 +76,14 @@ returns_2 c =
     let accepted = told.before.before in
     let at_read = read accepted.before in
     answer_refused (area at_read)
-    (ap (λ (h : Header). h.refusal) told.read_unnumbered_header-then-sizes.ensures ∙ unnumbered_header_refusal _ ∙ ap unnumbered_judge at_read.before.before.before.file_in-file.ensures)
-    (numbered_refused (area at_read) (bytes (lent at_read)) (rows at_read) accepted.if-sizes-ne0.false told.before.if-sizes.true) c.refuse-then-sizes.ensures
+    (ap (λ (h : Header). h.refusal) told.read_unnumbered_header-then-sizes.ensures ∙ unnumbered_header_refusal _ ∙ ap unnumbered_judge at_read.file_in-file.ensures)
+    (numbered_refused (area at_read) (bytes (lent at_read)) (rows at_read) accepted.if-sizes-ne0.false told.if-sizes.true) c.refuse-then-sizes.ensures
 
 slice_aggregate_of_bytes : tie.Need-slice_bounds-of_bytes-end
 slice_aggregate_of_bytes c =
     let accepted = c.before.before in
-    let at_read = read accepted.before in
-    sym (length-take-le _ (area at_read) (omega (arith, area_long (area at_read) (bytes (lent at_read)) (read_accepted (area at_read) (bytes (lent at_read)) (rows at_read) accepted.if-sizes-ne0.false c.before.if-sizes.false))))
+    let at_read = read accepted in
+    sym (length-take-le _ (area at_read) (omega (arith, area_long (area at_read) (bytes (lent at_read)) (read_accepted (area at_read) (bytes (lent at_read)) (rows at_read) accepted.if-sizes-ne0.false c.if-sizes.false))))
 
 of_bytes_requires : tie.Need-of_bytes-present-requires
 of_bytes_requires c κs = search rules
@@ -102,7 +102,7 @@ returns_3 c =
     let shown = c.before.before.before in
     let plain = shown.before.before in
     let accepted = plain.before in
-    let at_read = read accepted.before in
+    let at_read = read accepted in
     answer_given (area at_read) (bytes (lent at_read)) (rows at_read) accepted.if-sizes-ne0.false plain.if-sizes.false shown.of_bytes-present.ensures.is_number c.offered_rank.ensures
 
 pub answer_area_spec : {M : Type 1} → statement M

@@ -21,11 +21,11 @@ use Rattle.editing.proofs.area.change_bytes.Statement.{statement}
 use Rattle.editing.proofs.area.change_bytes.Tie as tie
 
 -- the room for what the edit changes, by what it is
-row_room : (c : tie.In-SetPlace-2) → let k = c.before.before.before in EditRoom k.args.n k.args.a k.args.area-1.now (set_place c.edit-1.given.0.0 c.edit-1.given.0.1.0)
-row_room c = let k = c.before.before.before in subst (λ (e : Edit). EditRoom k.args.n k.args.a k.args.area-1.now (meant e)) c.edit-1.given.1 k.requires.2
+row_room : (c : tie.In-SetPlace-2) → let k = c.before.before.before in EditRoom k.args.n k.args.a k.args.area.now (set_place c.edit.given.0.0 c.edit.given.0.1.0)
+row_room c = let k = c.before.before.before in subst (λ (e : Edit). EditRoom k.args.n k.args.a k.args.area.now (meant e)) c.edit.given.1 k.requires.2
 
-row_room_2 : (c : tie.In-ClearPlace-2) → let k = c.before.before.before in EditRoom k.args.n k.args.a k.args.area-1.now (clear_place c.edit-in-ClearPlace-1.given.0.0 c.edit-in-ClearPlace-1.given.0.1.0)
-row_room_2 c = let k = c.before.before.before in subst (λ (e : Edit). EditRoom k.args.n k.args.a k.args.area-1.now (meant e)) c.edit-in-ClearPlace-1.given.1 k.requires.2
+row_room_2 : (c : tie.In-ClearPlace-2) → let k = c.before.before.before in EditRoom k.args.n k.args.a k.args.area.now (clear_place c.edit-in-ClearPlace-1.given.0.0 c.edit-in-ClearPlace-1.given.0.1.0)
+row_room_2 c = let k = c.before.before.before in subst (λ (e : Edit). EditRoom k.args.n k.args.a k.args.area.now (meant e)) c.edit-in-ClearPlace-1.given.1 k.requires.2
 
 -- the columns present, put anew
 columns_put : (area last : List ℕ) (w x : ℕ) → set_bytes ≤ length area → last ≡ over_room (bytes_of set_bytes w) area → w ≡ x → last ≡ over (bytes_of set_bytes x) area
@@ -47,7 +47,7 @@ change_place_requires : tie.Need-change_place-requires
 change_place_requires c κs =
     let named = c.before.before.before.before in
     let k = named.before.before.before in
-    (omega (arith, c.before.row_start.ensures, c.parameter_size.ensures, (row_room named).1), omega (arith, c.parameter_size.ensures, parameter_size_most k.args.n))
+    (omega (arith, c.row_start.ensures, c.parameter_size.ensures, (row_room named).1), omega (arith, c.parameter_size.ensures, parameter_size_most k.args.n))
 
 enum_known_edit_2 : tie.Need-enum_known-edit-in-ClearPlace-1
 enum_known_edit_2 c = search rules
@@ -65,7 +65,7 @@ change_place_requires_2 : tie.Need-change_place-requires-in-ClearPlace
 change_place_requires_2 c κs =
     let named = c.before.before.before.before in
     let k = named.before.before.before in
-    (omega (arith, c.before.row_start-in-ClearPlace.ensures, c.parameter_size-in-ClearPlace.ensures, (row_room_2 named).1), omega (arith, c.parameter_size-in-ClearPlace.ensures, parameter_size_most k.args.n))
+    (omega (arith, c.row_start-in-ClearPlace.ensures, c.parameter_size-in-ClearPlace.ensures, (row_room_2 named).1), omega (arith, c.parameter_size-in-ClearPlace.ensures, parameter_size_most k.args.n))
 
 enum_told : tie.Need-enum_told-1
 enum_told c = search rules
@@ -95,10 +95,10 @@ returns c =
     let sized = put.before in
     let named = sized.before.before.before.before in
     let k = named.before.before.before in
-    let area = k.args.area-1.now in
+    let area = k.args.area.now in
     put.change_place.ensures
-    ∙ ap₂ (λ (at size : ℕ). row_done at size area named.edit-1.given.0.1.0 true) sized.before.row_start.ensures sized.parameter_size.ensures
-    ∙ sym (ap (λ (e : Edit). bytes_done k.args.n k.args.a (whole k.args.present) area (meant e)) named.edit-1.given.1)
+    ∙ ap₂ (λ (at size : ℕ). row_done at size area named.edit.given.0.1.0 true) sized.row_start.ensures sized.parameter_size.ensures
+    ∙ sym (ap (λ (e : Edit). bytes_done k.args.n k.args.a (whole k.args.present) area (meant e)) named.edit.given.1)
 
 same_length_2 : tie.Need-shape_of-area-in-ClearPlace
 same_length_2 c = search rules
@@ -110,9 +110,9 @@ returns_2 c =
     let sized = put.before in
     let named = sized.before.before.before.before in
     let k = named.before.before.before in
-    let area = k.args.area-1.now in
+    let area = k.args.area.now in
     put.change_place-in-ClearPlace.ensures
-    ∙ ap₂ (λ (at size : ℕ). row_done at size area named.edit-in-ClearPlace-1.given.0.1.0 false) sized.before.row_start-in-ClearPlace.ensures sized.parameter_size-in-ClearPlace.ensures
+    ∙ ap₂ (λ (at size : ℕ). row_done at size area named.edit-in-ClearPlace-1.given.0.1.0 false) sized.row_start-in-ClearPlace.ensures sized.parameter_size-in-ClearPlace.ensures
     ∙ sym (ap (λ (e : Edit). bytes_done k.args.n k.args.a (whole k.args.present) area (meant e)) named.edit-in-ClearPlace-1.given.1)
 
 same_length_3 : tie.Need-shape_of-area-in-TakeOff
@@ -125,8 +125,8 @@ returns_3 c =
     let made = put.before in
     let told = made.before.before in
     let k = told.before.before.before in
-    let area = k.args.area-1.now in
-    let is = told.enum_told-1.given.1 in
+    let area = k.args.area.now in
+    let is = told.enum_told.given.1 in
     columns_put area _ _ _ (subst (λ (e : Edit). EditRoom k.args.n k.args.a area (meant e)) is k.requires.2) put.put_set.ensures.bytes_are made.changed_columns.ensures
     ∙ ap (λ (e : Edit). over (bytes_of set_bytes (columns_done (whole k.args.present) (meant e))) area) is
     ∙ sym (ap (λ (e : Edit). bytes_done k.args.n k.args.a (whole k.args.present) area (meant e)) is)
@@ -141,7 +141,7 @@ returns_4 c =
     let made = put.before in
     let told = made.before.before in
     let k = told.before.before.before in
-    let area = k.args.area-1.now in
+    let area = k.args.area.now in
     let is = told.enum_told-in-PutBack-1.given.1 in
     columns_put area _ _ _ (subst (λ (e : Edit). EditRoom k.args.n k.args.a area (meant e)) is k.requires.2) put.put_set-in-PutBack.ensures.bytes_are made.changed_columns-in-PutBack.ensures
     ∙ ap (λ (e : Edit). over (bytes_of set_bytes (columns_done (whole k.args.present) (meant e))) area) is

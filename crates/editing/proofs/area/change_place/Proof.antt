@@ -44,7 +44,7 @@ returns c =
     let at-changed = put.before in
     let read = at-changed.before.before in
     let k = read.before.before.before.before in
-    row_put k.args.at k.args.size k.args.area-1.now _ k.args.c k.args.value (whole read.of_bytes-row.result) (whole at-changed.changed.result)
+    row_put k.args.at k.args.size k.args.area.now _ k.args.c k.args.value (whole read.of_bytes-row.result) (whole at-changed.changed.result)
     k.requires.0 k.requires.1 read.of_bytes-row.ensures.is_number at-changed.changed.ensures put.put_set_front.ensures.bytes_are
 
 pub change_place_spec : {M : Type 1} → statement M

@@ -13,18 +13,18 @@ with_requires c κs = search rules
 
 returns : tie.Need-returns-then-value
 returns c =
-    let a = c.before.before.args in
-    let fits : Fits c.with.result = search (rules, c.with.type-inv) in
-    with_column (whole a.set) (whole c.with.result) a.c (whole_below c.with.result fits) c.with.ensures ∙ ap (place_done (whole a.set) a.c) (sym c.before.if-value.true)
+    let a = c.args in
+    let fits : Fits c.with.result = search (rules, c.with.type_inv) in
+    with_column (whole a.set) (whole c.with.result) a.c (whole_below c.with.result fits) c.with.ensures ∙ ap (place_done (whole a.set) a.c) (sym c.if-value.true)
 
 without_requires : tie.Need-without-requires
 without_requires c κs = search rules
 
 returns_2 : tie.Need-returns
 returns_2 c =
-    let a = c.before.before.args in
-    let fits : Fits c.without.result = search (rules, c.without.type-inv) in
-    without_column (whole a.set) (whole c.without.result) a.c (whole_below c.without.result fits) c.without.ensures ∙ ap (place_done (whole a.set) a.c) (sym c.before.if-value.false)
+    let a = c.args in
+    let fits : Fits c.without.result = search (rules, c.without.type_inv) in
+    without_column (whole a.set) (whole c.without.result) a.c (whole_below c.without.result fits) c.without.ensures ∙ ap (place_done (whole a.set) a.c) (sym c.if-value.false)
 
 pub changed_spec : {M : Type 1} → statement M
 changed_spec = tie.close (tie.spec with_requires returns without_requires returns_2)

@@ -13,7 +13,7 @@ use Rattle.editing.proofs.area.edit_area.Tie as tie
 
 -- where the area is known, and where the call begins
 abbrev lent : tie.After-read_unnumbered_header-header → tie.After-slice_known-1
-lent c = c.before.before.before.before
+lent c = c.before.before.before
 
 abbrev start : tie.After-read_unnumbered_header-header → tie.Start
 start c = (lent c).before
@@ -23,13 +23,13 @@ abbrev file_read : tie.After-read_edit-named → tie.After-read_unnumbered_heade
 file_read c = c.before.before.before
 
 abbrev edit_read : tie.After-of_bytes-present → tie.After-read_edit-named
-edit_read c = c.before.before.before.before.before
+edit_read c = c.before.before.before.before
 
-bytes : (c : tie.After-slice_known-1) → AreBytes c.before.args.area-1.now
+bytes : (c : tie.After-slice_known-1) → AreBytes c.args.area.now
 bytes c i = search (rules, c.slice_known-1.given i)
 
-said : (c : tie.After-read_unnumbered_header-header) → c.read_unnumbered_header-header.result ≡ unnumbered_header (area_file (start c).args.area-1.now)
-said c = c.read_unnumbered_header-header.ensures ∙ ap unnumbered_header c.before.file_in.ensures
+said : (c : tie.After-read_unnumbered_header-header) → c.read_unnumbered_header-header.result ≡ unnumbered_header (area_file (start c).args.area.now)
+said c = c.read_unnumbered_header-header.ensures ∙ ap unnumbered_header c.file_in.ensures
 
 file_in_requires : tie.Need-file_in-requires
 file_in_requires c κs = search rules
@@ -43,7 +43,7 @@ same_length c = search rules
 returns : tie.Need-returns-then-header-ne0
 returns c =
     let read = c.before.before in
-    refused_file (start read).args.area-1.now (start read).args.bytes.now (said read) c.if-header-ne0.true
+    refused_file (start read).args.area.now (start read).args.bytes.now (said read) c.if-header-ne0.true
 
 read_edit_requires : tie.Need-read_edit-named-requires
 read_edit_requires c κs = search rules
@@ -55,7 +55,7 @@ returns_2 : tie.Need-returns-then-named-ne0
 returns_2 c =
     let named = c.before.before in
     let read = file_read named in
-    refused_bytes (start read).args.area-1.now (start read).args.bytes.now (said read) named.before.if-header-ne0.false named.read_edit-named.ensures c.if-named-ne0.true
+    refused_bytes (start read).args.area.now (start read).args.bytes.now (said read) named.if-header-ne0.false named.read_edit-named.ensures c.if-named-ne0.true
 
 cast_n : tie.Need-overflow_cast-n
 cast_n c = search rules
@@ -65,10 +65,10 @@ slice_reshare_prefix_of_bytes c =
     let named = c.before.before.before in
     let read = file_read named in
     let a = (start read).args in
-    omega (arith, area_long a.area-1.now (bytes (lent read)) (file_accepted a.area-1.now a.bytes.now (said read) named.before.if-header-ne0.false))
+    omega (arith, area_long a.area.now (bytes (lent read)) (file_accepted a.area.now a.bytes.now (said read) named.if-header-ne0.false))
 
 slice_aggregate_of_bytes : tie.Need-slice_bounds-of_bytes-end-2
-slice_aggregate_of_bytes c = sym (length-take-le _ (start (file_read c.before.before.before.before)).args.area-1.now (slice_reshare_prefix_of_bytes c.before))
+slice_aggregate_of_bytes c = sym (length-take-le _ (start (file_read c.before.before.before)).args.area.now (slice_reshare_prefix_of_bytes c.before))
 
 of_bytes_requires : tie.Need-of_bytes-present-requires
 of_bytes_requires c κs = search rules
@@ -88,7 +88,7 @@ returns_3 c =
     let shown = judged.before.before in
     let named = edit_read shown in
     let read = file_read named in
-    refused_own (start read).args.area-1.now (start read).args.bytes.now (said read) named.before.if-header-ne0.false named.read_edit-named.ensures shown.before.before.before.if-named-ne0.false
+    refused_own (start read).args.area.now (start read).args.bytes.now (said read) named.if-header-ne0.false named.read_edit-named.ensures shown.if-named-ne0.false
     shown.of_bytes-present.ensures.is_number judged.judge_edit-own.ensures c.if-own-ne0.true
 
 cast_change_bytes : tie.Need-overflow_cast-header-2
@@ -101,7 +101,7 @@ change_bytes_requires c κs =
     let shown = judged.before.before in
     let named = edit_read shown in
     let read = file_read named in
-    edit_room (start read).args.area-1.now (start read).args.bytes.now (said read) named.before.if-header-ne0.false named.read_edit-named.ensures shown.before.before.before.if-named-ne0.false
+    edit_room (start read).args.area.now (start read).args.bytes.now (said read) named.if-header-ne0.false named.read_edit-named.ensures shown.if-named-ne0.false
     shown.of_bytes-present.ensures.is_number judged.judge_edit-own.ensures (bytes (lent read)) passed.if-own-ne0.false
 
 same_length_4 : tie.Need-shape_of-area
@@ -115,7 +115,7 @@ returns_4 c =
     let shown = judged.before.before in
     let named = edit_read shown in
     let read = file_read named in
-    edit_made (start read).args.area-1.now (start read).args.bytes.now (said read) named.before.if-header-ne0.false named.read_edit-named.ensures shown.before.before.before.if-named-ne0.false
+    edit_made (start read).args.area.now (start read).args.bytes.now (said read) named.if-header-ne0.false named.read_edit-named.ensures shown.if-named-ne0.false
     shown.of_bytes-present.ensures.is_number judged.judge_edit-own.ensures (bytes (lent read)) passed.if-own-ne0.false made.change_bytes.ensures
 
 pub edit_area_spec : {M : Type 1} → statement M

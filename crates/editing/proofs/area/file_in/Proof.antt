@@ -22,8 +22,8 @@ part_result_end c = search rules
 returns : tie.Need-returns-then-end-lt-SET_BYTES
 unfolding area_file
 returns c =
-    let area = c.before.before.args.area.now in
-    tail_part (length area) area ∙ drop-length area ∙ sym (drop_of_length-le area {i = set_bytes} (omega (arith, c.before.if-end-lt-SET_BYTES.true)))
+    let area = c.args.area.now in
+    tail_part (length area) area ∙ drop-length area ∙ sym (drop_of_length-le area {i = set_bytes} (omega (arith, c.if-end-lt-SET_BYTES.true)))
 
 sub_result_2 : tie.Need-slice_bounds-result-count-2
 sub_result_2 c = search rules
@@ -36,7 +36,7 @@ part_result_end_2 c = search rules
 
 returns_2 : tie.Need-returns
 unfolding area_file
-returns_2 c = tail_part set_bytes c.before.before.args.area.now
+returns_2 c = tail_part set_bytes c.args.area.now
 
 pub file_in_spec : {M : Type 1} → statement M
 file_in_spec =

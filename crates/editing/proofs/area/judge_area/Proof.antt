@@ -14,7 +14,7 @@ read_unnumbered_header_requires : tie.Need-read_unnumbered_header-requires
 read_unnumbered_header_requires c κs = search rules
 
 returns : tie.Need-returns
-returns c = ap (λ (h : Header). h.refusal) c.read_unnumbered_header.ensures ∙ unnumbered_header_refusal _ ∙ ap unnumbered_judge c.before.file_in.ensures
+returns c = ap (λ (h : Header). h.refusal) c.read_unnumbered_header.ensures ∙ unnumbered_header_refusal _ ∙ ap unnumbered_judge c.file_in.ensures
 
 pub judge_area_spec : {M : Type 1} → statement M
 judge_area_spec = tie.close (tie.spec file_in_requires read_unnumbered_header_requires returns)

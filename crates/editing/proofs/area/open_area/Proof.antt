@@ -15,9 +15,9 @@ abbrev read : tie.After-struct_known-1 → tie.After-read_rows-sizes
 read c = c.before.before.before
 
 abbrev long : tie.After-write_file-written → tie.Else-area-lt-SET_BYTES
-long c = c.before.before.before.before.before
+long c = c.before.before.before.before.before.before
 
-bytes : (c : tie.After-shared_slice_known-1) → AreBytes c.before.args.file.now
+bytes : (c : tie.After-shared_slice_known-1) → AreBytes c.args.file.now
 bytes c i = search (rules, c.shared_slice_known-1.given i)
 
 slice_aggregate_read_rows : tie.Need-slice_bounds-read_rows-end
@@ -32,14 +32,14 @@ read_rows_requires c κs = search rules
 returns : tie.Need-returns-then-sizes-ne0
 returns c =
     let at_read = read c.before in
-    let a = (known at_read).before.args in
-    open_refused a.file.now a.area-1.now (bytes (known at_read)) at_read.read_rows-sizes.ensures c.if-sizes-ne0.true
+    let a = (known at_read).args in
+    open_refused a.file.now a.area.now (bytes (known at_read)) at_read.read_rows-sizes.ensures c.if-sizes-ne0.true
 
 returns_2 : tie.Need-returns-then-area-lt-SET_BYTES
 returns_2 c =
     let at_read = read c.before.before in
-    let a = (known at_read).before.args in
-    open_short a.file.now a.area-1.now (bytes (known at_read)) at_read.read_rows-sizes.ensures c.before.if-sizes-ne0.false c.if-area-lt-SET_BYTES.true
+    let a = (known at_read).args in
+    open_short a.file.now a.area.now (bytes (known at_read)) at_read.read_rows-sizes.ensures c.if-sizes-ne0.false c.if-area-lt-SET_BYTES.true
 
 slice_aggregate_write_file : tie.Need-slice_bounds-write_file-end
 slice_aggregate_write_file c = search rules
@@ -68,8 +68,8 @@ returns_3 c =
     let written = c.before.before.before.before in
     let at_long = long written in
     let at_read = read at_long.before.before in
-    let a = (known at_read).before.args in
-    unwritten a.file.now a.area-1.now (bytes (known at_read)) at_read.read_rows-sizes.ensures at_long.before.if-sizes-ne0.false at_long.if-area-lt-SET_BYTES.false written.write_file-written.ensures c.if-written-ne0.true
+    let a = (known at_read).args in
+    unwritten a.file.now a.area.now (bytes (known at_read)) at_read.read_rows-sizes.ensures at_long.if-sizes-ne0.false at_long.if-area-lt-SET_BYTES.false written.write_file-written.ensures c.if-written-ne0.true
 
 below_requires : tie.Need-below-requires
 below_requires c κs = search rules
@@ -89,9 +89,9 @@ returns_4 c =
     let written = done.before.before.before.before in
     let at_long = long written in
     let at_read = read at_long.before.before in
-    let a = (known at_read).before.args in
-    let fits : Fits at-below.below.result = search (rules, at-below.below.type-inv) in
-    opens a.file.now a.area-1.now (bytes (known at_read)) at_read.read_rows-sizes.ensures at_long.before.if-sizes-ne0.false at_long.if-area-lt-SET_BYTES.false written.write_file-written.ensures done.if-written-ne0.false
+    let a = (known at_read).args in
+    let fits : Fits at-below.below.result = search (rules, at-below.below.type_inv) in
+    opens a.file.now a.area.now (bytes (known at_read)) at_read.read_rows-sizes.ensures at_long.if-sizes-ne0.false at_long.if-area-lt-SET_BYTES.false written.write_file-written.ensures done.if-written-ne0.false
     fits at-below.below.ensures put.put_set.ensures
 
 pub open_area_spec : {M : Type 1} → statement M

@@ -15,11 +15,11 @@ constant_rows : (c : tie.Start) → c.args.a * (head_bytes + 2 * c.args.n) ≤ m
 constant_rows c = mul-le-mul c.requires.1 (let w : head_bytes + 2 * c.args.n ≤ head_bytes + 2 * most_columns = omega (arith, c.requires.0) in w)
 
 -- the rows before, by the size that the call gives
-rows_before : (c : tie.After-parameter_size) → c.before.args.r * (head_bytes + c.parameter_size.result) ≡ c.before.args.r * (head_bytes + parameter_size c.before.args.n)
-rows_before c = ap (λ k. c.before.args.r * (head_bytes + k)) c.parameter_size.ensures
+rows_before : (c : tie.After-parameter_size) → c.args.r * (head_bytes + c.parameter_size.result) ≡ c.args.r * (head_bytes + parameter_size c.args.n)
+rows_before c = ap (λ k. c.args.r * (head_bytes + k)) c.parameter_size.ensures
 
-rows_few : (c : tie.After-parameter_size) → c.before.args.r * (head_bytes + c.parameter_size.result) ≤ most_rows * (head_bytes + set_bytes)
-rows_few c = omega (arith, rows_before c, parameter_rows_most c.before.args.r c.before.args.n c.before.requires.2)
+rows_few : (c : tie.After-parameter_size) → c.args.r * (head_bytes + c.parameter_size.result) ≤ most_rows * (head_bytes + set_bytes)
+rows_few c = omega (arith, rows_before c, parameter_rows_most c.args.r c.args.n c.requires.2)
 
 add_front : tie.Need-overflow_add-front
 add_front c = search rules
@@ -49,7 +49,7 @@ parameter_size_requires : tie.Need-parameter_size-requires
 parameter_size_requires c κs = search rules
 
 add_result_3 : tie.Need-overflow_add-result-3
-add_result_3 c = search (rules, c.parameter_size.ensures, parameter_size_most c.before.args.n)
+add_result_3 c = search (rules, c.parameter_size.ensures, parameter_size_most c.args.n)
 
 mul_result_3 : tie.Need-overflow_mul-result-3
 mul_result_3 c = search (rules, rows_few c)

@@ -48,10 +48,10 @@ returns c =
     let put = c.before.before in
     let made = put.before.before in
     let named = made.before.before.before.before in
-    let words = named.before.before.before.args.words-1.now in
+    let words = named.args.words.now in
     put.put_row.ensures
-    ∙ row_changed words _ _ _ _ true made.before.row.ensures (with_column _ _ _ (whole_below _ (search (rules, made.with-row.type-inv))) made.with-row.ensures)
-    ∙ sym (ap (λ (e : Edit). words_done words (meant e)) named.edit-1.given.1)
+    ∙ row_changed words _ _ _ _ true made.row.ensures (with_column _ _ _ (whole_below _ (search (rules, made.with-row.type_inv))) made.with-row.ensures)
+    ∙ sym (ap (λ (e : Edit). words_done words (meant e)) named.edit.given.1)
 
 same_length_2 : tie.Need-shape_of-words-in-ClearPlace
 same_length_2 c = search rules
@@ -62,18 +62,18 @@ returns_2 c =
     let put = c.before.before in
     let made = put.before.before in
     let named = made.before.before.before.before in
-    let words = named.before.before.before.args.words-1.now in
+    let words = named.args.words.now in
     put.put_row-in-ClearPlace.ensures
-    ∙ row_changed words _ _ _ _ false made.before.row-in-ClearPlace.ensures (without_column _ _ _ (whole_below _ (search (rules, made.without-row.type-inv))) made.without-row.ensures)
+    ∙ row_changed words _ _ _ _ false made.row-in-ClearPlace.ensures (without_column _ _ _ (whole_below _ (search (rules, made.without-row.type_inv))) made.without-row.ensures)
     ∙ sym (ap (λ (e : Edit). words_done words (meant e)) named.edit-in-ClearPlace-1.given.1)
 
 returns_3 : tie.Need-returns-in-TakeOff
 unfolding words_done
-returns_3 c = sym (ap (λ (e : Edit). words_done c.before.before.before.args.words-1.now (meant e)) c.enum_told-1.given.1)
+returns_3 c = sym (ap (λ (e : Edit). words_done c.args.words.now (meant e)) c.enum_told.given.1)
 
 returns_4 : tie.Need-returns-in-PutBack
 unfolding words_done
-returns_4 c = sym (ap (λ (e : Edit). words_done c.before.before.before.args.words-1.now (meant e)) c.enum_told-in-PutBack-1.given.1)
+returns_4 c = sym (ap (λ (e : Edit). words_done c.args.words.now (meant e)) c.enum_told-in-PutBack-1.given.1)
 
 pub change_rows_spec : {M : Type 1} → statement M
 change_rows_spec =

@@ -33,28 +33,28 @@ enum_told_2 c = search rules
 returns : tie.Need-returns-in-TakeOff
 unfolding columns_done present_done place_done
 returns c =
-    let a = c.before.before.before.before.args in
-    without_column (whole a.present) _ _ (whole_below _ (search (rules, c.without.type-inv))) c.without.ensures
-    ∙ sym (ap (λ (e : Edit). columns_done (whole a.present) (meant e)) c.before.before.edit-1.given.1)
+    let a = c.args in
+    without_column (whole a.present) _ _ (whole_below _ (search (rules, c.without.type_inv))) c.without.ensures
+    ∙ sym (ap (λ (e : Edit). columns_done (whole a.present) (meant e)) c.before.before.edit.given.1)
 
 returns_2 : tie.Need-returns-in-PutBack
 unfolding columns_done present_done place_done
 returns_2 c =
-    let a = c.before.before.before.before.args in
-    with_column (whole a.present) _ _ (whole_below _ (search (rules, c.with.type-inv))) c.with.ensures
-    ∙ sym (ap (λ (e : Edit). columns_done (whole a.present) (meant e)) c.before.before.edit-in-PutBack-1.given.1)
+    let a = c.args in
+    with_column (whole a.present) _ _ (whole_below _ (search (rules, c.with.type_inv))) c.with.ensures
+    ∙ sym (ap (λ (e : Edit). columns_done (whole a.present) (meant e)) c.edit-in-PutBack-1.given.1)
 
 returns_3 : tie.Need-returns-in-SetPlace
 unfolding columns_done present_done
 returns_3 c =
-    let a = c.before.before.args in
-    word_members width (whole a.present) (whole_below _ (search (rules, c.before.before.well-formed))) ∙ sym (ap (λ (e : Edit). columns_done (whole a.present) (meant e)) c.enum_told-1.given.1)
+    let a = c.args in
+    word_members width (whole a.present) (whole_below _ (search (rules, c.before.before.well_formed))) ∙ sym (ap (λ (e : Edit). columns_done (whole a.present) (meant e)) c.enum_told.given.1)
 
 returns_4 : tie.Need-returns-in-ClearPlace
 unfolding columns_done present_done
 returns_4 c =
-    let a = c.before.before.args in
-    word_members width (whole a.present) (whole_below _ (search (rules, c.before.before.well-formed))) ∙ sym (ap (λ (e : Edit). columns_done (whole a.present) (meant e)) c.enum_told-in-ClearPlace-1.given.1)
+    let a = c.args in
+    word_members width (whole a.present) (whole_below _ (search (rules, c.before.before.well_formed))) ∙ sym (ap (λ (e : Edit). columns_done (whole a.present) (meant e)) c.enum_told-in-ClearPlace-1.given.1)
 
 pub changed_columns_spec : {M : Type 1} → statement M
 changed_columns_spec =

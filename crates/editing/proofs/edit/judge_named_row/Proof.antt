@@ -28,19 +28,19 @@ enum_told_2 c = search rules
 
 returns : tie.Need-returns-in-SetPlace
 unfolding row_refusal row_tests
-returns c = c.judge_row.ensures ∙ sym (ap (λ (e : Edit). row_refusal c.before.before.before.before.args.b (meant e)) c.before.before.edit-1.given.1)
+returns c = c.judge_row.ensures ∙ sym (ap (λ (e : Edit). row_refusal c.args.b (meant e)) c.before.before.edit.given.1)
 
 returns_2 : tie.Need-returns-in-ClearPlace
 unfolding row_refusal row_tests
-returns_2 c = c.judge_row-in-ClearPlace.ensures ∙ sym (ap (λ (e : Edit). row_refusal c.before.before.before.before.args.b (meant e)) c.before.before.edit-in-ClearPlace-1.given.1)
+returns_2 c = c.judge_row-in-ClearPlace.ensures ∙ sym (ap (λ (e : Edit). row_refusal c.args.b (meant e)) c.edit-in-ClearPlace-1.given.1)
 
 returns_3 : tie.Need-returns-in-TakeOff
 unfolding row_refusal row_tests first_refusal
-returns_3 c = sym (ap (λ (e : Edit). row_refusal c.before.before.args.b (meant e)) c.enum_told-1.given.1)
+returns_3 c = sym (ap (λ (e : Edit). row_refusal c.args.b (meant e)) c.enum_told.given.1)
 
 returns_4 : tie.Need-returns-in-PutBack
 unfolding row_refusal row_tests first_refusal
-returns_4 c = sym (ap (λ (e : Edit). row_refusal c.before.before.args.b (meant e)) c.enum_told-in-PutBack-1.given.1)
+returns_4 c = sym (ap (λ (e : Edit). row_refusal c.args.b (meant e)) c.enum_told-in-PutBack-1.given.1)
 
 pub judge_named_row_spec : {M : Type 1} → statement M
 judge_named_row_spec =

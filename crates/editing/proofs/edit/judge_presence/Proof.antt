@@ -37,22 +37,22 @@ enum_told_2 c = search rules
 returns : tie.Need-returns-in-TakeOff
 unfolding presence_refusal presence_tests
 returns c =
-    c.judge_is.ensures ∙ ap (λ (t : Bool). first_refusal (unless t already_so)) c.before.contains.ensures
-    ∙ sym (ap (λ (e : Edit). presence_refusal (whole c.before.before.before.before.before.args.present) (meant e)) c.before.before.before.edit-1.given.1)
+    c.judge_is.ensures ∙ ap (λ (t : Bool). first_refusal (unless t already_so)) c.contains.ensures
+    ∙ sym (ap (λ (e : Edit). presence_refusal (whole c.args.present) (meant e)) c.before.before.before.edit.given.1)
 
 returns_2 : tie.Need-returns-in-PutBack
 unfolding presence_refusal presence_tests
 returns_2 c =
-    c.judge_is-in-PutBack.ensures ∙ ap (λ (t : Bool). first_refusal (unless (not t) already_so)) c.before.contains-in-PutBack.ensures
-    ∙ sym (ap (λ (e : Edit). presence_refusal (whole c.before.before.before.before.before.args.present) (meant e)) c.before.before.before.edit-in-PutBack-1.given.1)
+    c.judge_is-in-PutBack.ensures ∙ ap (λ (t : Bool). first_refusal (unless (not t) already_so)) c.contains-in-PutBack.ensures
+    ∙ sym (ap (λ (e : Edit). presence_refusal (whole c.args.present) (meant e)) c.edit-in-PutBack-1.given.1)
 
 returns_3 : tie.Need-returns-in-SetPlace
 unfolding presence_refusal presence_tests first_refusal
-returns_3 c = sym (ap (λ (e : Edit). presence_refusal (whole c.before.before.args.present) (meant e)) c.enum_told-1.given.1)
+returns_3 c = sym (ap (λ (e : Edit). presence_refusal (whole c.args.present) (meant e)) c.enum_told.given.1)
 
 returns_4 : tie.Need-returns-in-ClearPlace
 unfolding presence_refusal presence_tests first_refusal
-returns_4 c = sym (ap (λ (e : Edit). presence_refusal (whole c.before.before.args.present) (meant e)) c.enum_told-in-ClearPlace-1.given.1)
+returns_4 c = sym (ap (λ (e : Edit). presence_refusal (whole c.args.present) (meant e)) c.enum_told-in-ClearPlace-1.given.1)
 
 pub judge_presence_spec : {M : Type 1} → statement M
 judge_presence_spec =

@@ -21,19 +21,19 @@ enum_known_edit_4 c = search rules
 
 returns : tie.Need-returns-in-TakeOff
 unfolding column_of
-returns c = sym (ap (λ (e : Edit). column_of (meant e)) c.before.edit-1.given.1)
+returns c = sym (ap (λ (e : Edit). column_of (meant e)) c.before.edit.given.1)
 
 returns_2 : tie.Need-returns-in-PutBack
 unfolding column_of
-returns_2 c = sym (ap (λ (e : Edit). column_of (meant e)) c.before.edit-in-PutBack-1.given.1)
+returns_2 c = sym (ap (λ (e : Edit). column_of (meant e)) c.edit-in-PutBack-1.given.1)
 
 returns_3 : tie.Need-returns-in-SetPlace
 unfolding column_of
-returns_3 c = sym (ap (λ (e : Edit). column_of (meant e)) c.before.edit-in-SetPlace-1.given.1)
+returns_3 c = sym (ap (λ (e : Edit). column_of (meant e)) c.edit-in-SetPlace-1.given.1)
 
 returns_4 : tie.Need-returns-in-ClearPlace
 unfolding column_of
-returns_4 c = sym (ap (λ (e : Edit). column_of (meant e)) c.before.edit-in-ClearPlace-1.given.1)
+returns_4 c = sym (ap (λ (e : Edit). column_of (meant e)) c.edit-in-ClearPlace-1.given.1)
 
 pub named_column_spec : {M : Type 1} → statement M
 named_column_spec =

@@ -15,7 +15,7 @@ use Rattle.editing.proofs.edit.read_edit.Tie as tie
 returns : tie.Need-returns-then-bytes-lt-EDIT_BYTES
 unfolding byte_tests
 returns c =
-    let bytes = c.before.before.args.bytes.now in
+    let bytes = c.args.bytes.now in
     let z : 1 ≡ first_refusal (byte_tests bytes) = first_fails _ truncated (kind_tests (get_or bytes 0 0)) (lt-leb _ _ c.if-bytes-lt-EDIT_BYTES.true) in
     record { is_refusal = z; is_edit = sym (where_refused 1 z (λ e. omega arith) (edit_of bytes) (take_off 0)) }
 
@@ -41,8 +41,8 @@ returns_2 : tie.Need-returns
 unfolding byte_tests edit_of
 returns_2 c =
     let h = c.name_edit.ensures in
-    let bytes = c.before.before.before.before.before.before.args.bytes.now in
-    let same = first_passes _ truncated (kind_tests (get_or bytes 0 0)) _ (le-leb _ _ c.before.before.before.before.if-bytes-lt-EDIT_BYTES.false) refl in
+    let bytes = c.args.bytes.now in
+    let same = first_passes _ truncated (kind_tests (get_or bytes 0 0)) _ (le-leb _ _ c.if-bytes-lt-EDIT_BYTES.false) refl in
     record { is_refusal = h.is_refusal ∙ same; is_edit = h.is_edit ∙ ap (λ (k : ℕ). where_accepted k (edit_of bytes) (take_off 0)) same }
 
 pub read_edit_spec : {M : Type 1} → statement M

@@ -12,8 +12,8 @@ cast_result c = search rules
 
 returns : tie.Need-returns
 returns c =
-    let a = c.before.before.args in
-    below_largest a.p a.k c.largest.result a.constants.now c.before.before.requires.1 c.largest.ensures
+    let a = c.args in
+    below_largest a.p a.k c.largest.result a.constants.now c.requires.1 c.largest.ensures
 
 pub constants_below_spec : {M : Type 1} → statement M
 constants_below_spec = tie.close (tie.spec largest_requires cast_result returns)

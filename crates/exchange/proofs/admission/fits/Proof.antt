@@ -15,15 +15,15 @@ begun c = c.before.before.before
 
 returns : tie.Need-returns-then-n-gt-MOST_COLUMNS
 unfolding fitting
-returns c = let a = c.before.args in rw (lt-leb a.n most_columns c.if-n-gt-MOST_COLUMNS.true) refl
+returns c = let a = c.args in rw (lt-leb a.n most_columns c.if-n-gt-MOST_COLUMNS.true) refl
 
 returns_2 : tie.Need-returns-then-a-gt-MOST_ROWS
 unfolding fitting
-returns_2 c = let a = c.before.before.args in rw (le-leb a.n most_columns (omega arith), lt-leb a.a most_rows c.if-a-gt-MOST_ROWS.true) refl
+returns_2 c = let a = c.args in rw (le-leb a.n most_columns (omega arith), lt-leb a.a most_rows c.if-a-gt-MOST_ROWS.true) refl
 
 returns_3 : tie.Need-returns-then-b-gt-MOST_ROWS
 unfolding fitting
-returns_3 c = let a = c.before.before.before.args in rw (le-leb a.n most_columns (omega arith), le-leb a.a most_rows (omega arith), lt-leb a.b most_rows c.if-b-gt-MOST_ROWS.true) refl
+returns_3 c = let a = c.args in rw (le-leb a.n most_columns (omega arith), le-leb a.a most_rows (omega arith), lt-leb a.b most_rows c.if-b-gt-MOST_ROWS.true) refl
 
 mul_if4 : tie.Need-overflow_mul-a
 mul_if4 c =

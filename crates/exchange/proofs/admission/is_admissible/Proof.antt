@@ -34,20 +34,20 @@ contained c = c.before.before.before
 
 -- what each test says
 
-fitted : (c : tie.After-fits2) → let a = (begun c.before).args in c.fits2.result ≡ fitting a.n a.a a.b (length a.constants.now) (length (row_numbers a.parameters.now))
-fitted c = let a = (begun c.before).args in c.fits2.ensures ∙ ap (fitting a.n a.a a.b (length a.constants.now)) c.before.rows.ensures
+fitted : (c : tie.After-fits) → let a = (begun c.before).args in c.fits.result ≡ fitting a.n a.a a.b (length a.constants.now) (length (row_numbers a.parameters.now))
+fitted c = let a = (begun c.before).args in c.fits.ensures ∙ ap (fitting a.n a.a a.b (length a.constants.now)) c.rows.ensures
 
 fits : (c : tie.Else-not-fits) → let a = (entry c).args in fitting a.n a.a a.b (length a.constants.now) (length (row_numbers a.parameters.now)) ≡ true
 fits c = sym (fitted c.before) ∙ not-false _ c.if-not-fits.false-raw
 
 inside : (c : tie.Else-not-within) → let a = (entry (sized c)).args in within a.n (whole a.offered) ≡ true
-inside c = sym c.before.within.ensures ∙ not-false _ c.if-not-within.false-raw
+inside c = sym c.within.ensures ∙ not-false _ c.if-not-within.false-raw
 
 short : (c : tie.Else-p-gt65535) → ltb (entry (sized c.before)).args.p 65536 ≡ true
 short c = lt-ltb (entry (sized c.before)).args.p 65536 (omega (arith, c.if-p-gt65535.false))
 
 prime : (c : tie.Else-not-is_prime) → is_prime (entry (sized (contained c))).args.p ≡ true
-prime c = sym c.before.is_prime.ensures ∙ not-false _ c.if-not-is_prime.false-raw
+prime c = sym c.is_prime.ensures ∙ not-false _ c.if-not-is_prime.false-raw
 
 -- what the sizes are when all but the last test have passed
 sizes : (c : tie.Else-not-is_prime) → let a = (entry (sized (contained c))).args in Fitting a.n a.a a.b (length a.constants.now) (length (row_numbers a.parameters.now))
@@ -70,7 +70,7 @@ within_requires c κs = search rules
 returns_2 : tie.Need-returns-then-not-within
 returns_2 c =
     let a = (entry c.before.before).args in
-    at_inside a.p a.n a.a a.b (whole a.offered) a.constants.now (row_numbers a.parameters.now) (fits c.before.before) (sym c.before.within.ensures ∙ not-true _ c.if-not-within.true-raw)
+    at_inside a.p a.n a.a a.b (whole a.offered) a.constants.now (row_numbers a.parameters.now) (fits c.before.before) (sym c.within.ensures ∙ not-true _ c.if-not-within.true-raw)
 
 returns_3 : tie.Need-returns-then-p-gt65535
 returns_3 c =
@@ -84,7 +84,7 @@ returns_4 : tie.Need-returns-then-not-is_prime
 returns_4 c =
     let k = c.before.before in
     let a = (entry (sized k.before)).args in
-    at_prime a.p a.n a.a a.b (whole a.offered) a.constants.now (row_numbers a.parameters.now) (fits (sized k.before)) (inside k.before) (short k) (sym c.before.is_prime.ensures ∙ not-true _ c.if-not-is_prime.true-raw)
+    at_prime a.p a.n a.a a.b (whole a.offered) a.constants.now (row_numbers a.parameters.now) (fits (sized k.before)) (inside k.before) (short k) (sym c.is_prime.ensures ∙ not-true _ c.if-not-is_prime.true-raw)
 
 mul_constants_below : tie.Need-overflow_mul-a
 mul_constants_below c =

@@ -13,7 +13,7 @@ use Rattle.exchange.proofs.admission.is_reducible.Tie as tie
 
 -- where the call begins, seen from behind its first test
 abbrev begun : tie.After-is_admissible → tie.Start
-begun c = c.before.before.before.before.before.before
+begun c = c.before.before.before.before.before.before.before
 
 abbrev admitted : tie.Start → Bool
 admitted k = let a = k.args in admissible a.p a.n a.a 0 0 a.constants.now []
@@ -22,7 +22,7 @@ admitted k = let a = k.args in admissible a.p a.n a.a 0 0 a.constants.now []
 tested : (c : tie.After-is_admissible) → c.is_admissible.result ≡ admitted (begun c)
 unfolding row_numbers whole empty_set
 tested c = let a = (begun c).args in c.is_admissible.ensures
-    ∙ ap (λ s. admissible a.p a.n a.a 0 (whole s) a.constants.now []) c.before.before.empty.ensures
+    ∙ ap (λ s. admissible a.p a.n a.a 0 (whole s) a.constants.now []) c.empty.ensures
 
 empty_requires : tie.Need-empty-requires
 empty_requires c κs = search rules
@@ -38,13 +38,13 @@ returns_2 : tie.Need-returns-then-n-weights
 unfolding reducible
 returns_2 c =
     let a = (begun c.before.before).args in
-    rw (sym (tested c.before.before) ∙ not-false _ c.before.if-not-is_admissible.false-raw, lt-leb a.n (length a.weights.now) c.if-n-weights.true) refl
+    rw (sym (tested c.before.before) ∙ not-false _ c.if-not-is_admissible.false-raw, lt-leb a.n (length a.weights.now) c.if-n-weights.true) refl
 
 returns_3 : tie.Need-returns
 unfolding reducible
 returns_3 c =
     let a = (begun c.before.before).args in
-    rw (sym (tested c.before.before) ∙ not-false _ c.before.if-not-is_admissible.false-raw, le-leb a.n (length a.weights.now) c.if-n-weights.false) refl
+    rw (sym (tested c.before.before) ∙ not-false _ c.if-not-is_admissible.false-raw, le-leb a.n (length a.weights.now) c.if-n-weights.false) refl
 
 pub is_reducible_spec : {M : Type 1} → statement M
 is_reducible_spec =

@@ -10,6 +10,7 @@ use borrow.Author.Rules.{rules}
 use native.Mathlib.Omega.{arith}
 use Rattle.exchange.proofs.admission.largest.Statement.{statement}
 use Rattle.exchange.proofs.admission.largest.Tie as tie
+use Rattle.exchange.proofs.admission.largest.Lts.{then-v-top, else-v-top}
 
 largest_more : (cs : List ℕ) (k top : ℕ) → top < get_or cs k 0 → Largest cs k top → Largest cs (k + 1) (get_or cs k 0)
 largest_more cs k top l h = record {
@@ -51,18 +52,18 @@ loop_less c = search rules
 loop_again : tie.Need-loop-i-preserved invariant-loop decreases-loop
 loop_again c =
     let l = (turn c).loop-i in
-    let cs = (turn c).before.args.constants.now in (
+    let cs = (turn c).args.constants.now in (
       omega arith,
-      ⊎_elim
-          (λ w. rw w.1 (largest_more cs l.i l.top w.0.taken l.inv.1))
-          (λ w. rw w.1 (largest_same cs l.i l.top w.0.left l.inv.1))
-          c.if-v-top.branch,
+      elim c.if-v-top.branch [
+        | then-v-top w ↦ rw w.top-is (largest_more cs l.i l.top w.if-v-top.true l.invariant.1)
+        | else-v-top w ↦ rw w.top-is (largest_same cs l.i l.top w.if-v-top.false l.invariant.1)
+      ],
     )
 
 returns : tie.Need-returns invariant-loop decreases-loop
 returns c =
-    let done : c.before.loop-i.i ≡ c.before.before.args.k = omega arith in
-    rw done at c.before.loop-i.invariant.1
+    let done : c.loop-i.i ≡ c.args.k = omega arith in
+    rw done at c.loop-i.invariant.1
 
 pub largest_spec : {M : Type 1} → statement M
 largest_spec =

@@ -28,7 +28,7 @@ abbrev read : tie.After-note-ends invariant-loop decreases-loop → tie.After-in
 read c = c.before.before
 
 abbrev turn : tie.After-intersection-touching invariant-loop decreases-loop → tie.At-loop-q invariant-loop decreases-loop
-turn c = c.before.before.before.before.before
+turn c = c.before.before.before.before.before.before
 
 abbrev begun : tie.At-loop-q invariant-loop decreases-loop → tie.Start invariant-loop decreases-loop
 begun k = k.before.before.before.before
@@ -37,7 +37,7 @@ empty_requires : tie.Need-empty-ends-requires invariant-loop decreases-loop
 empty_requires c κs = search rules
 
 loop_holds : tie.Need-loop-q-init invariant-loop decreases-loop
-loop_holds c = let a = c.before.before.before.args in (search rules, rw (empty_none c.empty-ends.ensures) (linked_none a.n (touched a.a a.t.now (row_numbers a.parameters.now)) (owner_at a.owner.now) (members (whole a.offered)) a.into-1.now))
+loop_holds c = let a = c.args in (search rules, rw (empty_none c.empty-ends.ensures) (linked_none a.n (touched a.a a.t.now (row_numbers a.parameters.now)) (owner_at a.owner.now) (members (whole a.offered)) a.into.now))
 
 element_copy_out_widened : tie.Need-bounds-owner-q invariant-loop decreases-loop
 element_copy_out_widened c = search rules
@@ -70,26 +70,26 @@ loop_again c =
     let tch = touched a.a a.t.now (row_numbers a.parameters.now) in
     let offered = members (whole a.offered) in
     let touching = members (whole r.intersection-touching.result) in
-    let below : (x : ℕ) → x ∈ offered → x < a.n = λ x e. (within_iff a.n (whole a.offered)).0 k.requires.1 x (columns_below a.offered x (search (rules, k.good.1.1.1.1.1.1.0)) e) e in
-    let is_own : r.before.before.widened-y.result ≡ owner_at a.owner.now l.q = r.before.before.widened-y.ensures.0 in
-    let row = members (whole r.before.row_touches.result) in
+    let below : (x : ℕ) → x ∈ offered → x < a.n = λ x e. (within_iff a.n (whole a.offered)).0 k.requires.1 x (columns_below a.offered x (search (rules, k.well_formed.1.1.1.1.1.1.0)) e) e in
+    let is_own : r.widened-y.result ≡ owner_at a.owner.now l.q = r.widened-y.ensures.0 in
+    let row = members (whole r.row_touches.result) in
     let at : (x : ℕ) → touching x ≡ (row x && offered x) = λ x. ap (λ (S : Set). S x) r.intersection-touching.ensures in
     let same : (x : ℕ) → (x ∈ touching) ↔ ((x ∈ offered) × (tch l.q x ≡ true)) = λ x. (
-      (λ e. let w : (row x && offered x) ≡ true = sym (at x) ∙ e in let o : x ∈ offered = and_right (row x) (offered x) w in (o, sym (r.before.row_touches.ensures x (below x o)) ∙ and_left (row x) (offered x) w)),
-      λ w. at x ∙ and_in (r.before.row_touches.ensures x (below x w.0) ∙ w.1) w.0,
+      (λ e. let w : (row x && offered x) ≡ true = sym (at x) ∙ e in let o : x ∈ offered = and_right (row x) (offered x) w in (o, sym (r.row_touches.ensures x (below x o)) ∙ and_left (row x) (offered x) w)),
+      λ w. at x ∙ and_in (r.row_touches.ensures x (below x w.0) ∙ w.1) w.0,
     ) in (
       search rules,
-      linked_more a.n tch (owner_at a.owner.now) offered l.q a.into-1.now l.into-1 put.note-ends.new.0 (members (whole l.ends)) (members (whole put.note-ends.result)) touching l.inv.1 same
+      linked_more a.n tch (owner_at a.owner.now) offered l.q a.into.now l.into put.note-ends.new.into (members (whole l.ends)) (members (whole put.note-ends.result)) touching l.invariant.1 same
           (rw is_own at put.note-ends.ensures),
     )
 
 same_length : tie.Need-shape_of-into invariant-loop decreases-loop
-same_length c = c.before.loop-q.invariant.1.same_length
+same_length c = c.loop-q.invariant.1.same_length
 
 returns : tie.Need-returns invariant-loop decreases-loop
 returns c =
-    let done : c.before.loop-q.q ≡ (begun c.before).args.rows = omega arith in
-    rw done at c.before.loop-q.invariant.1
+    let done : c.loop-q.q ≡ (begun c.before).args.rows = omega arith in
+    rw done at c.loop-q.invariant.1
 
 pub link_spec : {M : Type 1} → statement M
 link_spec =

@@ -25,19 +25,18 @@ returns : tie.Need-returns-then-y-n
 returns c =
     let put = c.before.before in
     let u = put.before in
-    let own = u.before.before.before.before in
-    let a = own.before.before.args in
+    let a = c.args in
     rw put.put_row.ensures
-    (noted_owned a.n a.y (members (whole a.touching)) a.into-1.now (members (whole a.ends)) (whole u.union.result) own.if-y-n.true
-    (u.union.ensures ∙ ap (λ (w : ℕ). members w ∪ members (whole a.touching)) u.before.row.ensures))
+    (noted_owned a.n a.y (members (whole a.touching)) a.into.now (members (whole a.ends)) (whole u.union.result) c.if-y-n.true
+    (u.union.ensures ∙ ap (λ (w : ℕ). members w ∪ members (whole a.touching)) u.row.ensures))
 
 union_requires_2 : tie.Need-union-requires-2
 union_requires_2 c κs = search rules
 
 returns_2 : tie.Need-returns
 returns_2 c =
-    let a = c.before.before.before.args in
-    rw c.union-2.ensures (noted_free a.n a.y (members (whole a.touching)) a.into-1.now (members (whole a.ends)) c.before.if-y-n.false)
+    let a = c.args in
+    rw c.union-2.ensures (noted_free a.n a.y (members (whole a.touching)) a.into.now (members (whole a.ends)) c.if-y-n.false)
 
 pub note_spec : {M : Type 1} → statement M
 note_spec =

@@ -15,9 +15,9 @@ support_requires c κs = search rules
 
 returns : tie.Need-returns-then-q-a
 returns c =
-    let a = c.before.before.before.args in
+    let a = c.args in
     let ws = row_numbers a.parameters.now in
-    let l = c.before.if-q-a.true in
+    let l = c.if-q-a.true in
     λ x lx. iff_eq _ _
     (λ e. touched_nonzero a.a a.t.now ws a.q x l ((c.support.ensures x).0 e).1)
     (λ e. (c.support.ensures x).1 (lx, λ z. not_touched_zero a.a a.t.now ws a.q x l z e))
@@ -27,8 +27,8 @@ row_requires c κs = search rules
 
 returns_2 : tie.Need-returns
 returns_2 c =
-    let a = c.before.before.before.args in
-    λ x lx. ap (λ (w : ℕ). members w x) c.row.ensures ∙ sym (touched_parameter a.a a.t.now (row_numbers a.parameters.now) a.q x c.before.if-q-a.false)
+    let a = c.args in
+    λ x lx. ap (λ (w : ℕ). members w x) c.row.ensures ∙ sym (touched_parameter a.a a.t.now (row_numbers a.parameters.now) a.q x c.if-q-a.false)
 
 pub row_touches_spec : {M : Type 1} → statement M
 row_touches_spec = tie.close (tie.spec support_requires returns row_requires returns_2)

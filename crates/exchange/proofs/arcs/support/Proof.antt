@@ -9,6 +9,7 @@ use Rattle.exchange.proofs.ArcLaws.{Support, support_none, support_more, support
 use borrow.Author.Rules.{rules}
 use native.Mathlib.Omega.{arith}
 use Rattle.exchange.proofs.arcs.support.Statement.{statement}
+use Rattle.exchange.proofs.arcs.support.Lts.{then-t-i-ne0, else-t-i-ne0}
 use Rattle.exchange.proofs.arcs.support.Tie as tie
 
 abbrev invariant-loop : tie.invariant-loop-x
@@ -21,7 +22,7 @@ empty_requires : tie.Need-empty-set-requires invariant-loop decreases-loop
 empty_requires c κs = search rules
 
 loop_holds : tie.Need-loop-x-init invariant-loop decreases-loop
-loop_holds c = (search rules, rw (empty_none c.empty-set.ensures) (support_none c.before.args.t.now c.before.args.q))
+loop_holds c = (search rules, rw (empty_none c.empty-set.ensures) (support_none c.args.t.now c.args.q))
 
 mul_i : tie.Need-overflow_mul-i invariant-loop decreases-loop
 mul_i c = search rules
@@ -46,19 +47,19 @@ loop_less c = search rules
 
 loop_again : tie.Need-loop-x-preserved invariant-loop decreases-loop
 loop_again c =
-    let l = c.before.before.before.loop-x in
-    let a = c.before.before.before.before.before.args in (
+    let l = c.loop-x in
+    let a = c.args in (
       search rules,
-      ⊎_elim
-          (λ w. rw (w.2, w.1.ensures) (support_more a.t.now a.q l.x (members (whole l.set)) l.invariant.1 (omega arith) w.0.taken))
-          (λ w. rw w.1 (support_skip a.t.now a.q l.x (members (whole l.set)) l.invariant.1 w.0.left))
-          c.if-t-i-ne0.branch,
+      elim c.if-t-i-ne0.branch [
+        | then-t-i-ne0 w ↦ rw (w.set-is, w.with-set.ensures) (support_more a.t.now a.q l.x (members (whole l.set)) l.invariant.1 (omega arith) w.if-t-i-ne0.true)
+        | else-t-i-ne0 w ↦ rw w.set-is (support_skip a.t.now a.q l.x (members (whole l.set)) l.invariant.1 w.if-t-i-ne0.false)
+      ],
     )
 
 returns : tie.Need-returns invariant-loop decreases-loop
 returns c =
-    let done : c.before.loop-x.x ≡ c.before.before.before.args.n = omega arith in
-    rw done at c.before.loop-x.invariant.1
+    let done : c.loop-x.x ≡ c.args.n = omega arith in
+    rw done at c.loop-x.invariant.1
 
 pub support_spec : {M : Type 1} → statement M
 support_spec =

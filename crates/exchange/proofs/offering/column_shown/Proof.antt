@@ -11,13 +11,13 @@ widened_requires c κs = search rules
 
 returns : tie.Need-returns-then-widened-n
 returns c =
-    let a = c.before.before.args in
-    sym (shown_low a.n a.y (omega (arith, c.before.widened.ensures.0)))
+    let a = c.args in
+    sym (shown_low a.n a.y (omega (arith, c.widened.ensures.0)))
 
 returns_2 : tie.Need-returns
 returns_2 c =
-    let a = c.before.before.args in
-    sym (shown_high a.n a.y (omega (arith, c.before.widened.ensures.0)))
+    let a = c.args in
+    sym (shown_high a.n a.y (omega (arith, c.widened.ensures.0)))
 
 pub column_shown_spec : {M : Type 1} → statement M
 column_shown_spec = tie.close (tie.spec widened_requires returns returns_2)

@@ -11,6 +11,7 @@ use Rattle.exchange.proofs.AnswerLaws.{side_none, side_more, side_skip}
 use borrow.Author.Rules.{rules}
 use native.Mathlib.Omega.{arith}
 use Rattle.exchange.proofs.offering.constant_side.Statement.{statement}
+use Rattle.exchange.proofs.offering.constant_side.Lts.{then-y-n, else-y-n}
 use Rattle.exchange.proofs.offering.constant_side.Tie as tie
 
 abbrev invariant-loop : tie.invariant-loop-q
@@ -21,13 +22,13 @@ decreases-loop owner n a side₀ q₀ side q = a - q
 
 -- where a turn begins
 abbrev turn : tie.After-widened-y invariant-loop decreases-loop → tie.At-loop-q invariant-loop decreases-loop
-turn c = c.before.before.before
+turn c = c.before.before.before.before
 
 empty_requires : tie.Need-empty-side-requires invariant-loop decreases-loop
 empty_requires c κs = search rules
 
 loop_holds : tie.Need-loop-q-init invariant-loop decreases-loop
-loop_holds c = (search rules, rw (empty_none c.empty-side.ensures) (side_none _ c.before.args.owner.now))
+loop_holds c = (search rules, rw (empty_none c.empty-side.ensures) (side_none _ c.args.owner.now))
 
 element_copy_out_widened : tie.Need-bounds-owner-q invariant-loop decreases-loop
 element_copy_out_widened c = search rules
@@ -47,20 +48,20 @@ loop_less c = search rules
 loop_again : tie.Need-loop-q-preserved invariant-loop decreases-loop
 loop_again c =
     let l = (turn c.before).loop-q in
-    let a = (turn c.before).before.before.args in
-    let y = c.before.widened-y.result in
-    let ey : y ≡ owner_at a.owner.now l.q = c.before.widened-y.ensures.0 in (
+    let a = (turn c.before).args in
+    let y = c.widened-y.result in
+    let ey : y ≡ owner_at a.owner.now l.q = c.widened-y.ensures.0 in (
       search rules,
-      ⊎_elim
-          (λ w. rw (w.2, w.1.ensures ∙ ap (inserted (members (whole l.side))) ey) (side_more a.n l.q a.owner.now (members (whole l.side)) l.inv.1 (omega arith) (rw ey at w.0.taken)))
-          (λ w. rw w.1 (side_skip a.n l.q a.owner.now (members (whole l.side)) l.inv.1 (rw ey at w.0.left)))
-          c.if-y-n.branch,
+      elim c.if-y-n.branch [
+        | then-y-n w ↦ rw (w.side-is, w.with-side.ensures ∙ ap (inserted (members (whole l.side))) ey) (side_more a.n l.q a.owner.now (members (whole l.side)) l.invariant.1 (omega arith) (rw ey at w.if-y-n.true))
+        | else-y-n w ↦ rw w.side-is (side_skip a.n l.q a.owner.now (members (whole l.side)) l.invariant.1 (rw ey at w.if-y-n.false))
+      ],
     )
 
 returns : tie.Need-returns invariant-loop decreases-loop
 returns c =
-    let done : c.before.loop-q.q ≡ c.before.before.before.args.a = omega arith in
-    rw done at c.before.loop-q.invariant.1
+    let done : c.loop-q.q ≡ c.args.a = omega arith in
+    rw done at c.loop-q.invariant.1
 
 pub constant_side_spec : {M : Type 1} → statement M
 constant_side_spec =

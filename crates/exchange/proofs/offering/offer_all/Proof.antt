@@ -47,7 +47,7 @@ entry f = begun (turn f.before)
 -- the column of a turn is the least of what is left
 there : (f : tie.After-first-j invariant-loop decreases-loop) → (f.first-j.result < width) × (f.first-j.result ∈ members (whole (turn f.before).loop-rest.rest))
 there f =
-    let some : # width (members (whole (turn f.before).loop-rest.rest)) ≢ 0 = eqb-false _ 0 (sym f.before.before.is_empty.ensures ∙ not_in _ f.before.loop-rest-test.true-raw) in
+    let some : # width (members (whole (turn f.before).loop-rest.rest)) ≢ 0 = eqb-false _ 0 (sym f.is_empty.ensures ∙ not_in _ f.loop-rest-test.true-raw) in
     rw f.first-j.ensures (least_there width _ some)
 
 module _ (f : tie.After-first-j invariant-loop decreases-loop) (G : Given (entry f).args.p (entry f).args.n (entry f).args.b (row_numbers (entry f).args.parameters.now))
@@ -61,7 +61,7 @@ module _ (f : tie.After-first-j invariant-loop decreases-loop) (G : Given (entry
 -- what placing it gives
 placing : (c : tie.After-place invariant-loop decreases-loop) → let f = chosen c in let a = (entry f).args in
     (G : Given a.p a.n a.b (row_numbers a.parameters.now)) (m : Offers a.p a.n a.a a.b (row_numbers a.parameters.now) (members (whole a.offered)) a.t.now a.owner.now G)
-    → Placing a.p a.n a.a a.b (row_numbers a.parameters.now) G (turn f.before).loop-rest.t (turn f.before).loop-rest.owner c.place.new.0 c.place.new.1.0 f.first-j.result c.place.result (so_far f G m).held
+    → Placing a.p a.n a.a a.b (row_numbers a.parameters.now) G (turn f.before).loop-rest.t (turn f.before).loop-rest.owner c.place.new.t c.place.new.owner f.first-j.result c.place.result (so_far f G m).held
 placing c G m =
     let f = chosen c in
     let d = so_far f G m in
@@ -71,7 +71,7 @@ empty_requires : tie.Need-empty-placed-requires invariant-loop decreases-loop
 empty_requires c κs = search rules
 
 loop_holds : tie.Need-loop-rest-init invariant-loop decreases-loop
-loop_holds c = (c.before.before.before.requires.0, λ G m. rw (empty_none c.empty-placed.ensures) (offering_start m))
+loop_holds c = (c.requires.0, λ G m. rw (empty_none c.empty-placed.ensures) (offering_start m))
 
 is_empty_requires : tie.Need-is_empty-requires invariant-loop decreases-loop
 is_empty_requires c κs = search rules
@@ -106,7 +106,7 @@ loop_again c =
     let f = chosen k in
     rw ((taken_out k).without-rest.ensures, c.with-placed.ensures) (
       k.place.ensures.0,
-      λ G m. offering_yes (so_far f G m) _ (there f).1 (least f G m) (omega (arith, (entry f).requires.0.lengths.columns)) c.before.if-place.true (placing k G m),
+      λ G m. offering_yes (so_far f G m) _ (there f).1 (least f G m) (omega (arith, (entry f).requires.0.lengths.columns)) c.if-place.true (placing k G m),
     )
 
 loop_less_2 : tie.Need-loop-rest-smaller invariant-loop decreases-loop
@@ -123,9 +123,9 @@ loop_again_2 c =
 
 returns : tie.Need-returns invariant-loop decreases-loop
 returns c =
-    let l = c.before.before.loop-rest in
+    let l = c.loop-rest in
     let columns = (begun c.before.before).requires.0.lengths.columns in
-    let gone : # width (members (whole l.rest)) ≡ 0 = eqb-true _ 0 (sym c.before.is_empty.ensures ∙ not-false _ c.loop-rest-test.false-raw) in
+    let gone : # width (members (whole l.rest)) ≡ 0 = eqb-true _ 0 (sym c.is_empty.ensures ∙ not-false _ c.loop-rest-test.false-raw) in
     (l.invariant.0, λ G m. let d = l.invariant.1 G m in offering_done d (λ x e. nothing_in width (members (whole l.rest)) gone x (omega (arith, ((d.left x).0 e).0, columns)) e))
 
 pub offer_all_spec : {M : Type 1} → statement M

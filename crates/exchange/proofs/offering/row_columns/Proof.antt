@@ -20,7 +20,7 @@ decreases-loop owner n a b rows₀ r₀ rows r = b - r
 
 -- where a turn begins
 abbrev turn : tie.After-column_shown invariant-loop decreases-loop → tie.At-loop-r invariant-loop decreases-loop
-turn c = c.before.before.before
+turn c = c.before.before.before.before
 
 loop_holds : tie.Need-loop-r-init invariant-loop decreases-loop
 loop_holds c = (search rules, refl, record { owners = λ k l. absurd (omega arith); past = λ k l m. get_or-replicate most_rows k no_column 0 m })
@@ -46,22 +46,22 @@ loop_less c = search rules
 loop_again : tie.Need-loop-r-preserved invariant-loop decreases-loop
 loop_again c =
     let l = (turn c).loop-r in
-    let a = (turn c).before.args in
+    let a = (turn c).args in
     let v = c.column_shown.result in
     let inside : l.r < length l.rows = omega arith in (
       search rules,
       search rules,
       record {
         owners = below_more (λ k. get_or (set l.rows l.r v) k 0 ≡ shown_column a.n (owner_at a.owner.now (a.a + k))) l.r
-            (λ k m. get_or-set_other l.rows l.r k v 0 (λ z. omega arith) ∙ l.inv.2.owners k m)
+            (λ k m. get_or-set_other l.rows l.r k v 0 (λ z. omega arith) ∙ l.invariant.2.owners k m)
             (get_or-set_same l.rows l.r v 0 inside ∙ c.column_shown.ensures);
-        past = λ k m h. get_or-set_other l.rows l.r k v 0 (λ z. omega arith) ∙ l.inv.2.past k (omega arith) h;
+        past = λ k m h. get_or-set_other l.rows l.r k v 0 (λ z. omega arith) ∙ l.invariant.2.past k (omega arith) h;
       },
     )
 
 returns : tie.Need-returns invariant-loop decreases-loop
 returns c =
-    let l = c.before.loop-r in
+    let l = c.loop-r in
     (search rules, record { owners = λ k m. l.invariant.2.owners k (omega arith); past = λ k m h. l.invariant.2.past k (omega arith) h })
 
 pub row_columns_spec : {M : Type 1} → statement M

@@ -8,6 +8,7 @@ use Rattle.exchange.proofs.ReadingLaws.{entries_none, entries_more, entries_skip
 use borrow.Author.Rules.{rules}
 use native.Mathlib.Omega.{arith}
 use Rattle.exchange.proofs.reading.entries_by_owner.Statement.{statement}
+use Rattle.exchange.proofs.reading.entries_by_owner.Lts.{then-y-n, else-y-n}
 use Rattle.exchange.proofs.reading.entries_by_owner.Tie as tie
 
 abbrev invariant-loop : tie.invariant-loop-q
@@ -18,7 +19,7 @@ decreases-loop t owner n a x entries₀ q₀ entries q = a - q
 
 -- where a turn begins
 abbrev turn : tie.After-widened-y invariant-loop decreases-loop → tie.At-loop-q invariant-loop decreases-loop
-turn c = c.before.before.before
+turn c = c.before.before.before.before
 
 loop_holds : tie.Need-loop-q-init invariant-loop decreases-loop
 loop_holds c = (search rules, entries_none _ _ _ _)
@@ -58,19 +59,19 @@ loop_again c =
     let l = (turn c.before).loop-q in
     let k = (turn c.before).before in
     let a = k.args in
-    let y = c.before.widened-y.result in
-    let ey : y ≡ owner_at a.owner.now l.q = c.before.widened-y.ensures.0 in (
+    let y = c.widened-y.result in
+    let ey : y ≡ owner_at a.owner.now l.q = c.widened-y.ensures.0 in (
       search rules,
-      ⊎_elim
-          (λ w. rw w.2 (entries_more a.n a.x a.t.now a.owner.now l.q l.entries-1 l.inv.1 y ey k.requires.0.columns w.0.taken))
-          (λ w. rw w.1 (entries_skip a.n a.x a.t.now a.owner.now l.q l.entries-1 l.inv.1 (rw ey at w.0.left)))
-          c.if-y-n.branch,
+      elim c.if-y-n.branch [
+        | then-y-n w ↦ rw w.entries-is (entries_more a.n a.x a.t.now a.owner.now l.q l.entries l.invariant.1 y ey k.requires.0.columns w.if-y-n.true)
+        | else-y-n w ↦ rw w.entries-is (entries_skip a.n a.x a.t.now a.owner.now l.q l.entries l.invariant.1 (rw ey at w.if-y-n.false))
+      ],
     )
 
 returns : tie.Need-returns invariant-loop decreases-loop
 returns c =
-    let done : c.before.loop-q.q ≡ c.before.before.args.a = omega arith in
-    rw done at c.before.loop-q.invariant.1
+    let done : c.loop-q.q ≡ c.args.a = omega arith in
+    rw done at c.loop-q.invariant.1
 
 pub entries_by_owner_spec : {M : Type 1} → statement M
 entries_by_owner_spec =

@@ -10,6 +10,7 @@ use Rattle.exchange.specs.Code.Reading.{FreeZero}
 use borrow.Author.Rules.{rules}
 use native.Mathlib.Omega.{arith}
 use Rattle.exchange.proofs.reading.is_zero_where_free.Statement.{statement}
+use Rattle.exchange.proofs.reading.is_zero_where_free.Lts.{then-y-n+else-t-i-ne0, else-y-n}
 use Rattle.exchange.proofs.reading.is_zero_where_free.Tie as tie
 
 abbrev invariant-loop : tie.invariant-loop-q
@@ -20,7 +21,7 @@ decreases-loop t owner n a x q₀ q = a - q
 
 -- where a turn begins
 abbrev turn : tie.After-widened-y invariant-loop decreases-loop → tie.At-loop-q invariant-loop decreases-loop
-turn c = c.before.before.before
+turn c = c.before.before.before.before
 
 loop_holds : tie.Need-loop-q-init invariant-loop decreases-loop
 loop_holds c = (search rules, λ h l. absurd (omega arith))
@@ -45,10 +46,10 @@ element_copy_out_if2 c = search rules
 
 returns : tie.Need-returns-then-t-i-ne0 invariant-loop decreases-loop
 returns c =
-    let w = c.before.before.before in
+    let w = c.before.before.before.before in
     let l = (turn w).loop-q in
-    let ey : w.widened-y.result ≡ owner_at (turn w).before.args.owner.now l.q = w.widened-y.ensures.0 in
-    record { if_true = λ e. absurd (false≢true e); if_false = λ e. (l.q, omega arith, (omega (arith, ey, c.before.before.if-y-n.true), c.if-t-i-ne0.true)) }
+    let ey : w.widened-y.result ≡ owner_at (turn w).args.owner.now l.q = w.widened-y.ensures.0 in
+    record { if_true = λ e. absurd (false≢true e); if_false = λ e. (l.q, omega arith, (omega (arith, ey, c.if-y-n.true), c.if-t-i-ne0.true)) }
 
 add_q : tie.Need-overflow_step-q invariant-loop decreases-loop
 add_q c = search rules
@@ -60,17 +61,17 @@ loop_again : tie.Need-loop-q-preserved invariant-loop decreases-loop
 loop_again c =
     let w = c.before in
     let l = (turn w).loop-q in
-    let a = (turn w).before.args in
+    let a = (turn w).args in
     let ey : w.widened-y.result ≡ owner_at a.owner.now l.q = w.widened-y.ensures.0 in (
       search rules,
-      below_more (λ h. a.n ≤ owner_at a.owner.now h → cell a.t.now h a.x ≡ 0) l.q l.inv.1
-          (λ f. ⊎_elim (λ v. v.2.left) (λ v. absurd (omega (arith, v.left))) c.if-y-n.branch),
+      below_more (λ h. a.n ≤ owner_at a.owner.now h → cell a.t.now h a.x ≡ 0) l.q l.invariant.1
+          (λ f. elim c.if-y-n.branch [ then-y-n+else-t-i-ne0 v ↦ v.if-t-i-ne0.false | else-y-n v ↦ absurd (omega (arith, v.if-y-n.false)) ]),
     )
 
 returns_2 : tie.Need-returns invariant-loop decreases-loop
 returns_2 c =
-    let done : c.before.loop-q.q ≡ c.before.before.args.a = omega arith in
-    record { if_true = λ e. rw done at c.before.loop-q.invariant.1; if_false = λ e. absurd (true≢false e) }
+    let done : c.loop-q.q ≡ c.args.a = omega arith in
+    record { if_true = λ e. rw done at c.loop-q.invariant.1; if_false = λ e. absurd (true≢false e) }
 
 pub is_zero_where_free_spec : {M : Type 1} → statement M
 is_zero_where_free_spec =

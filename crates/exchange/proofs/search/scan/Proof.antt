@@ -16,7 +16,7 @@ scan_parameters_requires c κs = search rules
 
 returns : tie.Need-returns-then-m-rows
 returns c =
-    let s = c.before.before.scan_parameters-m.ensures (begun c.before.before).args.t.now in
+    let s = c.scan_parameters-m.ensures (begun c.before.before).args.t.now in
     record { at_end = s.at_end; all_read = λ h. absurd (omega arith); from = s.from }
 
 scan_constants_requires : tie.Need-scan_constants-k-requires
@@ -27,11 +27,11 @@ union_requires c κs = search rules
 
 returns_2 : tie.Need-returns
 returns_2 c =
-    let first = c.before.before.before.before in
+    let first = c.before.before.before.before.before.before in
     let a = (begun first).args in
     rw c.union-next.ensures
-    (scanned_both a.n a.rows _ _ (members (whole a.front)) a.a _ _ _ _ _ _ c.before.before.if-m-rows.false
-    (first.scan_parameters-m.ensures a.t.now) (c.before.scan_constants-k.ensures (row_numbers a.parameters.now)))
+    (scanned_both a.n a.rows _ _ (members (whole a.front)) a.a _ _ _ _ _ _ c.if-m-rows.false
+    (first.scan_parameters-m.ensures a.t.now) (c.scan_constants-k.ensures (row_numbers a.parameters.now)))
 
 pub scan_spec : {M : Type 1} → statement M
 scan_spec =

@@ -35,7 +35,7 @@ decreases-search t owner n a rows front next₀ column₀ row₀ q₀ next colum
 
 -- where a column is chosen, where its turn begins, where that of its row does, and where the call does
 abbrev chosen : tie.After-widened-y invariant-loop decreases-loop invariant-search decreases-search → tie.After-first-x invariant-loop decreases-loop invariant-search decreases-search
-chosen c = c.before.before.before.before
+chosen c = c.before.before.before.before.before.before
 
 abbrev turn : tie.After-first-x invariant-loop decreases-loop invariant-search decreases-search → tie.At-loop-rest invariant-loop decreases-loop invariant-search decreases-search
 turn c = c.before.before.before
@@ -49,7 +49,7 @@ begun k = k.before.before
 -- the column of a turn is the least of what is left
 there : (c : tie.After-first-x invariant-loop decreases-loop invariant-search decreases-search) → (c.first-x.result < width) × (c.first-x.result ∈ members (whole (turn c).loop-rest.rest))
 there c =
-    let some : # width (members (whole (turn c).loop-rest.rest)) ≢ 0 = eqb-false _ 0 (sym c.before.before.is_empty.ensures ∙ not_in _ c.before.loop-rest-test.true-raw) in
+    let some : # width (members (whole (turn c).loop-rest.rest)) ≢ 0 = eqb-false _ 0 (sym c.is_empty.ensures ∙ not_in _ c.loop-rest-test.true-raw) in
     chosen_in (members (whole (turn c).loop-rest.rest)) c.first-x.result c.first-x.ensures some
   where
     chosen_in : (S : Set) (x : ℕ) → x ≡ least width S → # width S ≢ 0 → (x < width) × (x ∈ S)
@@ -63,14 +63,14 @@ empty_requires c κs = search rules
 
 search_holds : tie.Need-search-init invariant-loop decreases-loop invariant-search decreases-search
 search_holds c =
-    let a = c.before.args in
+    let a = c.args in
     (search rules, refl, (λ ws x e k l m. absurd (omega arith)), λ ws. rw (empty_none c.empty-next.ensures) (owners_none a.n a.rows _ _ (members (whole a.front))))
 
 sub_q : tie.Need-overflow_sub-q invariant-loop decreases-loop invariant-search decreases-search
 sub_q c = search rules
 
 loop_holds : tie.Need-loop-rest-init invariant-loop decreases-loop invariant-search decreases-search
-loop_holds c = let k = c.before.search in (k.invariant.1, (λ x e. e), (λ x e. e), (λ ws x e. inl e), k.invariant.3)
+loop_holds c = let k = c.search in (k.invariant.1, (λ x e. e), (λ x e. e), (λ ws x e. inl e), k.invariant.3)
 
 is_empty_requires : tie.Need-is_empty-requires invariant-loop decreases-loop invariant-search decreases-search
 is_empty_requires c κs = search rules
@@ -80,18 +80,18 @@ search_less c = search rules
 
 search_again : tie.Need-search-preserved invariant-loop decreases-loop invariant-search decreases-search
 search_again c =
-    let l = c.before.before.loop-rest in
+    let l = c.loop-rest in
     let k = (row_turn c.before.before).search in
     let a = (begun (row_turn c.before.before)).args in
     let o = owner_at a.owner.now in
     let q = k.q - 1 in
     let up : q + 1 ≡ k.q = omega arith in
-    let gone : # width (members (whole l.rest)) ≡ 0 = eqb-true _ 0 (sym c.before.is_empty.ensures ∙ not-false _ c.loop-rest-test.false-raw) in (
+    let gone : # width (members (whole l.rest)) ≡ 0 = eqb-true _ 0 (sym c.is_empty.ensures ∙ not-false _ c.loop-rest-test.false-raw) in (
       search rules,
       l.invariant.0,
       (λ ws x e. rows_down a.n a.rows (touched a.a a.t.now ws) o (members (whole l.next)) x q a.a
           (⊎_elim (λ left. absurd (nothing_in width (members (whole l.rest)) gone x (columns_below a.front x (search rules) e) left)) (λ read. read) (l.invariant.3 ws x e))
-          (rw up (rows_kept a.n a.rows (touched a.a a.t.now ws) o (members (whole k.next)) (members (whole l.next)) x k.q a.a l.invariant.2 (k.inv.2 ws x e)))),
+          (rw up (rows_kept a.n a.rows (touched a.a a.t.now ws) o (members (whole k.next)) (members (whole l.next)) x k.q a.a l.invariant.2 (k.invariant.2 ws x e)))),
       l.invariant.4,
     )
 
@@ -108,7 +108,7 @@ mul_if2 : tie.Need-offset_bounds-t-i invariant-loop decreases-loop invariant-sea
 mul_if2 c = omega (arith, (there c).0)
 
 element_copy_out_if2 : tie.Need-bounds-t-i invariant-loop decreases-loop invariant-search decreases-search
-element_copy_out_if2 c = omega (arith, (there c).0)
+element_copy_out_if2 c = omega (arith, (there c.before).0)
 
 element_copy_out_widened : tie.Need-bounds-owner-q invariant-loop decreases-loop invariant-search decreases-search
 element_copy_out_widened c = search rules
@@ -138,14 +138,14 @@ loop_again c =
     let q = (row_turn (turn s)).search.q - 1 in
     let old = members (whole l.next) in
     let lo : o q < a.n = omega (arith, read.widened-y.ensures.0) in
-    let e : members (whole c.before.with-next.result) ≡ inserted old (o q) = c.before.with-next.ensures ∙ ap (inserted old) read.widened-y.ensures.0 in
+    let e : members (whole c.with-next.result) ≡ inserted old (o q) = c.with-next.ensures ∙ ap (inserted old) read.widened-y.ensures.0 in
     rw e (
-      l.inv.0,
+      l.invariant.0,
       rw (empty_none c.empty-rest.ensures) (λ x d. absurd (false≢true d)),
-      (λ x h. inserted_old old (o q) x (l.inv.2 x h)),
+      (λ x h. inserted_old old (o q) x (l.invariant.2 x h)),
       (λ ws x h. inr (λ d. (lo, inserted_same old (o q) (omega arith)))),
-      λ ws. owners_more a.n a.rows (touched a.a a.t.now ws) o (members (whole a.front)) old s.first-x.result q (l.inv.4 ws) (in_front s) (omega arith)
-          (touched_nonzero a.a a.t.now ws q s.first-x.result (omega arith) read.before.before.if-t-i-ne0.true) lo,
+      λ ws. owners_more a.n a.rows (touched a.a a.t.now ws) o (members (whole a.front)) old s.first-x.result q (l.invariant.4 ws) (in_front s) (omega arith)
+          (touched_nonzero a.a a.t.now ws q s.first-x.result (omega arith) read.if-t-i-ne0.true) lo,
     )
 
 without_requires : tie.Need-without-rest-requires invariant-loop decreases-loop invariant-search decreases-search
@@ -153,32 +153,32 @@ without_requires c κs = search rules
 
 loop_less_2 : tie.Need-loop-rest-smaller invariant-loop decreases-loop invariant-search decreases-search
 loop_less_2 c =
-    let s = c.before.before.before in
+    let s = c.before.before.before.before in
     let w = there s in
     rw c.without-rest.ensures (removed_less width (members (whole (turn s).loop-rest.rest)) s.first-x.result w.0 w.1)
 
 loop_again_2 : tie.Need-loop-rest-preserved invariant-loop decreases-loop invariant-search decreases-search
 loop_again_2 c =
-    let s = c.before.before.before in
+    let s = c.before.before.before.before in
     let l = (turn s).loop-rest in
     let a = (begun (row_turn (turn s))).args in
     let q = (row_turn (turn s)).search.q - 1 in
     let x = s.first-x.result in
     let R = members (whole l.rest) in
     rw c.without-rest.ensures (
-      l.inv.0,
-      (λ y e. l.inv.1 y (removed_old R x y e)),
-      l.inv.2,
+      l.invariant.0,
+      (λ y e. l.invariant.1 y (removed_old R x y e)),
+      l.invariant.2,
       (λ ws y e. ⊎_elim
-          (λ left. elim (ℕ_discrete y x) [ yes d ↦ inr (λ t. absurd (not_touched_zero a.a a.t.now ws q x (omega arith) c.before.if-t-i-ne0.false (rw d at t))) | no nd ↦ inl (removed_other R x y left nd) ])
+          (λ left. elim (ℕ_discrete y x) [ yes d ↦ inr (λ t. absurd (not_touched_zero a.a a.t.now ws q x (omega arith) c.if-t-i-ne0.false (rw d at t))) | no nd ↦ inl (removed_other R x y left nd) ])
           (λ read. inr read)
-          (l.inv.3 ws y e)),
-      l.inv.4,
+          (l.invariant.3 ws y e)),
+      l.invariant.4,
     )
 
 returns : tie.Need-returns-after-search invariant-loop decreases-loop invariant-search decreases-search
 returns c =
-    let k = c.before.search in
+    let k = c.search in
     λ ws. record {
       at_end = λ h. absurd (omega arith);
       all_read = λ h x e i li mi. k.invariant.2 ws x e i (omega arith) mi;
@@ -192,9 +192,9 @@ returns_2 c =
     let a = (begun (row_turn (turn s))).args in
     let q = (row_turn (turn s)).search.q - 1 in
     λ ws. record {
-      at_end = λ h. (in_front s, touched_nonzero a.a a.t.now ws q s.first-x.result (omega arith) c.before.before.before.if-t-i-ne0.true, omega (arith, c.before.widened-y.ensures.0));
+      at_end = λ h. (in_front s, touched_nonzero a.a a.t.now ws q s.first-x.result (omega arith) c.if-t-i-ne0.true, omega (arith, c.widened-y.ensures.0));
       all_read = λ h. absurd (omega arith);
-      from = l.inv.4 ws;
+      from = l.invariant.4 ws;
     }
 
 pub scan_constants_spec : {M : Type 1} → statement M

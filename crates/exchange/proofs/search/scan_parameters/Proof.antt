@@ -35,7 +35,7 @@ begun l = l.before.before.before
 
 -- where it is known which row touches the set, seen from behind its owner
 abbrev found : tie.After-widened-y invariant-search decreases-search → tie.After-last_touching-r invariant-search decreases-search
-found c = c.before.before.before
+found c = c.before.before.before.before
 
 -- the row is the last below `end` that touches the set
 last_one : (c : tie.After-last_touching-r invariant-search decreases-search) → let a = (begun (turn c)).args in LastMember (turn c).search.end c.last_touching-r.result (rows_touching (row_numbers a.parameters.now) (members (whole a.front)))
@@ -55,7 +55,7 @@ between c t x q i l m later = let a = (begun (turn c)).args in let e = (turn c).
       | yes lr ↦ (last_one c).last lr (q - a.a) (omega (arith, later lr)) (omega arith)
       | no nr ↦ (last_one c).no_member (omega arith) (q - a.a) (omega arith)
     ])
-    (columns_below a.front x (search (rules, (begun (turn c)).good.1.1.1.1.1.0)) i) i
+    (columns_below a.front x (search (rules, (begun (turn c)).well_formed.1.1.1.1.1.0)) i) i
 
 empty_requires : tie.Need-empty-next-requires invariant-search decreases-search
 empty_requires c κs = search rules
@@ -65,7 +65,7 @@ sub_end c = search rules
 
 search_holds : tie.Need-search-init invariant-search decreases-search
 search_holds c =
-    let a = c.before.before.args in
+    let a = c.args in
     (omega arith, refl, (λ t x e k l m. absurd (omega arith)), λ t. rw (empty_none c.empty-next.ensures) (owners_none a.n a.rows _ _ (members (whole a.front))))
 
 last_touching_requires : tie.Need-last_touching-r-requires invariant-search decreases-search
@@ -78,9 +78,9 @@ returns c =
       at_end = λ h. absurd (omega arith);
       all_read = λ h x e k lk mk d. elim (dec_lt k ((begun (turn c.before)).args.a + l.end)) [
         | yes before ↦ absurd (between c.before t x k e lk before (λ s. absurd (omega arith)) d)
-        | no behind ↦ l.inv.2 t x e k (omega arith) mk d
+        | no behind ↦ l.invariant.2 t x e k (omega arith) mk d
       ];
-      from = l.inv.3 t;
+      from = l.invariant.3 t;
     }
 
 add_q : tie.Need-overflow_add-q invariant-search decreases-search
@@ -114,12 +114,12 @@ returns_2 c =
     let common = F ∩ members (get_or ws r 0) in
     let there : (least width common < width) × (least width common ∈ common) = least_any width common ((last_one row).inside (omega arith)) in
     let x = c.first-column.result in
-    let is_least : x ≡ least width common = c.first-column.ensures ∙ ap (least width) (c.before.intersection-common.ensures ∙ ap (λ (w : ℕ). F ∩ members w) c.before.before.row.ensures) in
+    let is_least : x ≡ least width common = c.first-column.ensures ∙ ap (least width) (c.intersection-common.ensures ∙ ap (λ (w : ℕ). F ∩ members w) c.row.ensures) in
     let inside : x ∈ common = rw is_least there.1 in
     λ t. record {
       at_end = λ h. (and_left (F x) _ inside, touched_row a.a t ws r x (and_right (F x) _ inside), omega (arith, read.widened-y.ensures.0));
       all_read = λ h. absurd (omega arith);
-      from = l.inv.3 t;
+      from = l.invariant.3 t;
     }
 
 with_requires : tie.Need-with-next-requires invariant-search decreases-search
@@ -146,12 +146,12 @@ search_again c =
     let some = (touching_iff width (λ i. members (get_or ws i 0)) F r).0 ((last_one row).inside (omega arith)) in
     rw e (
       omega arith,
-      l.inv.1,
+      l.invariant.1,
       (λ t x i. rows_past a.n a.rows (touched a.a t ws) o (inserted old (o q)) x q (a.a + l.end) a.rows
           (λ d. (lo, inserted_same old (o q) (omega arith)))
           (λ k lk mk. between row t x k i (omega arith) mk (λ s. lk))
-          (rows_kept a.n a.rows (touched a.a t ws) o old (inserted old (o q)) x (a.a + l.end) a.rows kept (l.inv.2 t x i))),
-      λ t. owners_more a.n a.rows (touched a.a t ws) o F old some.0 q (l.inv.3 t) some.2.0 (omega arith) (touched_row a.a t ws r some.0 some.2.1) lo,
+          (rows_kept a.n a.rows (touched a.a t ws) o old (inserted old (o q)) x (a.a + l.end) a.rows kept (l.invariant.2 t x i))),
+      λ t. owners_more a.n a.rows (touched a.a t ws) o F old some.0 q (l.invariant.3 t) some.2.0 (omega arith) (touched_row a.a t ws r some.0 some.2.1) lo,
     )
 
 pub scan_parameters_spec : {M : Type 1} → statement M

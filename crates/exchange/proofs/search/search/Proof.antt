@@ -26,14 +26,14 @@ decreases-loop t owner parameters n a rows reached₀ front₀ depth₀ reached 
 
 -- where a turn has read its layer, and where it begins
 abbrev read : tie.After-difference-front invariant-loop decreases-loop → tie.After-scan-m invariant-loop decreases-loop
-read d = d.before.before.before
+read d = d.before.before.before.before
 
 abbrev turn : tie.After-scan-m invariant-loop decreases-loop → tie.At-loop-reached invariant-loop decreases-loop
 turn r = r.before
 
 -- where the new columns are known
 abbrev brought : tie.After-union-reached invariant-loop decreases-loop → tie.After-difference-front invariant-loop decreases-loop
-brought c = c.before.before.before
+brought c = c.before.before.before.before
 
 -- the columns that a turn brings
 grown : (c : tie.After-union-reached invariant-loop decreases-loop) → # width (members (whole (turn (read (brought c))).loop-reached.reached)) < # width (members (whole c.union-reached.result))
@@ -41,19 +41,19 @@ grown c =
     let r = members (whole (turn (read (brought c))).loop-reached.reached) in
     let m = members (whole (read (brought c)).scan-m.result.next) in
     let d = members (whole (brought c).difference-front.result) in
-    let some : # width d ≢ 0 = eqb-false (# width d) 0 (sym c.before.before.is_empty.ensures ∙ c.before.if-is_empty.false) in
+    let some : # width d ≢ 0 = eqb-false (# width d) 0 (sym c.is_empty.ensures ∙ c.if-is_empty.false) in
     let new : # width (m ∩ ∁ r) ≢ 0 = λ z. some (ap (# width) (brought c).difference-front.ensures ∙ z) in
     rw c.union-reached.ensures (union_more width r m new)
 
 loop_holds : tie.Need-loop-reached-init invariant-loop decreases-loop
-loop_holds c = (search rules, λ E s h b. reaching_start s (members (whole c.before.args.start)) E b)
+loop_holds c = (search rules, λ E s h b. reaching_start s (members (whole c.args.start)) E b)
 
 scan_requires : tie.Need-scan-m-requires invariant-loop decreases-loop
 scan_requires c κs = search rules
 
 returns : tie.Need-returns-then-m-rows invariant-loop decreases-loop
 returns c = λ E s h b. (
-  (λ l. ended s _ E h _ _ _ _ _ _ (c.before.before.before.loop-reached.invariant.1 E s h b) c.before.before.scan-m.ensures c.if-m-rows.true),
+  (λ l. ended s _ E h _ _ _ _ _ _ (c.loop-reached.invariant.1 E s h b) c.scan-m.ensures c.if-m-rows.true),
   λ l. absurd (omega arith),
 )
 
@@ -66,10 +66,10 @@ is_empty_requires c κs = search rules
 returns_2 : tie.Need-returns-then-is_empty invariant-loop decreases-loop
 returns_2 c =
     let r = read c.before.before in
-    let none_new : # width (members (whole c.before.before.difference-front.result)) ≡ 0 = eqb-true _ 0 (sym c.before.is_empty.ensures ∙ c.if-is_empty.true) in
+    let none_new : # width (members (whole c.difference-front.result)) ≡ 0 = eqb-true _ 0 (sym c.is_empty.ensures ∙ c.if-is_empty.true) in
     λ E s h b. (
       (λ k. absurd (omega arith)),
-      λ k. final s _ E h _ _ _ _ _ _ ((turn r).loop-reached.invariant.1 E s h b) r.scan-m.ensures c.before.before.before.if-m-rows.false (omega arith) (rw c.before.before.difference-front.ensures at none_new),
+      λ k. final s _ E h _ _ _ _ _ _ ((turn r).loop-reached.invariant.1 E s h b) r.scan-m.ensures c.if-m-rows.false (omega arith) (rw c.difference-front.ensures at none_new),
     )
 
 union_requires : tie.Need-union-reached-requires invariant-loop decreases-loop
@@ -86,7 +86,7 @@ loop_again c =
     let d = brought c in (
       omega (arith, grown c),
       λ E s h b. rw (c.union-reached.ensures, d.difference-front.ensures)
-          (reaching_more s _ E h _ _ _ _ _ _ ((turn (read d)).loop-reached.invariant.1 E s h b) (read d).scan-m.ensures d.before.if-m-rows.false),
+          (reaching_more s _ E h _ _ _ _ _ _ ((turn (read d)).loop-reached.invariant.1 E s h b) (read d).scan-m.ensures d.if-m-rows.false),
     )
 
 pub search_spec : {M : Type 1} → statement M

@@ -28,7 +28,7 @@ abbrev begun : tie.After-with-start invariant-loop decreases-loop → tie.Start 
 begun c = c.before.before.before.before
 
 abbrev start : tie.After-search-f invariant-loop decreases-loop → tie.After-with-start invariant-loop decreases-loop
-start c = c.before.before.before
+start c = c.before
 
 abbrev searched : tie.At-loop-f invariant-loop decreases-loop → tie.After-search-f invariant-loop decreases-loop
 searched k = k.before.before.before
@@ -38,7 +38,7 @@ entry k = begun (start (searched k))
 
 -- where a turn has seated its column, where it goes on, and where it begins
 abbrev sat : tie.After-search-f-in-loop-f invariant-loop decreases-loop → tie.After-seat invariant-loop decreases-loop
-sat c = c.before.before.before
+sat c = c.before
 
 abbrev goes_on : tie.After-search-f-in-loop-f invariant-loop decreases-loop → tie.In-loop-f invariant-loop decreases-loop
 goes_on c = (sat c).before.before.before
@@ -59,7 +59,7 @@ seated w l bt = record { lengths = l; below = bt; prime = w.prime }
 
 -- the search starts from column j alone
 starts : (c : tie.After-with-start invariant-loop decreases-loop) → members (whole c.with-start.result) ≡ inserted none (begun c).args.j
-starts c = c.with-start.ensures ∙ ap (λ (S : Set). inserted S (begun c).args.j) (empty_none c.before.empty.ensures)
+starts c = c.with-start.ensures ∙ ap (λ (S : Set). inserted S (begun c).args.j) (empty_none c.empty.ensures)
 
 first_seeks : (c : tie.After-search-f invariant-loop decreases-loop)
     → let a = (begun (start c)).args in Seeks a.n a.a a.b (row_numbers a.parameters.now) a.j a.t.now a.owner.now c.search-f.result
@@ -67,11 +67,11 @@ first_seeks c = seeks c.search-f.result _ (omega arith) (omega arith) (starts (s
 
 -- what a turn of the loop has, when it has searched again
 
-turned_arrays : (c : tie.After-search-f-in-loop-f invariant-loop decreases-loop) → let a = (entry (turn c)).args in let st = (sat c).seat in Arrays a.p a.n a.a a.b st.last.0 st.last.1.0
+turned_arrays : (c : tie.After-search-f-in-loop-f invariant-loop decreases-loop) → let a = (entry (turn c)).args in let st = (sat c).seat in Arrays a.p a.n a.a a.b st.new.t st.new.owner
 turned_arrays c = let st = (sat c).seat in seated (turn c).loop-f.invariant.0 st.ensures.0 st.ensures.1
 
 turned_seeks : (c : tie.After-search-f-in-loop-f invariant-loop decreases-loop) → let a = (entry (turn c)).args in let st = (sat c).seat in
-    Seeks a.n a.a a.b (row_numbers a.parameters.now) a.j st.last.0 st.last.1.0 c.search-f-in-loop-f.result
+    Seeks a.n a.a a.b (row_numbers a.parameters.now) a.j st.new.t st.new.owner c.search-f-in-loop-f.result
 turned_seeks c =
     let given = (entry (turn c)).requires in
     seeks c.search-f-in-loop-f.result _ given.2 (omega (arith, given.0.lengths.columns)) (starts (start (searched (turn c)))) c.search-f-in-loop-f.ensures

@@ -16,7 +16,7 @@ pivot_requires c κs = search rules
 
 returns : tie.Need-returns-then-q-a
 returns c =
-    let l = c.before.before.before.before.requires.0 in (
+    let l = c.requires.0 in (
       record { tableau = c.pivot.ensures.0.full; owners = search rules; columns = l.columns; constant_rows = l.constant_rows; constants_among = l.constants_among; all_rows = l.all_rows },
       c.pivot.ensures.0.below,
       record { owners = refl; pivoted = λ l. c.pivot.ensures.1; kept = λ l. absurd (omega arith) },
@@ -24,7 +24,7 @@ returns c =
 
 returns_2 : tie.Need-returns-else-q-a
 returns_2 c =
-    let l = c.before.before.requires in (
+    let l = c.requires in (
       record { tableau = l.0.tableau; owners = search rules; columns = l.0.columns; constant_rows = l.0.constant_rows; constants_among = l.0.constants_among; all_rows = l.0.all_rows },
       l.1,
       record { owners = refl; pivoted = λ l. absurd (omega arith); kept = λ l. refl },

@@ -62,10 +62,10 @@ loop_less : tie.Need-loop-q-smaller invariant-loop decreases-loop
 loop_less c = search rules
 
 loop_again : tie.Need-loop-q-preserved invariant-loop decreases-loop
-loop_again c = (search rules, more c.vacated.result (omega arith) c.vacated.ensures (search rules) c.before.before.before.loop-q.invariant.1)
+loop_again c = (search rules, more c.vacated.result (omega arith) c.vacated.ensures (search rules) c.loop-q.invariant.1)
 
 returns : tie.Need-returns invariant-loop decreases-loop
-returns c = let l = c.before.loop-q.invariant in (l.1.full, λ r h. l.1.done r (omega arith))
+returns c = let l = c.loop-q.invariant in (l.1.full, λ r h. l.1.done r (omega arith))
 
 pub vacate_spec : {M : Type 1} → statement M
 vacate_spec =

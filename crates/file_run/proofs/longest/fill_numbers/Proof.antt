@@ -31,10 +31,10 @@ loop_less : tie.Need-loop-i-smaller invariant-loop decreases-loop
 loop_less c = simp length-set (omega arith)
 
 loop_again : tie.Need-loop-i-preserved invariant-loop decreases-loop
-loop_again c = simp length-set (omega arith, c.before.loop-i.invariant.1)
+loop_again c = simp length-set (omega arith, c.loop-i.invariant.1)
 
 same_length : tie.Need-shape_of-numbers invariant-loop decreases-loop
-same_length c = c.before.loop-i.invariant.1
+same_length c = c.loop-i.invariant.1
 
 returns : tie.Need-returns invariant-loop decreases-loop
 returns c = search rules

@@ -12,7 +12,7 @@ returns : tie.Need-returns-then-i-bytes
 returns c = search rules
 
 returns_2 : tie.Need-returns
-returns_2 c = sym (get_or-eq_default c.before.args.bytes.now 0 c.if-i-bytes.false)
+returns_2 c = sym (get_or-eq_default c.args.bytes.now 0 c.if-i-bytes.false)
 
 pub byte_at_spec : {M : Type 1} → statement M
 byte_at_spec = tie.close (tie.spec shared_slice_read_result returns returns_2)

@@ -24,7 +24,7 @@ turn c = c.before.before
 
 -- the p of the call
 abbrev bound : tie.At-loop-rest invariant-loop decreases-loop → ℕ
-bound k = k.before.before.args.p
+bound k = k.args.p
 
 loop_holds : tie.Need-loop-rest-init invariant-loop decreases-loop
 loop_holds c = passing_all
@@ -39,9 +39,9 @@ returns : tie.Need-returns-then-widened-p invariant-loop decreases-loop
 unfolding constant_test
 returns c =
     let k = turn c.before in
-    let l = k.before.loop-rest in
-    let r = l.rest-1.now in
-    passing_fails l.inv (first_rest r k.loop-rest-test.true) (le-ltb (get_or r 0 0) (bound k.before) (omega (arith, c.before.widened.ensures)))
+    let l = k.loop-rest in
+    let r = l.rest.now in
+    passing_fails l.invariant (first_rest r k.loop-rest-test.true) (le-ltb (get_or r 0 0) (bound k.before) (omega (arith, c.widened.ensures)))
 
 sub_rest : tie.Need-slice_bounds-rest-count invariant-loop decreases-loop
 sub_rest c = search rules
@@ -59,13 +59,13 @@ loop_again : tie.Need-loop-rest-preserved invariant-loop decreases-loop
 loop_again c =
     let d = c.before.before in
     let k = turn d in
-    let l = k.before.loop-rest in
-    let r = l.rest-1.now in
-    passing_next l.inv (first_rest r k.loop-rest-test.true) (lt-ltb (get_or r 0 0) (bound k.before) (omega (arith, d.widened.ensures))) (tail_part 1 r)
+    let l = k.loop-rest in
+    let r = l.rest.now in
+    passing_next l.invariant (first_rest r k.loop-rest-test.true) (lt-ltb (get_or r 0 0) (bound k.before) (omega (arith, d.widened.ensures))) (tail_part 1 r)
 
 returns_2 : tie.Need-returns invariant-loop decreases-loop
 unfolding constant_test
-returns_2 c = passing_done c.before.loop-rest.invariant (nothing _ c.loop-rest-test.false)
+returns_2 c = passing_done c.loop-rest.invariant (nothing _ c.loop-rest-test.false)
 
 pub constants_below_spec : {M : Type 1} → statement M
 constants_below_spec =

@@ -27,7 +27,7 @@ turn c = c.before.before.before
 
 -- the p of the call
 abbrev bound : tie.At-loop-rest invariant-loop decreases-loop → ℕ
-bound k = k.before.before.args.p
+bound k = k.args.p
 
 loop_holds : tie.Need-loop-rest-init invariant-loop decreases-loop
 loop_holds c = passing_all
@@ -45,9 +45,9 @@ returns : tie.Need-returns-then-two-p invariant-loop decreases-loop
 unfolding constant_test
 returns c =
     let k = turn c.before in
-    let l = k.before.loop-rest in
-    let r = l.rest-1.now in
-    passing_fails l.inv (entries_next r k.loop-rest-test.true) (le-ltb (get_or r 0 0 + 256 * get_or r 1 0) (bound k.before) (omega (arith, c.before.two.ensures)))
+    let l = k.loop-rest in
+    let r = l.rest.now in
+    passing_fails l.invariant (entries_next r k.loop-rest-test.true) (le-ltb (get_or r 0 0 + 256 * get_or r 1 0) (bound k.before) (omega (arith, c.two.ensures)))
 
 sub_rest : tie.Need-slice_bounds-rest-count invariant-loop decreases-loop
 sub_rest c = search rules
@@ -65,13 +65,13 @@ loop_again : tie.Need-loop-rest-preserved invariant-loop decreases-loop
 loop_again c =
     let d = c.before.before in
     let k = turn d in
-    let l = k.before.loop-rest in
-    let r = l.rest-1.now in
-    passing_next l.inv (entries_next r k.loop-rest-test.true) (lt-ltb (get_or r 0 0 + 256 * get_or r 1 0) (bound k.before) (omega (arith, d.two.ensures))) (ap entries (tail_part 2 r))
+    let l = k.loop-rest in
+    let r = l.rest.now in
+    passing_next l.invariant (entries_next r k.loop-rest-test.true) (lt-ltb (get_or r 0 0 + 256 * get_or r 1 0) (bound k.before) (omega (arith, d.two.ensures))) (ap entries (tail_part 2 r))
 
 returns_2 : tie.Need-returns invariant-loop decreases-loop
 unfolding constant_test
-returns_2 c = passing_done c.before.loop-rest.invariant (entries_done _ c.loop-rest-test.false)
+returns_2 c = passing_done c.loop-rest.invariant (entries_done _ c.loop-rest-test.false)
 
 pub entries_below_spec : {M : Type 1} → statement M
 entries_below_spec =

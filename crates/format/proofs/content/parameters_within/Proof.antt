@@ -38,10 +38,10 @@ rows k = row_numbers (entry k).args.parameters.now
 
 -- row r is held, so it is the first of those that are left, and its test
 next : (c : tie.Else-r-held invariant-loop decreases-loop) → let k = turn c in let ws = take (entry k).args.b (rows k) in let r = k.loop-r.r in drop r ws ≡ get_or (rows k) r 0 ∷ drop (r + 1) ws
-next c = let k = turn c in first_left (entry k).args.b k.loop-r.r (rows k) c.before.loop-r-test.true (omega (arith, k.before.rows-held.ensures))
+next c = let k = turn c in first_left (entry k).args.b k.loop-r.r (rows k) c.loop-r-test.true (omega (arith, k.rows-held.ensures))
 
 tested : (c : tie.After-within invariant-loop decreases-loop) → let k = turn (held c) in within (entry k).args.n (get_or (rows k) k.loop-r.r 0) ≡ c.within.result
-tested c = sym (c.within.ensures ∙ ap (within (entry (turn (held c))).args.n) c.before.row.ensures)
+tested c = sym (c.within.ensures ∙ ap (within (entry (turn (held c))).args.n) c.row.ensures)
 
 rows_requires : tie.Need-rows-held-requires invariant-loop decreases-loop
 rows_requires c κs = search rules
@@ -53,7 +53,7 @@ returns : tie.Need-returns-then-r-held invariant-loop decreases-loop
 unfolding parameter_test
 returns c =
     let k = c.before.before in
-    passing_done k.loop-r.invariant.0 (none_left (entry k).args.b k.loop-r.r (rows k) (omega (arith, k.before.rows-held.ensures)))
+    passing_done k.loop-r.invariant.0 (none_left (entry k).args.b k.loop-r.r (rows k) (omega (arith, k.rows-held.ensures)))
 
 row_requires : tie.Need-row-requires invariant-loop decreases-loop
 row_requires c κs = search rules

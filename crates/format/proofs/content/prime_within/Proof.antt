@@ -9,14 +9,14 @@ use Rattle.format.proofs.content.prime_within.Tie as tie
 
 returns : tie.Need-returns-then-p-gt-LARGEST_PRIME
 unfolding prime_test
-returns c = simp (lt-leb c.before.args.p largest_prime (omega arith))
+returns c = simp (lt-leb c.args.p largest_prime (omega arith))
 
 is_prime_requires : tie.Need-is_prime-requires
 is_prime_requires c κs = search rules
 
 returns_2 : tie.Need-returns
 unfolding prime_test
-returns_2 c = simp (le-leb c.before.before.args.p largest_prime (omega arith)) c.is_prime.ensures
+returns_2 c = simp (le-leb c.args.p largest_prime (omega arith)) c.is_prime.ensures
 
 pub prime_within_spec : {M : Type 1} → statement M
 prime_within_spec = tie.close (tie.spec returns is_prime_requires returns_2)

@@ -6,10 +6,10 @@ use Rattle.format.proofs.fields.parameter_size.Statement.{statement}
 use Rattle.format.proofs.fields.parameter_size.Tie as tie
 
 returns : tie.Need-returns-then-n-gt-NARROW_COLUMNS
-returns c = sym (wide_size c.before.args.n (omega (arith, c.if-n-gt-NARROW_COLUMNS.true)))
+returns c = sym (wide_size c.args.n (omega (arith, c.if-n-gt-NARROW_COLUMNS.true)))
 
 returns_2 : tie.Need-returns
-returns_2 c = sym (narrow_size c.before.args.n (omega (arith, c.if-n-gt-NARROW_COLUMNS.false)))
+returns_2 c = sym (narrow_size c.args.n (omega (arith, c.if-n-gt-NARROW_COLUMNS.false)))
 
 pub parameter_size_spec : {M : Type 1} → statement M
 parameter_size_spec = tie.close (tie.spec returns returns_2)

@@ -19,7 +19,7 @@ part_result_end c = search rules
 
 returns : tie.Need-returns-then-at-lt-HEAD_BYTES
 returns c =
-    let s = c.before.before.args.rest in
+    let s = c.args.rest in
     let none : drop head_bytes s.now ≡ drop (length s.now) s.now = drop_of_length-le s.now {i = head_bytes} (omega arith) ∙ sym (drop_of_length-le s.now {i = length s.now} (omega arith)) in
     part_next (part_whole s) (ends_drop 0 s.now) (length s.now) (omega arith) none refl refl refl
 
@@ -33,7 +33,7 @@ part_result_end_2 : tie.Need-slice_bounds-result-end-2
 part_result_end_2 c = search rules
 
 returns_2 : tie.Need-returns
-returns_2 c = let s = c.before.before.args.rest in part_next (part_whole s) (ends_drop 0 s.now) head_bytes (omega arith) refl refl refl refl
+returns_2 c = let s = c.args.rest in part_next (part_whole s) (ends_drop 0 s.now) head_bytes (omega arith) refl refl refl refl
 
 pub past_head_spec : {M : Type 1} → statement M
 past_head_spec =

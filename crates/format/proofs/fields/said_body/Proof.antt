@@ -17,8 +17,8 @@ said_length_requires c κs = search rules
 returns : tie.Need-returns-then-body-size
 unfolding said_body
 returns c =
-    let m = c.before.before.past_head-body in
-    let size = c.before.said_length-size in
+    let m = c.past_head-body in
+    let size = c.said_length-size in
     part_front m.ensures (sym (take_all size.result m.result.now (omega arith)) ∙ cc (m.ensures.bytes_are, size.ensures.0)) refl refl
 
 slice_aggregate_result : tie.Need-slice_bounds-result-end
@@ -27,8 +27,8 @@ slice_aggregate_result c = sym (length-take-le _ _ (omega arith))
 returns_2 : tie.Need-returns
 unfolding said_body
 returns_2 c =
-    let m = c.before.before.before.past_head-body in
-    part_front m.ensures (cc (m.ensures.bytes_are, c.before.before.said_length-size.ensures.0)) refl refl
+    let m = c.past_head-body in
+    part_front m.ensures (cc (m.ensures.bytes_are, c.said_length-size.ensures.0)) refl refl
 
 pub said_body_spec : {M : Type 1} → statement M
 said_body_spec =

@@ -34,9 +34,9 @@ unfolding said_rest
 returns c =
     let d = c.before.before in
     let s = (entry d).args.rest in
-    let m = d.before.past_head-body in
-    let b = m.result-1.now in
-    let size : d.said_length-size.result-1 ≡ said_length s.now = d.said_length-size.ensures.0 in
+    let m = d.past_head-body in
+    let b = m.result.now in
+    let size : d.said_length-size.result ≡ said_length s.now = d.said_length-size.ensures.0 in
     let e = m.ensures.bytes_are in
     let none : said_rest s.now ≡ drop (length b) (drop head_bytes s.now) =
     drop_of_length-le (drop head_bytes s.now) {i = said_length s.now} (omega (arith, ap length e)) ∙ sym (drop_of_length-le (drop head_bytes s.now) {i = length b} (omega (arith, ap length e))) in
@@ -56,7 +56,7 @@ unfolding said_rest
 returns_2 c =
     let d = c.before.before in
     let s = (entry d).args.rest in
-    let m = d.before.past_head-body in
+    let m = d.past_head-body in
     part_next m.ensures (ends_drop head_bytes s.now) _ (omega arith) (ap (λ (k : ℕ). drop k (drop head_bytes s.now)) (sym d.said_length-size.ensures.0)) refl refl refl
 
 pub said_rest_spec : {M : Type 1} → statement M

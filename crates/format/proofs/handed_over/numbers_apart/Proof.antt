@@ -13,7 +13,7 @@ use Rattle.format.proofs.handed_over.numbers_apart.Tie as tie
 
 returns : tie.Need-returns-then-not-numbered
 unfolding lent number_test
-returns c = let a = c.before.before.before.args in ap (λ (t : Bool). number_test a.n (take a.b (row_numbers a.parameters.now)) (lent t a.numbers.now)) (sym (not-true a.numbered c.if-not-numbered.true-raw))
+returns c = let a = c.args in ap (λ (t : Bool). number_test a.n (take a.b (row_numbers a.parameters.now)) (lent t a.numbers.now)) (sym (not-true a.numbered c.if-not-numbered.true-raw))
 
 numbers_once_requires : tie.Need-numbers_once-requires
 unfolding lent numbers_room
@@ -25,8 +25,8 @@ numbers_once_requires c κs =
 returns_2 : tie.Need-returns
 unfolding lent number_test
 returns_2 c =
-    let a = c.before.before.before.before.args in
-    c.numbers_once.ensures ∙ ap (λ (t : Bool). number_test a.n (take a.b (row_numbers a.parameters.now)) (lent t a.numbers.now)) (sym (not-false a.numbered c.before.if-not-numbered.false-raw))
+    let a = c.args in
+    c.numbers_once.ensures ∙ ap (λ (t : Bool). number_test a.n (take a.b (row_numbers a.parameters.now)) (lent t a.numbers.now)) (sym (not-false a.numbered c.if-not-numbered.false-raw))
 
 pub numbers_apart_spec : {M : Type 1} → statement M
 numbers_apart_spec = tie.close (tie.spec returns numbers_once_requires returns_2)

@@ -13,7 +13,7 @@ use Rattle.format.proofs.handed_over.numbers_held.Tie as tie
 
 returns : tie.Need-returns-then-not-numbered
 unfolding lent numbers_room
-returns c = let a = c.before.args in ap (λ (t : Bool). numbers_room (a.b * a.n) (lent t a.numbers.now)) (sym (not-true a.numbered c.if-not-numbered.true-raw))
+returns c = let a = c.args in ap (λ (t : Bool). numbers_room (a.b * a.n) (lent t a.numbers.now)) (sym (not-true a.numbered c.if-not-numbered.true-raw))
 
 mul_result : tie.Need-overflow_mul-result
 mul_result c =
@@ -23,7 +23,7 @@ mul_result c =
 
 returns_2 : tie.Need-returns
 unfolding lent numbers_room area_test
-returns_2 c = let a = c.before.args in ap (λ (t : Bool). numbers_room (a.b * a.n) (lent t a.numbers.now)) (sym (not-false a.numbered c.if-not-numbered.false-raw))
+returns_2 c = let a = c.args in ap (λ (t : Bool). numbers_room (a.b * a.n) (lent t a.numbers.now)) (sym (not-false a.numbered c.if-not-numbered.false-raw))
 
 pub numbers_held_spec : {M : Type 1} → statement M
 numbers_held_spec = tie.close (tie.spec returns mul_result returns_2)

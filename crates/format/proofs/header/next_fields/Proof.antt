@@ -20,19 +20,19 @@ prime_field_requires : tie.Need-prime_field-requires
 prime_field_requires c κs = search rules
 
 returns_2 : tie.Need-returns-then-before-eq0
-returns_2 c = c.prime_field.ensures ∙ next_prime _ _ c.before.before.before.if-before-ne0.false c.before.if-before-eq0.true
+returns_2 c = c.prime_field.ensures ∙ next_prime _ _ c.if-before-ne0.false c.if-before-eq0.true
 
 sizes_field_requires : tie.Need-sizes_field-requires
 sizes_field_requires c κs = search rules
 
 returns_3 : tie.Need-returns-then-before-eq0-2
-returns_3 c = let d = c.before.before in c.sizes_field.ensures ∙ next_sizes _ _ (not_refused d).if-before-ne0.false (prime_said d).if-before-eq0.false c.before.if-before-eq0-2.true
+returns_3 c = let d = c.before.before in c.sizes_field.ensures ∙ next_sizes _ _ (not_refused d).if-before-ne0.false (prime_said d).if-before-eq0.false c.if-before-eq0-2.true
 
 row_fields_requires : tie.Need-row_fields-requires
 row_fields_requires c κs = search rules
 
 returns_4 : tie.Need-returns
-returns_4 c = let d = c.before.before in c.row_fields.ensures ∙ next_rows _ _ (not_refused d).if-before-ne0.false (prime_said d).if-before-eq0.false c.before.if-before-eq0-2.false
+returns_4 c = let d = c.before.before in c.row_fields.ensures ∙ next_rows _ _ (not_refused d).if-before-ne0.false (prime_said d).if-before-eq0.false c.if-before-eq0-2.false
 
 pub next_fields_spec : {M : Type 1} → statement M
 next_fields_spec =

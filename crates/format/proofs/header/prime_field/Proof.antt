@@ -31,7 +31,7 @@ judged c = (not_refused c).before.before
 -- the bytes of the call, and the body in hand
 
 abbrev bytes : tie.After-two-p → List ℕ
-bytes c = (judged c).before.before.args.rest.now
+bytes c = (judged c).args.rest.now
 
 abbrev hand : tie.After-two-p → List ℕ
 hand c = (body_taken c).said_body-body.result.now
@@ -54,7 +54,7 @@ p_is : (c : tie.After-two-p) → c.two-p.result ≡ number (hand c)
 p_is c =
     let b = hand c in
     let q : get_or b 0 0 + 256 * get_or b 1 0 ≡ number b = rw (due c) (two_number (drop head_bytes (bytes c))) in
-    cc (c.two-p.ensures.0, c.before.byte_at-2.ensures, c.before.before.byte_at.ensures, q)
+    cc (c.two-p.ensures.0, c.byte_at-2.ensures, c.byte_at.ensures, q)
 
 -- p as it is tested
 tested : (c : tie.After-prime_within) → prime_test (number (hand c.before)) ≡ c.prime_within.result
@@ -68,7 +68,7 @@ refused_requires c κs = search rules
 
 returns : tie.Need-returns-then-head-ne0
 unfolding prime_said prime_field
-returns c = c.refused.ensures ∙ said_refused _ _ (then_refused _ _ _ c.before.before.before.judge_head-head.ensures.refusal_is c.before.if-head-ne0.true) c.before.if-head-ne0.true
+returns c = c.refused.ensures ∙ said_refused _ _ (then_refused _ _ _ c.judge_head-head.ensures.refusal_is c.if-head-ne0.true) c.if-head-ne0.true
 
 said_body_requires : tie.Need-said_body-body-requires
 said_body_requires c κs = search rules
@@ -94,7 +94,7 @@ returns_2 c =
     let w = c.before.before in
     let d = w.before in
     c.refused-then-not-prime_within.ensures
-    ∙ said_refused _ _ (content_refused prime_tag prime_body _ (head d) (passed d) (body d) _ (first_fails _ _ _ (tested w ∙ not-true _ c.before.if-not-prime_within.true-raw)) (λ e. omega arith)).refusal_is (λ e. omega arith)
+    ∙ said_refused _ _ (content_refused prime_tag prime_body _ (head d) (passed d) (body d) _ (first_fails _ _ _ (tested w ∙ not-true _ c.if-not-prime_within.true-raw)) (λ e. omega arith)).refusal_is (λ e. omega arith)
 
 returns_3 : tie.Need-returns
 unfolding prime_said prime_field

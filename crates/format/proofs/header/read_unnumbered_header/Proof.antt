@@ -20,7 +20,7 @@ prime_field_requires : tie.Need-prime_field-prime-requires
 prime_field_requires c κs = search rules
 
 returns : tie.Need-returns-then-prime-ne0
-returns c = prime_stops _ c.before.before.prime_field-prime.ensures c.if-prime-ne0.true
+returns c = prime_stops _ c.prime_field-prime.ensures c.if-prime-ne0.true
 
 said_rest_requires : tie.Need-said_rest-second-requires
 said_rest_requires c κs = search rules
@@ -31,7 +31,7 @@ sizes_field_requires c κs = search rules
 returns_2 : tie.Need-returns-then-sizes-ne0
 returns_2 c =
     let d = c.before.before in
-    sizes_stop _ (prime_read d).prime_field-prime.ensures (prime_passed d).if-prime-ne0.false d.before.said_rest-second.ensures.bytes_are d.sizes_field-sizes.ensures c.if-sizes-ne0.true
+    sizes_stop _ (prime_read d).prime_field-prime.ensures (prime_passed d).if-prime-ne0.false d.said_rest-second.ensures.bytes_are d.sizes_field-sizes.ensures c.if-sizes-ne0.true
 
 said_rest_requires_2 : tie.Need-said_rest-requires
 said_rest_requires_2 c κs = search rules
@@ -47,15 +47,15 @@ returns_3 c =
     let r = c.before.before in
     let d = sizes_read r in
     c.refused.ensures
-    ∙ rows_stop _ (prime_read d).prime_field-prime.ensures (prime_passed d).if-prime-ne0.false d.before.said_rest-second.ensures.bytes_are d.sizes_field-sizes.ensures
-    r.before.before.if-sizes-ne0.false r.before.said_rest.ensures.bytes_are r.judge_unnumbered_rows-r.ensures c.before.if-r-ne0.true
+    ∙ rows_stop _ (prime_read d).prime_field-prime.ensures (prime_passed d).if-prime-ne0.false d.said_rest-second.ensures.bytes_are d.sizes_field-sizes.ensures
+    r.if-sizes-ne0.false r.said_rest.ensures.bytes_are r.judge_unnumbered_rows-r.ensures c.if-r-ne0.true
 
 returns_4 : tie.Need-returns
 returns_4 c =
     let r = c.before in
     let d = sizes_read r in
-    rows_end _ (prime_read d).prime_field-prime.ensures (prime_passed d).if-prime-ne0.false d.before.said_rest-second.ensures.bytes_are d.sizes_field-sizes.ensures
-    r.before.before.if-sizes-ne0.false r.before.said_rest.ensures.bytes_are r.judge_unnumbered_rows-r.ensures c.if-r-ne0.false
+    rows_end _ (prime_read d).prime_field-prime.ensures (prime_passed d).if-prime-ne0.false d.said_rest-second.ensures.bytes_are d.sizes_field-sizes.ensures
+    r.if-sizes-ne0.false r.said_rest.ensures.bytes_are r.judge_unnumbered_rows-r.ensures c.if-r-ne0.false
 
 pub read_unnumbered_header_spec : {M : Type 1} → statement M
 read_unnumbered_header_spec =

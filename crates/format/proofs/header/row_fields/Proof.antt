@@ -14,11 +14,11 @@ refused_requires c κs = search rules
 
 returns : tie.Need-returns-then-r-ne0
 unfolding rows_said
-returns c = c.refused.ensures ∙ said_refused _ _ c.before.before.judge_row_fields-r.ensures c.before.if-r-ne0.true
+returns c = c.refused.ensures ∙ said_refused _ _ c.judge_row_fields-r.ensures c.if-r-ne0.true
 
 returns_2 : tie.Need-returns
 unfolding rows_said
-returns_2 c = said_passed _ _ c.before.judge_row_fields-r.ensures c.if-r-ne0.false
+returns_2 c = said_passed _ _ c.judge_row_fields-r.ensures c.if-r-ne0.false
 
 pub row_fields_spec : {M : Type 1} → statement M
 row_fields_spec =

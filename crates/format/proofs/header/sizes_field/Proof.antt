@@ -31,7 +31,7 @@ judged c = (not_refused c).before.before
 -- the bytes of the call, and the body in hand
 
 abbrev bytes : tie.After-byte_at-b → List ℕ
-bytes c = (judged c).before.before.args.rest.now
+bytes c = (judged c).args.rest.now
 
 abbrev hand : tie.After-byte_at-b → List ℕ
 hand c = (body_taken c).said_body-body.result.now
@@ -52,7 +52,7 @@ due c = body_is sizes_tag sizes_body (bytes c) (head c) (passed c) (body c)
 
 -- n, a, b as they are tested
 tested : (c : tie.After-sizes_within) → let b = hand c.before in size_test (get_or b 0 0) (get_or b 1 0) (get_or b 2 0) ≡ c.sizes_within.result
-tested c = let d = c.before in cc (d.before.before.byte_at-n.ensures, d.before.byte_at-a.ensures, d.byte_at-b.ensures, c.sizes_within.ensures)
+tested c = let d = c.before in cc (d.byte_at-n.ensures, d.byte_at-a.ensures, d.byte_at-b.ensures, c.sizes_within.ensures)
 
 -- what a field of the sizes says that passes
 abbrev made : ℕ → ℕ × ℕ × ℕ → Header
@@ -61,9 +61,9 @@ made p z = record { refusal = 0; p = p; n = z.0; a = z.1; b = z.2 }
 same_made : (p : ℕ) {n a b n' a' b' : ℕ} → n ≡ n' → a ≡ a' → b ≡ b' → made p (n, a, b) ≡ made p (n', a', b')
 same_made p d e f = cc
 
-numbers : (c : tie.After-byte_at-b) (p : ℕ) → made p (c.before.before.byte_at-n.result, c.before.byte_at-a.result, c.byte_at-b.result) ≡ made p (sizes_body.dec (take sizes_body.size (drop head_bytes (bytes c))))
+numbers : (c : tie.After-byte_at-b) (p : ℕ) → made p (c.byte_at-n.result, c.byte_at-a.result, c.byte_at-b.result) ≡ made p (sizes_body.dec (take sizes_body.size (drop head_bytes (bytes c))))
 numbers c p =
-    same_made p c.before.before.byte_at-n.ensures c.before.byte_at-a.ensures c.byte_at-b.ensures ∙ ap (λ (b : List ℕ). made p (sizes_body.dec b)) (due c)
+    same_made p c.byte_at-n.ensures c.byte_at-a.ensures c.byte_at-b.ensures ∙ ap (λ (b : List ℕ). made p (sizes_body.dec b)) (due c)
 
 judge_head_requires : tie.Need-judge_head-head-requires
 judge_head_requires c κs = search rules
@@ -73,7 +73,7 @@ refused_requires c κs = search rules
 
 returns : tie.Need-returns-then-head-ne0
 unfolding sizes_said sizes_field
-returns c = c.refused.ensures ∙ said_refused _ _ (then_refused _ _ _ c.before.before.before.judge_head-head.ensures.refusal_is c.before.if-head-ne0.true) c.before.if-head-ne0.true
+returns c = c.refused.ensures ∙ said_refused _ _ (then_refused _ _ _ c.judge_head-head.ensures.refusal_is c.if-head-ne0.true) c.if-head-ne0.true
 
 said_body_requires : tie.Need-said_body-body-requires
 said_body_requires c κs = search rules
@@ -108,7 +108,7 @@ returns_2 c =
     let w = c.before.before in
     let d = w.before in
     c.refused-then-not-sizes_within.ensures
-    ∙ said_refused _ _ (content_refused sizes_tag sizes_body _ (head d) (passed d) (body d) _ (first_fails _ _ _ (tested w ∙ not-true _ c.before.if-not-sizes_within.true-raw)) (λ e. omega arith)).refusal_is (λ e. omega arith)
+    ∙ said_refused _ _ (content_refused sizes_tag sizes_body _ (head d) (passed d) (body d) _ (first_fails _ _ _ (tested w ∙ not-true _ c.if-not-sizes_within.true-raw)) (λ e. omega arith)).refusal_is (λ e. omega arith)
 
 returns_3 : tie.Need-returns
 unfolding sizes_said sizes_field

@@ -17,7 +17,7 @@ said_length_requires c κs = search rules
 
 returns_2 : tie.Need-returns
 unfolding due_test
-returns_2 c = simp (eq-eqb _ _ c.before.if-rest-tag.false, c.said_length.ensures.0)
+returns_2 c = simp (eq-eqb _ _ c.if-rest-tag.false, c.said_length.ensures.0)
 
 pub is_due_spec : {M : Type 1} → statement M
 is_due_spec = tie.close (tie.spec shared_slice_read_if1 returns said_length_requires returns_2)

@@ -28,7 +28,7 @@ judge_head_requires c κs = search rules
 
 returns : tie.Need-returns-then-head-ne0
 unfolding constant_row
-returns c = handed_on _ c.before.before.judge_head-head.ensures c.if-head-ne0.true
+returns c = handed_on _ c.judge_head-head.ensures c.if-head-ne0.true
 
 said_body_requires : tie.Need-said_body-requires
 said_body_requires c κs = search rules
@@ -41,7 +41,7 @@ unfolding constant_row
 returns_2 c =
     let d = c.before in
     let a = (entry d).args in
-    content_refused constant_tag (constant_body a.p a.n) a.rest.now (judged d).judge_head-head.ensures (not_refused d).if-head-ne0.false d.before.said_body.ensures.bytes_are
+    content_refused constant_tag (constant_body a.p a.n) a.rest.now (judged d).judge_head-head.ensures (not_refused d).if-head-ne0.false d.said_body.ensures.bytes_are
     _ (first_fails _ _ _ (sym d.entries_below.ensures ∙ not-true _ c.if-not-entries_below.true-raw)) (λ e. omega arith)
 
 returns_3 : tie.Need-returns
@@ -49,7 +49,7 @@ unfolding constant_row
 returns_3 c =
     let d = c.before in
     let a = (entry d).args in
-    content_passed constant_tag (constant_body a.p a.n) a.rest.now (judged d).judge_head-head.ensures (not_refused d).if-head-ne0.false d.before.said_body.ensures.bytes_are
+    content_passed constant_tag (constant_body a.p a.n) a.rest.now (judged d).judge_head-head.ensures (not_refused d).if-head-ne0.false d.said_body.ensures.bytes_are
     (zero_unless _ _ (sym d.entries_below.ensures ∙ not-false _ c.if-not-entries_below.false-raw))
 
 pub judge_constant_row_spec : {M : Type 1} → statement M

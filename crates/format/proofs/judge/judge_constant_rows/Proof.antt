@@ -32,7 +32,7 @@ entry k = k.before.before
 
 -- what the turn has not read yet
 abbrev unread : tie.After-struct_known-in-loop-todo-1 invariant-loop decreases-loop → List ℕ
-unread c = (turn (judged c)).loop-todo.rest-1.now
+unread c = (turn (judged c)).loop-todo.rest.now
 
 loop_holds : tie.Need-loop-todo-init invariant-loop decreases-loop
 loop_holds c = todo_all
@@ -41,15 +41,15 @@ judge_constant_row_requires : tie.Need-judge_constant_row-row-requires invariant
 judge_constant_row_requires c κs = search rules
 
 returns : tie.Need-returns-then-row-ne0 invariant-loop decreases-loop
-returns c = let d = c.before.before in todo_refused (turn d).loop-todo.invariant d.before.loop-todo-test.true d.judge_constant_row-row.ensures c.if-row-ne0.true
+returns c = let d = c.before.before in todo_refused (turn d).loop-todo.invariant d.loop-todo-test.true d.judge_constant_row-row.ensures c.if-row-ne0.true
 
 -- what follows a row is the end of the unread rest
-ends : (c : tie.After-struct_known-in-loop-todo-1 invariant-loop decreases-loop) → let a = (entry (turn (judged c))).args in Ends ((constant_row a.p a.n).rest-1 (unread c)) (unread c)
+ends : (c : tie.After-struct_known-in-loop-todo-1 invariant-loop decreases-loop) → let a = (entry (turn (judged c))).args in Ends ((constant_row a.p a.n).rest (unread c)) (unread c)
 unfolding constant_row
 ends c = let a = (entry (turn (judged c))).args in field_ends constant_tag (constant_body a.p a.n) (unread c)
 
 whole : (c : tie.After-struct_known-in-loop-todo-1 invariant-loop decreases-loop) → (judged c).judge_constant_row-row.result.left ≤ length (unread c)
-whole c = left_within (judged c).judge_constant_row-row.ensures c.before.if-row-ne0.false (ends c)
+whole c = left_within (judged c).judge_constant_row-row.ensures c.if-row-ne0.false (ends c)
 
 sub_at : tie.Need-overflow_sub-at invariant-loop decreases-loop
 sub_at c = whole c
@@ -73,11 +73,11 @@ loop_again : tie.Need-loop-todo-preserved invariant-loop decreases-loop
 loop_again c =
     let d = judged c.before in
     let j = d.judge_constant_row-row.ensures in
-    let z = c.before.before.if-row-ne0.false in
-    todo_next (turn d).loop-todo.invariant d.before.loop-todo-test.true _ (accepted j z) (next_part j z (ends c.before))
+    let z = c.if-row-ne0.false in
+    todo_next (turn d).loop-todo.invariant d.loop-todo-test.true _ (accepted j z) (next_part j z (ends c.before))
 
 returns_2 : tie.Need-returns invariant-loop decreases-loop
-returns_2 c = todo_done c.before.loop-todo.invariant c.loop-todo-test.false refl refl
+returns_2 c = todo_done c.loop-todo.invariant c.loop-todo-test.false refl refl
 
 pub judge_constant_rows_spec : {M : Type 1} → statement M
 judge_constant_rows_spec =

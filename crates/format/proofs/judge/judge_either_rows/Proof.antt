@@ -17,10 +17,10 @@ returns : tie.Need-returns-then-is_numbered
 unfolding parameter_rows
 returns c =
     let d = c.before.before in
-    let a = d.before.before.args in
+    let a = d.args in
     let s = a.file.now in
     subst (λ (t : Bool). Judgement (cond t ((numbered_rows a.n a.b).tests s) ((many a.b (parameter_row a.n)).tests s)) (cond t ((numbered_rows a.n a.b).rest s) ((many a.b (parameter_row a.n)).rest s)) c.judge_numbered_rows.result)
-    (sym c.before.if-is_numbered.true ∙ d.is_numbered.ensures) c.judge_numbered_rows.ensures
+    (sym c.if-is_numbered.true ∙ d.is_numbered.ensures) c.judge_numbered_rows.ensures
 
 judge_parameter_rows_requires : tie.Need-judge_parameter_rows-requires
 judge_parameter_rows_requires c κs = search rules
@@ -29,10 +29,10 @@ returns_2 : tie.Need-returns
 unfolding parameter_rows
 returns_2 c =
     let d = c.before.before in
-    let a = d.before.before.args in
+    let a = d.args in
     let s = a.file.now in
     subst (λ (t : Bool). Judgement (cond t ((numbered_rows a.n a.b).tests s) ((many a.b (parameter_row a.n)).tests s)) (cond t ((numbered_rows a.n a.b).rest s) ((many a.b (parameter_row a.n)).rest s)) c.judge_parameter_rows.result)
-    (sym c.before.if-is_numbered.false ∙ d.is_numbered.ensures) c.judge_parameter_rows.ensures
+    (sym c.if-is_numbered.false ∙ d.is_numbered.ensures) c.judge_parameter_rows.ensures
 
 pub judge_either_rows_spec : {M : Type 1} → statement M
 judge_either_rows_spec =

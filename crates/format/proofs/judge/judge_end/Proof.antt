@@ -21,7 +21,7 @@ judge_head_requires c κs = search rules
 
 returns : tie.Need-returns-then-head-ne0
 unfolding closed end_field
-returns c = then_refused _ _ _ (then_refused _ _ _ c.before.before.judge_head-head.ensures.refusal_is c.if-head-ne0.true) c.if-head-ne0.true
+returns c = then_refused _ _ _ (then_refused _ _ _ c.judge_head-head.ensures.refusal_is c.if-head-ne0.true) c.if-head-ne0.true
 
 returns_2 : tie.Need-returns-then-head-ne0-2
 unfolding closed end_field end_test
@@ -29,7 +29,7 @@ returns_2 c =
     let d = c.before.before in
     let j = (judged d).judge_head-head.ensures in
     let z = d.if-head-ne0.false in
-    let more : length (drop 0 (drop head_bytes (judged d).before.before.args.rest.now)) ≢ 0 = λ e. c.if-head-ne0-2.true (accepted_left j z ∙ e) in
+    let more : length (drop 0 (drop head_bytes (judged d).args.rest.now)) ≢ 0 = λ e. c.if-head-ne0-2.true (accepted_left j z ∙ e) in
     then_passed _ _ _ (zero_then _ _ (accepted j z) (sym first_none)) (first_fails _ _ _ (ne_eqb _ _ more))
 
 returns_3 : tie.Need-returns

@@ -21,11 +21,11 @@ entry c = c.before.before
 
 -- the head says what is due
 due : (c : tie.Else-not-due) → let a = (entry (there c)).args in due_test a.tag a.size a.rest.now ≡ true
-due c = sym c.before.before.is_due-due.ensures ∙ not-false _ c.if-not-due.false-raw
+due c = sym c.is_due-due.ensures ∙ not-false _ c.if-not-due.false-raw
 
 -- the body is there
 whole : (c : tie.Else-not-whole) → let a = (entry (there c.before)).args in body_test a.size a.rest.now ≡ true
-whole c = sym c.before.before.has_body-whole.ensures ∙ not-false _ c.if-not-whole.false-raw
+whole c = sym c.has_body-whole.ensures ∙ not-false _ c.if-not-whole.false-raw
 
 returns : tie.Need-returns-then-rest-lt-HEAD_BYTES
 returns c = refuses (head_none _ _ _ c.if-rest-lt-HEAD_BYTES.true) (λ z. omega arith) refl
@@ -37,10 +37,10 @@ has_body_requires : tie.Need-has_body-whole-requires
 has_body_requires c κs = search rules
 
 returns_2 : tie.Need-returns-then-not-due
-returns_2 c = refuses (head_undue _ _ _ c.before.before.before.if-rest-lt-HEAD_BYTES.false (sym c.before.before.is_due-due.ensures ∙ not-true _ c.if-not-due.true-raw)) (λ z. omega arith) refl
+returns_2 c = refuses (head_undue _ _ _ c.if-rest-lt-HEAD_BYTES.false (sym c.is_due-due.ensures ∙ not-true _ c.if-not-due.true-raw)) (λ z. omega arith) refl
 
 returns_3 : tie.Need-returns-then-not-whole
-returns_3 c = let d = c.before in refuses (head_cut _ _ _ (there d).if-rest-lt-HEAD_BYTES.false (due d) (sym d.before.has_body-whole.ensures ∙ not-true _ c.if-not-whole.true-raw)) (λ z. omega arith) refl
+returns_3 c = let d = c.before in refuses (head_cut _ _ _ (there d).if-rest-lt-HEAD_BYTES.false (due d) (sym d.has_body-whole.ensures ∙ not-true _ c.if-not-whole.true-raw)) (λ z. omega arith) refl
 
 sub_t8 : tie.Need-overflow_sub-result
 sub_t8 c = search rules

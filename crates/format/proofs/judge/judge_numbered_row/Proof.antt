@@ -37,7 +37,7 @@ abbrev set_read : tie.After-judge_numbers → tie.After-of_bytes-set
 set_read c = c.before.before.before.before.before
 
 passed : (c : tie.After-of_bytes-set) → let a = (entry (judged c)).args in first_refusal ((parameter_row a.n).tests a.rest.now) ≡ 0
-passed c = accepted (judged c).judge_parameter_row-row.ensures c.before.before.if-row-ne0.false
+passed c = accepted (judged c).judge_parameter_row-row.ensures c.if-row-ne0.false
 
 -- what follows the row
 ends : (c : tie.After-of_bytes-set) → let a = (entry (judged c)).args in Ends ((parameter_row a.n).rest a.rest.now) a.rest.now
@@ -48,7 +48,7 @@ ends c = let a = (entry (judged c)).args in field_ends parameter_tag (parameter_
 set : (c : tie.After-of_bytes-set) → let a = (entry (judged c)).args in whole c.of_bytes-set.result ≡ (parameter_row a.n).dec a.rest.now
 set c =
     let a = (entry (judged c)).args in
-    c.of_bytes-set.ensures.is_number ∙ ap (λ (t : List ℕ). number (take room_bytes t)) c.before.said_body.ensures.bytes_are ∙ row_set a.n a.rest.now (passed c)
+    c.of_bytes-set.ensures.is_number ∙ ap (λ (t : List ℕ). number (take room_bytes t)) c.said_body.ensures.bytes_are ∙ row_set a.n a.rest.now (passed c)
 
 inside : (n : ℕ) (s : List ℕ) → first_refusal ((parameter_row n).tests s) ≡ 0 → within n ((parameter_row n).dec s) ≡ true
 unfolding parameter_row
@@ -57,7 +57,7 @@ inside n s e = unless_zero _ _ (then_zero (head_tests parameter_tag (parameter_s
 count : (c : tie.After-of_bytes-set) → let a = (entry (judged c)).args in # width (members (whole c.of_bytes-set.result)) ≡ parameter_count a.n ((parameter_row a.n).dec a.rest.now)
 count c =
     let a = (entry (judged c)).args in
-    let fits : Fits c.of_bytes-set.result = search (rules, c.of_bytes-set.type-inv) in
+    let fits : Fits c.of_bytes-set.result = search (rules, c.of_bytes-set.type_inv) in
     count_within a.n (whole c.of_bytes-set.result) (whole_below _ fits) (ap (within a.n) (set c) ∙ inside a.n a.rest.now (passed c)) ∙ ap (parameter_count a.n) (set c)
 
 judge_parameter_row_requires : tie.Need-judge_parameter_row-row-requires
@@ -67,7 +67,7 @@ returns : tie.Need-returns-then-row-ne0
 returns c =
     record {
       same_length = refl;
-      judged = λ before h. handed_on _ c.before.before.judge_parameter_row-row.ensures c.if-row-ne0.true;
+      judged = λ before h. handed_on _ c.judge_parameter_row-row.ensures c.if-row-ne0.true;
       kept = λ before h e. absurd (c.if-row-ne0.true e);
     }
 
@@ -78,7 +78,7 @@ of_bytes_requires : tie.Need-of_bytes-set-requires
 of_bytes_requires c κs = search rules
 
 sub_at : tie.Need-overflow_sub-at
-sub_at c = let d = c.before in left_within (judged d).judge_parameter_row-row.ensures d.before.before.if-row-ne0.false (ends d)
+sub_at c = let d = c.before in left_within (judged d).judge_parameter_row-row.ensures d.if-row-ne0.false (ends d)
 
 sub_judge_numbers : tie.Need-slice_bounds-judge_numbers-count
 sub_judge_numbers c = search rules
@@ -93,7 +93,7 @@ size_requires : tie.Need-size-requires
 size_requires c κs = search rules
 
 judge_numbers_requires : tie.Need-judge_numbers-requires
-judge_numbers_requires c κs = let e = c.before.before.before.before in (omega (arith, c.before.size.ensures, #-le width (members (whole e.of_bytes-set.result))), (entry (judged e)).requires)
+judge_numbers_requires c κs = let e = c.before.before.before.before in (omega (arith, c.size.ensures, #-le width (members (whole e.of_bytes-set.result))), (entry (judged e)).requires)
 
 same_length : tie.Need-shape_of-table
 same_length c = search rules
@@ -104,10 +104,10 @@ returns_2 c =
     let e = set_read d in
     let j = judged e in
     let a = (entry j).args in
-    let t = next_part j.judge_parameter_row-row.ensures e.before.before.if-row-ne0.false (ends e) in
-    let own = subst (λ (u : List ℕ). NumbersJudged (number_field d.before.before.size.result) (λ before ks. before ++ ks) u a.table-1.now d.judge_numbers.new.1.1.0 d.judge_numbers.result) t d.judge_numbers.ensures in
-    let counted = d.before.before.size.ensures ∙ count e in
-    let mine = subst (λ (k : ℕ). NumbersJudged (number_field k) (λ before ks. before ++ ks) ((parameter_row a.n).rest a.rest.now) a.table-1.now d.judge_numbers.new.1.1.0 d.judge_numbers.result) counted own in
+    let t = next_part j.judge_parameter_row-row.ensures e.if-row-ne0.false (ends e) in
+    let own = subst (λ (u : List ℕ). NumbersJudged (number_field d.size.result) (λ before ks. before ++ ks) u a.table.now d.judge_numbers.new.table d.judge_numbers.result) t d.judge_numbers.ensures in
+    let counted = d.size.ensures ∙ count e in
+    let mine = subst (λ (k : ℕ). NumbersJudged (number_field k) (λ before ks. before ++ ks) ((parameter_row a.n).rest a.rest.now) a.table.now d.judge_numbers.new.table d.judge_numbers.result) counted own in
     record {
       same_length = mine.same_length;
       judged = λ before h. after_passed ((parameter_row a.n).tests a.rest.now) (passed e) (mine.judged before h);

@@ -31,9 +31,9 @@ abbrev turn : tie.After-judge_numbered_row-row invariant-loop decreases-loop →
 turn c = c.before.before
 
 -- the row is judged after the numbers that the table keeps
-row : (c : tie.After-judge_numbered_row-row invariant-loop decreases-loop) → let l = (turn c).before.loop-todo in let a = (turn c).before.before.before.args in
-    Judgement ((numbered_row a.n l.inv.0).tests l.rest-1.now) ((numbered_row a.n l.inv.0).rest-1 l.rest-1.now) c.judge_numbered_row-row.result
-row c = let l = (turn c).before.loop-todo in c.judge_numbered_row-row.ensures.judged l.inv.0 l.inv.1
+row : (c : tie.After-judge_numbered_row-row invariant-loop decreases-loop) → let l = (turn c).loop-todo in let a = (turn c).args in
+    Judgement ((numbered_row a.n l.invariant.0).tests l.rest.now) ((numbered_row a.n l.invariant.0).rest l.rest.now) c.judge_numbered_row-row.result
+row c = let l = (turn c).loop-todo in c.judge_numbered_row-row.ensures.judged l.invariant.0 l.invariant.1
 
 loop_holds : tie.Need-loop-todo-init invariant-loop decreases-loop
 loop_holds c = ([], keeps_none _ (λ i. zeros 1024 i), chain_all, refl)
@@ -42,16 +42,16 @@ slice_aggregate_judge_numbered_row : tie.Need-slice_bounds-judge_numbered_row-en
 slice_aggregate_judge_numbered_row c = search rules
 
 judge_numbered_row_requires : tie.Need-judge_numbered_row-row-requires invariant-loop decreases-loop
-judge_numbered_row_requires c κs = c.before.before.loop-todo.invariant.3
+judge_numbered_row_requires c κs = c.loop-todo.invariant.3
 
 returns : tie.Need-returns-then-row-ne0 invariant-loop decreases-loop
 unfolding numbered_rows
 returns c =
     let d = c.before.before.before in
-    chain_refused (turn d).before.loop-todo.invariant.2 (turn d).loop-todo-test.true (row d) c.if-row-ne0.true
+    chain_refused (turn d).loop-todo.invariant.2 (turn d).loop-todo-test.true (row d) c.if-row-ne0.true
 
 sub_at : tie.Need-overflow_sub-at invariant-loop decreases-loop
-sub_at c = let d = judged c in left_within (row d) c.before.if-row-ne0.false (numbered_ends _ _ _)
+sub_at c = let d = judged c in left_within (row d) c.if-row-ne0.false (numbered_ends _ _ _)
 
 sub_rest : tie.Need-slice_bounds-rest-count invariant-loop decreases-loop
 sub_rest c = omega arith
@@ -72,15 +72,15 @@ loop_again : tie.Need-loop-todo-preserved invariant-loop decreases-loop
 loop_again c =
     let k = c.before in
     let d = judged k in
-    let l = (turn d).before.loop-todo in
-    let z = k.before.if-row-ne0.false in
+    let l = (turn d).loop-todo in
+    let z = k.if-row-ne0.false in
     let j = row d in
     let e = d.judge_numbered_row-row.ensures in
-    (_, e.kept l.inv.0 l.inv.1 z, chain_next l.inv.2 (turn d).loop-todo-test.true _ (accepted j z) (next_part j z (numbered_ends _ _ _)), e.same_length ∙ l.inv.3)
+    (_, e.kept l.invariant.0 l.invariant.1 z, chain_next l.invariant.2 (turn d).loop-todo-test.true _ (accepted j z) (next_part j z (numbered_ends _ _ _)), e.same_length ∙ l.invariant.3)
 
 returns_2 : tie.Need-returns invariant-loop decreases-loop
 unfolding numbered_rows
-returns_2 c = chain_done c.before.loop-todo.invariant.2 c.loop-todo-test.false refl refl
+returns_2 c = chain_done c.loop-todo.invariant.2 c.loop-todo-test.false refl refl
 
 pub judge_numbered_rows_spec : {M : Type 1} → statement M
 judge_numbered_rows_spec =

@@ -20,13 +20,13 @@ judge_head_requires c κs = search rules
 
 returns : tie.Need-returns-then-head-ne0
 unfolding number_field
-returns c = record { same_length = refl; judged = λ before h. handed_on _ c.before.before.judge_head-head.ensures c.if-head-ne0.true; kept = λ before h e. absurd (c.if-head-ne0.true e) }
+returns c = record { same_length = refl; judged = λ before h. handed_on _ c.judge_head-head.ensures c.if-head-ne0.true; kept = λ before h e. absurd (c.if-head-ne0.true e) }
 
 said_body_requires : tie.Need-said_body-requires
 said_body_requires c κs = search rules
 
 meet_entries_requires : tie.Need-meet_entries-requires
-meet_entries_requires c κs = c.before.before.before.before.before.before.before.requires.1
+meet_entries_requires c κs = c.requires.1
 
 same_length : tie.Need-shape_of-table-then-not-meet_entries
 same_length c = search rules
@@ -37,11 +37,11 @@ returns_2 c =
     let met = c.before.before.before in
     let body = met.before in
     let head = body.before.before.before.before in
-    let a = head.before.before.before.args in
+    let a = head.args in
     record {
       same_length = met.meet_entries.ensures.same_length;
       judged = λ before h.
-          content_refused number_tag (number_body a.count before) a.rest.now head.judge_head-head.ensures body.before.before.if-head-ne0.false body.said_body.ensures.bytes_are
+          content_refused number_tag (number_body a.count before) a.rest.now head.judge_head-head.ensures body.if-head-ne0.false body.said_body.ensures.bytes_are
           _ (first_fails _ _ _ (sym (met.meet_entries.ensures.told before h) ∙ not-true _ c.if-not-meet_entries.true-raw)) (λ e. omega arith);
       kept = λ before h e. absurd (omega arith);
     }
@@ -55,8 +55,8 @@ returns_3 c =
     let met = c.before.before.before in
     let body = met.before in
     let head = body.before.before.before.before in
-    let a = head.before.before.before.args in
-    let z = body.before.before.if-head-ne0.false in
+    let a = head.args in
+    let z = body.if-head-ne0.false in
     let passed = not-false _ c.if-not-meet_entries.false-raw in
     record {
       same_length = met.meet_entries.ensures.same_length;
@@ -64,7 +64,7 @@ returns_3 c =
           content_passed number_tag (number_body a.count before) a.rest.now head.judge_head-head.ensures z body.said_body.ensures.bytes_are
           (zero_unless _ _ (sym (met.meet_entries.ensures.told before h) ∙ passed));
       kept = λ before h _.
-          subst (λ (t : List ℕ). Keeps (before ++ entries t) met.meet_entries.new.0)
+          subst (λ (t : List ℕ). Keeps (before ++ entries t) met.meet_entries.new.table)
           (body_is number_tag (number_body a.count before) a.rest.now head.judge_head-head.ensures z body.said_body.ensures.bytes_are)
           (met.meet_entries.ensures.kept before h passed);
     }

@@ -30,13 +30,13 @@ judged c = (not_refused c).before.before
 
 -- the head, with the size that is due
 head : (c : tie.After-judge_head-head) → let a = (entry c).args in Judgement (head_tests parameter_tag (parameter_size a.n) a.rest.now) (drop (parameter_size a.n) (drop head_bytes a.rest.now)) c.judge_head-head.result
-head c = rw c.before.parameter_size.ensures at c.judge_head-head.ensures
+head c = rw c.parameter_size.ensures at c.judge_head-head.ensures
 
 -- the row's set is the number of its body
-set : (c : tie.After-of_bytes-set) → whole c.of_bytes-set.result ≡ number c.before.said_body.result.now
+set : (c : tie.After-of_bytes-set) → whole c.of_bytes-set.result ≡ number c.said_body.result.now
 set c =
     let a = (entry (judged c)).args in
-    let b = c.before.said_body in
+    let b = c.said_body in
     let l = body_length parameter_tag (parameter_body a.n) a.rest.now (head (judged c)) (not_refused c).if-head-ne0.false b.ensures.bytes_are in
     c.of_bytes-set.ensures.is_number ∙ ap number (take_all room_bytes b.result.now (omega (arith, parameter_size_most a.n)))
 
@@ -64,16 +64,16 @@ unfolding parameter_row
 returns_2 c =
     let d = c.before.before in
     let a = (entry (judged d)).args in
-    content_refused parameter_tag (parameter_body a.n) a.rest.now (head (judged d)) (not_refused d).if-head-ne0.false d.before.said_body.ensures.bytes_are
-    _ (first_fails _ _ _ (sym (ap (within a.n) (set d)) ∙ sym c.before.within.ensures ∙ not-true _ c.if-not-within.true-raw)) (λ e. omega arith)
+    content_refused parameter_tag (parameter_body a.n) a.rest.now (head (judged d)) (not_refused d).if-head-ne0.false d.said_body.ensures.bytes_are
+    _ (first_fails _ _ _ (sym (ap (within a.n) (set d)) ∙ sym c.within.ensures ∙ not-true _ c.if-not-within.true-raw)) (λ e. omega arith)
 
 returns_3 : tie.Need-returns
 unfolding parameter_row
 returns_3 c =
     let d = c.before.before in
     let a = (entry (judged d)).args in
-    content_passed parameter_tag (parameter_body a.n) a.rest.now (head (judged d)) (not_refused d).if-head-ne0.false d.before.said_body.ensures.bytes_are
-    (zero_unless _ _ (sym (ap (within a.n) (set d)) ∙ sym c.before.within.ensures ∙ not-false _ c.if-not-within.false-raw))
+    content_passed parameter_tag (parameter_body a.n) a.rest.now (head (judged d)) (not_refused d).if-head-ne0.false d.said_body.ensures.bytes_are
+    (zero_unless _ _ (sym (ap (within a.n) (set d)) ∙ sym c.within.ensures ∙ not-false _ c.if-not-within.false-raw))
 
 pub judge_parameter_row_spec : {M : Type 1} → statement M
 judge_parameter_row_spec =

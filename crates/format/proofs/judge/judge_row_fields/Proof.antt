@@ -46,11 +46,11 @@ parameter_ends s rest = parameter_rows_ends s.args.n s.args.b rest
 
 -- the constant rows are not refused, and what follows them
 passed : (c : tie.After-struct_known-2-1) → let s = entry (constants_judged c) in first_refusal ((constants s).tests (bytes s)) ≡ 0
-passed c = accepted (constants_judged c).judge_constant_rows-constants.ensures c.before.if-constants-ne0.false
+passed c = accepted (constants_judged c).judge_constant_rows-constants.ensures c.if-constants-ne0.false
 
 rest : (c : tie.After-struct_known-2-1) → let j = constants_judged c in let s = bytes (entry j) in let left = j.judge_constant_rows-constants.result.left in
     take (length s - (length s - left)) (drop (length s - left) s) ≡ (constants (entry j)).rest s
-rest c = let j = constants_judged c in next_part j.judge_constant_rows-constants.ensures c.before.if-constants-ne0.false (constant_ends (entry j))
+rest c = let j = constants_judged c in next_part j.judge_constant_rows-constants.ensures c.if-constants-ne0.false (constant_ends (entry j))
 
 judge_constant_rows_requires : tie.Need-judge_constant_rows-constants-requires
 judge_constant_rows_requires c κs = search rules
@@ -60,7 +60,7 @@ unfolding row_fields
 returns c = let j = c.before.before in let s = entry j in seq_refused (constants s) (λ _. behind s) _ _ j.judge_constant_rows-constants.ensures.refusal_is c.if-constants-ne0.true
 
 sub_at : tie.Need-overflow_sub-at
-sub_at c = let j = constants_judged c in left_within j.judge_constant_rows-constants.ensures c.before.if-constants-ne0.false (constant_ends (entry j))
+sub_at c = let j = constants_judged c in left_within j.judge_constant_rows-constants.ensures c.if-constants-ne0.false (constant_ends (entry j))
 
 sub_rows : tie.Need-slice_bounds-rows-count
 sub_rows c = search rules
@@ -86,7 +86,7 @@ returns_2 c =
 sub_end : tie.Need-overflow_sub-end
 sub_end c =
     let d = c.before.before.before in
-    left_within d.judge_either_rows-parameters.ensures c.before.if-parameters-ne0.false (parameter_ends (entry (constants_judged (constants_passed d))) _)
+    left_within d.judge_either_rows-parameters.ensures c.if-parameters-ne0.false (parameter_ends (entry (constants_judged (constants_passed d))) _)
 
 sub_judge_end : tie.Need-slice_bounds-judge_end-count
 sub_judge_end c = search rules

@@ -41,8 +41,8 @@ word s = get_or s.args.table.now (at s / word_width) 0
 bit : (c : tie.After-with_bit-next) → let s = entry c in (c.with_bit-next.result ≡ word s → members (word s) (at s % word_width) ≡ true) × (members (word s) (at s % word_width) ≡ true → c.with_bit-next.result ≡ word s)
 bit c =
     let s = entry c in
-    let new : c.with_bit-next.result < 2 ^ word_width = search (rules, c.with_bit-next.type-inv) in
-    let old : word s < 2 ^ word_width = search (rules, c.before.before.slice_known-1.given (at s / word_width)) in
+    let new : c.with_bit-next.result < 2 ^ word_width = search (rules, c.with_bit-next.type_inv) in
+    let old : word s < 2 ^ word_width = search (rules, c.slice_known-1.given (at s / word_width)) in
     bit_new c.with_bit-next.result (word s) (at s % word_width) new old (omega arith) c.with_bit-next.ensures
 
 marked_is : (s : tie.Start) → members (word s) (at s % word_width) ≡ marked s.args.table.now (number s)

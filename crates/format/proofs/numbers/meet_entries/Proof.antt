@@ -30,24 +30,24 @@ abbrev turn : tie.After-meet_four invariant-loop decreases-loop → tie.In-loop-
 turn c = c.before.before
 
 -- the table is as long as it was
-long : (k : tie.At-loop-rest invariant-loop decreases-loop) → length k.loop-rest.table-1 ≡ table_words
+long : (k : tie.At-loop-rest invariant-loop decreases-loop) → length k.loop-rest.table ≡ table_words
 long k = meeting_length k.loop-rest.invariant ∙ (entry k).requires
 
 -- its numbers are the first of the rest
-next : (c : tie.After-meet_four invariant-loop decreases-loop) → let r = (turn c).before.loop-rest.rest-1.now in entries r ≡ entries (take 8 r) ++ entries (drop 8 r)
-next c = (entries_four (turn c).before.loop-rest.rest-1.now (turn c).loop-rest-test.true).1
+next : (c : tie.After-meet_four invariant-loop decreases-loop) → let r = (turn c).loop-rest.rest.now in entries r ≡ entries (take 8 r) ++ entries (drop 8 r)
+next c = (entries_four (turn c).loop-rest.rest.now (turn c).loop-rest-test.true).1
 
 loop_holds : tie.Need-loop-rest-init invariant-loop decreases-loop
 loop_holds c = meeting_all
 
 meet_four_requires : tie.Need-meet_four-requires invariant-loop decreases-loop
-meet_four_requires c κs = (long c.before.before, c.before.loop-rest-test.true)
+meet_four_requires c κs = (long c.before.before, c.loop-rest-test.true)
 
 same_length : tie.Need-shape_of-table-then-not-meet_four invariant-loop decreases-loop
-same_length c = let d = c.before.before.before in d.meet_four.ensures.same_length ∙ meeting_length (turn d).before.loop-rest.invariant
+same_length c = let d = c.before.before.before in d.meet_four.ensures.same_length ∙ meeting_length (turn d).loop-rest.invariant
 
 returns : tie.Need-returns-then-not-meet_four invariant-loop decreases-loop
-returns c = let d = c.before.before.before in meeting_stops (turn d).before.loop-rest.invariant _ _ (next d) (subst (Meets _ _ _) (not-true _ c.if-not-meet_four.true-raw) d.meet_four.ensures)
+returns c = let d = c.before.before.before in meeting_stops (turn d).loop-rest.invariant _ _ (next d) (subst (Meets _ _ _) (not-true _ c.if-not-meet_four.true-raw) d.meet_four.ensures)
 
 sub_rest : tie.Need-slice_bounds-rest-count invariant-loop decreases-loop
 sub_rest c = search rules
@@ -64,17 +64,17 @@ loop_less c = simp (length-take, length-drop) (omega arith)
 loop_again : tie.Need-loop-rest-preserved invariant-loop decreases-loop
 loop_again c =
     let d = c.before.before.before.before in
-    let r = (turn d).before.loop-rest.rest-1.now in
-    meeting_next (turn d).before.loop-rest.invariant _ _ (next d ∙ ap (λ (t : List ℕ). entries (take 8 r) ++ entries t) (sym (tail_part 8 r))) (subst (Meets _ _ _) (not-false _ c.before.if-not-meet_four.false-raw) d.meet_four.ensures)
+    let r = (turn d).loop-rest.rest.now in
+    meeting_next (turn d).loop-rest.invariant _ _ (next d ∙ ap (λ (t : List ℕ). entries (take 8 r) ++ entries t) (sym (tail_part 8 r))) (subst (Meets _ _ _) (not-false _ c.if-not-meet_four.false-raw) d.meet_four.ensures)
 
 meet_rest_requires : tie.Need-meet_rest-requires invariant-loop decreases-loop
 meet_rest_requires c κs = long c.before.before
 
 same_length_2 : tie.Need-shape_of-table invariant-loop decreases-loop
-same_length_2 c = let d = c.before.before in d.meet_rest.ensures.same_length ∙ meeting_length d.before.before.before.loop-rest.invariant
+same_length_2 c = let d = c.before.before in d.meet_rest.ensures.same_length ∙ meeting_length d.loop-rest.invariant
 
 returns_2 : tie.Need-returns invariant-loop decreases-loop
-returns_2 c = let d = c.before.before in meeting_last d.before.before.before.loop-rest.invariant d.meet_rest.ensures
+returns_2 c = let d = c.before.before in meeting_last d.loop-rest.invariant d.meet_rest.ensures
 
 pub meet_entries_spec : {M : Type 1} → statement M
 meet_entries_spec =

@@ -18,9 +18,9 @@ contains_requires c κs = search rules
 returns : tie.Need-returns-then-not-contains
 unfolding entry_at
 returns c =
-    let a = c.before.before.before.before.args in
-    let none : entry_at (members (whole a.set)) a.row.now a.c ≡ [] = ap (λ (b : Bool). cond b (get_or a.row.now a.c 0 ∷ []) []) (sym c.before.contains.ensures ∙ not-true _ c.if-not-contains.true-raw) in
-    rw none (meets_none a.table-1.now)
+    let a = c.args in
+    let none : entry_at (members (whole a.set)) a.row.now a.c ≡ [] = ap (λ (b : Bool). cond b (get_or a.row.now a.c 0 ∷ []) []) (sym c.contains.ensures ∙ not-true _ c.if-not-contains.true-raw) in
+    rw none (meets_none a.table.now)
 
 mul_meet_number : tie.Need-offset_bounds-row-c
 mul_meet_number c = search rules
@@ -39,8 +39,8 @@ unfolding entry_at
 returns_2 c =
     let d = c.before.before in
     let e = d.before.before.before in
-    let a = e.before.before.before.before.args in
-    let own : entry_at (members (whole a.set)) a.row.now a.c ≡ get_or a.row.now a.c 0 ∷ [] = ap (λ (b : Bool). cond b (get_or a.row.now a.c 0 ∷ []) []) (sym e.before.contains.ensures ∙ not-false _ e.if-not-contains.false-raw) in
+    let a = e.args in
+    let own : entry_at (members (whole a.set)) a.row.now a.c ≡ get_or a.row.now a.c 0 ∷ [] = ap (λ (b : Bool). cond b (get_or a.row.now a.c 0 ∷ []) []) (sym e.contains.ensures ∙ not-false _ e.if-not-contains.false-raw) in
     rw own d.meet_number.ensures
 
 pub meet_entry_spec : {M : Type 1} → statement M

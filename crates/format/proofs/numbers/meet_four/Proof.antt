@@ -32,14 +32,14 @@ number s i = let r = s.args.rest.now in get_or r (2 * i) 0 + 256 * get_or r (2 *
 
 -- the first numbers are met, as long as none of them was before
 
-two : (c : tie.After-meet-2) → let s = entry (met₁ c) in Meets (number s 0 ∷ number s 1 ∷ []) s.args.table-1.now c.meet-2.new.0 c.meet-2.result
-two c = meets_on (subst (Meets _ _ _) (not-false _ c.before.before.before.before.if-not-meet.false-raw) (met₁ c).meet.ensures) c.meet-2.ensures
+two : (c : tie.After-meet-2) → let s = entry (met₁ c) in Meets (number s 0 ∷ number s 1 ∷ []) s.args.table.now c.meet-2.new.table c.meet-2.result
+two c = meets_on (subst (Meets _ _ _) (not-false _ c.if-not-meet.false-raw) (met₁ c).meet.ensures) c.meet-2.ensures
 
-three : (c : tie.After-meet-3) → let s = entry (met₁ (met₂ c)) in Meets (number s 0 ∷ number s 1 ∷ number s 2 ∷ []) s.args.table-1.now c.meet-3.new.0 c.meet-3.result
-three c = meets_on (subst (Meets _ _ _) (not-false _ c.before.before.before.before.if-not-meet-2.false-raw) (two (met₂ c))) c.meet-3.ensures
+three : (c : tie.After-meet-3) → let s = entry (met₁ (met₂ c)) in Meets (number s 0 ∷ number s 1 ∷ number s 2 ∷ []) s.args.table.now c.meet-3.new.table c.meet-3.result
+three c = meets_on (subst (Meets _ _ _) (not-false _ c.if-not-meet-2.false-raw) (two (met₂ c))) c.meet-3.ensures
 
-four : (c : tie.After-meet-4) → let s = entry (met₁ (met₂ (met₃ c))) in Meets (number s 0 ∷ number s 1 ∷ number s 2 ∷ number s 3 ∷ []) s.args.table-1.now c.meet-4.new.0 c.meet-4.result
-four c = meets_on (subst (Meets _ _ _) (not-false _ c.before.before.before.before.if-not-meet-3.false-raw) (three (met₃ c))) c.meet-4.ensures
+four : (c : tie.After-meet-4) → let s = entry (met₁ (met₂ (met₃ c))) in Meets (number s 0 ∷ number s 1 ∷ number s 2 ∷ number s 3 ∷ []) s.args.table.now c.meet-4.new.table c.meet-4.result
+four c = meets_on (subst (Meets _ _ _) (not-false _ c.if-not-meet-3.false-raw) (three (met₃ c))) c.meet-4.ensures
 
 -- they are those of the rest
 all : (s : tie.Start) → entries (take 8 s.args.rest.now) ≡ number s 0 ∷ number s 1 ∷ number s 2 ∷ number s 3 ∷ []

@@ -26,7 +26,7 @@ returns c =
     let s = d.before.before.before in
     let k = s.args.number in
     let q : k % 256 + 256 * (k / 256) ≡ k = omega arith in
-    subst (λ (i : ℕ). Meets (i ∷ []) s.args.table-1.now d.meet.new.0 d.meet.result) q d.meet.ensures
+    subst (λ (i : ℕ). Meets (i ∷ []) s.args.table.now d.meet.new.table d.meet.result) q d.meet.ensures
 
 pub meet_number_spec : {M : Type 1} → statement M
 meet_number_spec = tie.close (tie.spec cast_meet cast_meet_2 meet_requires same_length returns)

@@ -34,10 +34,10 @@ turn c = c.before.before.before.before
 
 -- its number is the first of the rest
 abbrev first : tie.After-meet invariant-loop decreases-loop → ℕ
-first c = let r = (turn c).before.loop-rest.rest-1.now in get_or r 0 0 + 256 * get_or r 1 0
+first c = let r = (turn c).loop-rest.rest.now in get_or r 0 0 + 256 * get_or r 1 0
 
-next : (c : tie.After-meet invariant-loop decreases-loop) → let r = (turn c).before.loop-rest.rest-1.now in entries r ≡ (first c ∷ []) ++ entries (drop 2 r)
-next c = entries_next (turn c).before.loop-rest.rest-1.now (turn c).loop-rest-test.true
+next : (c : tie.After-meet invariant-loop decreases-loop) → let r = (turn c).loop-rest.rest.now in entries r ≡ (first c ∷ []) ++ entries (drop 2 r)
+next c = entries_next (turn c).loop-rest.rest.now (turn c).loop-rest-test.true
 
 loop_holds : tie.Need-loop-rest-init invariant-loop decreases-loop
 loop_holds c = meeting_all
@@ -49,13 +49,13 @@ shared_slice_read_meet_2 : tie.Need-bounds-rest-1 invariant-loop decreases-loop
 shared_slice_read_meet_2 c = search rules
 
 meet_requires : tie.Need-meet-requires invariant-loop decreases-loop
-meet_requires c κs = let k = c.before.before.before.before in meeting_length k.loop-rest.invariant ∙ k.before.before.before.requires
+meet_requires c κs = let k = c.before.before.before.before in meeting_length k.loop-rest.invariant ∙ k.requires
 
 same_length : tie.Need-shape_of-table-then-not-meet invariant-loop decreases-loop
-same_length c = let d = met c in d.meet.ensures.same_length ∙ meeting_length (turn d).before.loop-rest.invariant
+same_length c = let d = met c in d.meet.ensures.same_length ∙ meeting_length (turn d).loop-rest.invariant
 
 returns : tie.Need-returns-then-not-meet invariant-loop decreases-loop
-returns c = let d = met c in meeting_stops (turn d).before.loop-rest.invariant _ _ (next d) (subst (Meets _ _ _) (not-true _ c.if-not-meet.true-raw) d.meet.ensures)
+returns c = let d = met c in meeting_stops (turn d).loop-rest.invariant _ _ (next d) (subst (Meets _ _ _) (not-true _ c.if-not-meet.true-raw) d.meet.ensures)
 
 sub_rest : tie.Need-slice_bounds-rest-count invariant-loop decreases-loop
 sub_rest c = search rules
@@ -72,14 +72,14 @@ loop_less c = simp (length-take, length-drop) (omega arith)
 loop_again : tie.Need-loop-rest-preserved invariant-loop decreases-loop
 loop_again c =
     let d = met_first c in
-    let r = (turn d).before.loop-rest.rest-1.now in
-    meeting_next (turn d).before.loop-rest.invariant _ _ (next d ∙ ap (λ (t : List ℕ). (first d ∷ []) ++ entries t) (sym (tail_part 2 r))) (subst (Meets _ _ _) (not-false _ c.before.if-not-meet.false-raw) d.meet.ensures)
+    let r = (turn d).loop-rest.rest.now in
+    meeting_next (turn d).loop-rest.invariant _ _ (next d ∙ ap (λ (t : List ℕ). (first d ∷ []) ++ entries t) (sym (tail_part 2 r))) (subst (Meets _ _ _) (not-false _ c.if-not-meet.false-raw) d.meet.ensures)
 
 same_length_2 : tie.Need-shape_of-table invariant-loop decreases-loop
-same_length_2 c = meeting_length c.before.loop-rest.invariant
+same_length_2 c = meeting_length c.loop-rest.invariant
 
 returns_2 : tie.Need-returns invariant-loop decreases-loop
-returns_2 c = meeting_done c.before.loop-rest.invariant (entries_done _ c.loop-rest-test.false)
+returns_2 c = meeting_done c.loop-rest.invariant (entries_done _ c.loop-rest-test.false)
 
 pub meet_rest_spec : {M : Type 1} → statement M
 meet_rest_spec =

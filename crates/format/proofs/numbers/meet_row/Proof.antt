@@ -36,16 +36,16 @@ loop_holds : tie.Need-loop-c-init invariant-loop decreases-loop
 loop_holds c = meeting_all
 
 meet_entry_requires : tie.Need-meet_entry-requires invariant-loop decreases-loop
-meet_entry_requires c κs = let k = c.before.before in (meeting_length k.loop-c.invariant ∙ k.before.before.before.requires, c.before.loop-c-test.true)
+meet_entry_requires c κs = let k = c.before.before in (meeting_length k.loop-c.invariant ∙ k.requires, c.loop-c-test.true)
 
 same_length : tie.Need-shape_of-table-then-not-meet_entry invariant-loop decreases-loop
-same_length c = let d = met c in d.meet_entry.ensures.same_length ∙ meeting_length (turn d).before.loop-c.invariant
+same_length c = let d = met c in d.meet_entry.ensures.same_length ∙ meeting_length (turn d).loop-c.invariant
 
 returns : tie.Need-returns-then-not-meet_entry invariant-loop decreases-loop
 returns c =
     let d = met c in
     let k = turn d in
-    meeting_stops k.before.loop-c.invariant _ _ (picked_next _ _ k.before.loop-c.c k.loop-c-test.true) (subst (Meets _ _ _) (not-true _ c.if-not-meet_entry.true-raw) d.meet_entry.ensures)
+    meeting_stops k.loop-c.invariant _ _ (picked_next _ _ k.loop-c.c k.loop-c-test.true) (subst (Meets _ _ _) (not-true _ c.if-not-meet_entry.true-raw) d.meet_entry.ensures)
 
 add_c : tie.Need-overflow_add-c invariant-loop decreases-loop
 add_c c = search rules
@@ -57,13 +57,13 @@ loop_again : tie.Need-loop-c-preserved invariant-loop decreases-loop
 loop_again c =
     let d = met_first c in
     let k = turn d in
-    meeting_next k.before.loop-c.invariant _ _ (picked_next _ _ k.before.loop-c.c k.loop-c-test.true) (subst (Meets _ _ _) (not-false _ c.if-not-meet_entry.false-raw) d.meet_entry.ensures)
+    meeting_next k.loop-c.invariant _ _ (picked_next _ _ k.loop-c.c k.loop-c-test.true) (subst (Meets _ _ _) (not-false _ c.if-not-meet_entry.false-raw) d.meet_entry.ensures)
 
 same_length_2 : tie.Need-shape_of-table invariant-loop decreases-loop
-same_length_2 c = meeting_length c.before.loop-c.invariant
+same_length_2 c = meeting_length c.loop-c.invariant
 
 returns_2 : tie.Need-returns invariant-loop decreases-loop
-returns_2 c = meeting_done c.before.loop-c.invariant (picked_done _ _ _ c.loop-c-test.false)
+returns_2 c = meeting_done c.loop-c.invariant (picked_done _ _ _ c.loop-c-test.false)
 
 pub meet_row_spec : {M : Type 1} → statement M
 meet_row_spec =

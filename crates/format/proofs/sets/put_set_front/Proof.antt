@@ -89,12 +89,12 @@ loop_again c =
     (wrote_set c.byte.result _ l.invariant.0 next, omega arith)
 
 same_length : tie.Need-shape_of-out invariant-loop decreases-loop
-same_length c = c.before.loop-at.invariant.0.same
+same_length c = c.loop-at.invariant.0.same
 
 returns_2 : tie.Need-returns invariant-loop decreases-loop
 unfolding area_test
 returns_2 c =
-    let l = c.before.loop-at in
+    let l = c.loop-at in
     let s = entry (measured c.before) in
     let e = end_is (measured c.before) in
     let fits : length (front s) ≤ length s.args.out.now = omega arith in

@@ -29,11 +29,11 @@ loop_less c = omega arith
 
 loop_again : tie.Need-loop-todo-preserved invariant-loop decreases-loop
 loop_again c =
-    let l = c.before.before.loop-todo in
-    l.invariant ∙ rests_next l.todo l.rest.now c.before.loop-todo-test.true ∙ ap (said_rests (l.todo - 1)) (sym c.said_rest-next.ensures.bytes_are)
+    let l = c.loop-todo in
+    l.invariant ∙ rests_next l.todo l.rest.now c.loop-todo-test.true ∙ ap (said_rests (l.todo - 1)) (sym c.said_rest-next.ensures.bytes_are)
 
 returns : tie.Need-returns invariant-loop decreases-loop
-returns c = let l = c.before.loop-todo in ap length (sym (l.invariant ∙ rests_done l.todo l.rest.now c.loop-todo-test.false))
+returns c = let l = c.loop-todo in ap length (sym (l.invariant ∙ rests_done l.todo l.rest.now c.loop-todo-test.false))
 
 pub left_after_spec : {M : Type 1} → statement M
 left_after_spec =

@@ -17,7 +17,7 @@ use Rattle.loader.proofs.header.read_sizes.Tie as tie
 
 -- the file of the call
 abbrev file : tie.After-read_header-header → List ℕ
-file d = d.before.before.args.file.now
+file d = d.args.file.now
 
 refusal_is : (d : tie.After-read_header-header) → d.read_header-header.result.refusal ≡ judge (file d)
 refusal_is d = ap (λ (h : Header). h.refusal) d.read_header-header.ensures ∙ header_refusal (file d)
@@ -34,7 +34,7 @@ returns c =
     let z = c.no_sizes.ensures in
     let d = c.before.before.before in
     let due = refusal_is d in
-    let none = sym (where_refused d.read_header-header.result.refusal due c.before.if-header-ne0.true (decode (file d)) no_model) in
+    let none = sym (where_refused d.read_header-header.result.refusal due c.if-header-ne0.true (decode (file d)) no_model) in
     record {
       refusal_is = z.0 ∙ due;
       p_is = z.1 ∙ ap (λ (m : FileModel). m.p) none;
@@ -87,7 +87,7 @@ returns_2 c =
     let l = c.before.before.before.before.before in
     let d = l.before.before.before.before in
     let s = file d in
-    let e : judge s ≡ 0 = sym (refusal_is d) ∙ l.before.before.if-header-ne0.false in
+    let e : judge s ≡ 0 = sym (refusal_is d) ∙ l.if-header-ne0.false in
     let h = d.read_header-header.ensures ∙ header_accepted s e in
     let all = sym (accepted_value 0 (sym e) refl (decode s) no_model) in
     let n_is = ap (λ (h : Header). h.n) h in
@@ -101,7 +101,7 @@ returns_2 c =
       n_is = z.2 ∙ n_is ∙ ap (λ (m : FileModel). m.n) all;
       a_is = z.3 ∙ a_is ∙ ap (λ (m : FileModel). m.a) all;
       b_is = z.4 ∙ b_is ∙ ap (λ (m : FileModel). m.b) all;
-      numbered_is = z.8 ∙ c.before.is_numbered-numbered.ensures ∙ ap (λ (t : List ℕ). numbered_test d.read_header-header.result.n d.read_header-header.result.b t) rows
+      numbered_is = z.8 ∙ c.is_numbered-numbered.ensures ∙ ap (λ (t : List ℕ). numbered_test d.read_header-header.result.n d.read_header-header.result.b t) rows
           ∙ ap₂ (λ (n : ℕ) (b : ℕ). numbered_test n b (parameters_part s e)) n_is b_is ∙ sym (numbered_decoded s e) ∙ ap (λ (m : FileModel). is_numbered m.numbers) all;
       n_small = z.5;
       a_small = z.6;

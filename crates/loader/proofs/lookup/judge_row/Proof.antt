@@ -17,7 +17,7 @@ abbrev read : tie.Else-header-ne0 → tie.After-read_header-header
 read c = c.before.before
 
 abbrev file : tie.After-read_header-header → List ℕ
-file c = c.before.before.args.file.now
+file c = c.args.file.now
 
 -- what the header says
 refusal : (c : tie.After-read_header-header) → c.read_header-header.result.refusal ≡ judge (file c)

@@ -14,7 +14,7 @@ use Rattle.loader.proofs.Looking.{lookup_accepted, lookup_none, lookup_place, lo
 use Rattle.loader.proofs.lookup.row.Statement.{statement}
 use Rattle.loader.proofs.lookup.row.Tie as tie
 
-bytes : (c : tie.After-shared_slice_known-1) → AreBytes c.before.args.file.now
+bytes : (c : tie.After-shared_slice_known-1) → AreBytes c.args.file.now
 bytes c i = search (rules, c.shared_slice_known-1.given i)
 
 -- the places: where the bytes from the row on are counted, where the row is accepted, and where the call began
@@ -29,12 +29,12 @@ abbrev entry : tie.After-said_length-size → tie.Start
 entry c = (accepted c).before.before.before
 
 -- where the row lies: so many bytes before the end, as long as its head says
-place : (c : tie.After-said_length-size) → let a = (entry c).args in let s = a.file.now in let left = (counted c).left_after-left.result-1 in let size = c.said_length-size.result-1 in
+place : (c : tie.After-said_length-size) → let a = (entry c).args in let s = a.file.now in let left = (counted c).left_after-left.result in let size = c.said_length-size.result in
     (lookup_start s a.i ≡ length s - left + head_bytes) × (lookup_length s a.i ≡ size) × (head_bytes + size ≤ left) × (left ≤ length s)
 place c =
     let a = (entry c).args in
     let left = (counted c).left_after-left in
-    lookup_place a.file.now a.i _ (accepted c).before.judge_row-r.ensures (accepted c).if-r-ne0.false _ _ left.ensures
+    lookup_place a.file.now a.i _ (accepted c).judge_row-r.ensures (accepted c).if-r-ne0.false _ _ left.ensures
     (c.said_length-size.ensures.0 ∙ ap said_length (left_part (said_rests_ends _ a.file.now) left.ensures))
 
 judge_row_requires : tie.Need-judge_row-r-requires
@@ -45,11 +45,11 @@ slice_aggregate_result c = search rules
 
 returns : tie.Need-returns-then-r-ne0
 returns c =
-    let z = lookup_none _ _ _ c.before.before.judge_row-r.ensures c.before.if-r-ne0.true in
+    let z = lookup_none _ _ _ c.judge_row-r.ensures c.if-r-ne0.true in
     (lookup_part _ _ 0 0 z.0 z.1, refl, omega (arith, z.0), sym z.1)
 
 add_left_after : tie.Need-overflow_add-i
-add_left_after c = let a = lookup_accepted _ _ (sym c.before.judge_row-r.ensures ∙ c.if-r-ne0.false) in omega (arith, a.1, (decoded_valid _ (bytes c.before.before) a.0).a_most)
+add_left_after c = let a = lookup_accepted _ _ (sym c.judge_row-r.ensures ∙ c.if-r-ne0.false) in omega (arith, a.1, (decoded_valid _ (bytes c.before.before) a.0).a_most)
 
 left_after_requires : tie.Need-left_after-left-requires
 left_after_requires c κs = search rules
@@ -81,15 +81,15 @@ sub_result c = search rules
 part_result_start : tie.Need-slice_bounds-result-start
 part_result_start c = search rules
 
-part_result_end : tie.Need-slice_bounds-result-end
+part_result_end : tie.Need-slice_bounds-result-end-2
 part_result_end c = omega (arith, place c)
 
 returns_2 : tie.Need-returns
 returns_2 c =
     let l = place c.before in
     let a = (entry c.before).args in
-    let at = length a.file.now - (counted c.before).left_after-left.result-1 in
-    let size = c.before.said_length-size.result-1 in
+    let at = length a.file.now - (counted c.before).left_after-left.result in
+    let size = c.said_length-size.result in
     let q : at + head_bytes + size - (at + head_bytes) ≡ size = omega arith in
     let len : length (take (at + head_bytes + size - (at + head_bytes)) (drop (at + head_bytes) a.file.now)) ≡ size = rw q (length-take-le size _ (rw length-drop (omega arith))) in
     (lookup_part _ _ _ _ l.0 (l.1 ∙ sym q), refl, omega (arith, l.0), len ∙ sym l.1)

@@ -27,10 +27,10 @@ cast_result : tie.Need-overflow_cast-result
 cast_result c = search rules
 
 returns : tie.Need-returns-then-at-body
-returns c = let a = c.before.before.before.before.before.args in c.two.ensures.0 ∙ sym (entry_there a.i a.body.now c.before.before.before.if-at-body.true)
+returns c = let a = c.args in c.two.ensures.0 ∙ sym (entry_there a.i a.body.now c.if-at-body.true)
 
 returns_2 : tie.Need-returns
-returns_2 c = let a = c.before.before.args in sym (entry_past a.i a.body.now c.if-at-body.false)
+returns_2 c = let a = c.args in sym (entry_past a.i a.body.now c.if-at-body.false)
 
 pub entry_spec : {M : Type 1} → statement M
 entry_spec =

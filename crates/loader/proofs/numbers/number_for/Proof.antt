@@ -12,15 +12,15 @@ contains_requires : tie.Need-contains-requires
 contains_requires c κs = search rules
 
 returns : tie.Need-returns-then-not-contains
-returns c = let a = c.before.before.before.args in ap (λ (b : Bool). cond b (get_or (entries a.body.now) a.i 0) 0) (sym (sym c.before.contains.ensures ∙ not-true _ c.if-not-contains.true-raw))
+returns c = let a = c.args in ap (λ (b : Bool). cond b (get_or (entries a.body.now) a.i 0) 0) (sym (sym c.contains.ensures ∙ not-true _ c.if-not-contains.true-raw))
 
 entry_requires : tie.Need-entry-requires
 entry_requires c κs = search rules
 
 returns_2 : tie.Need-returns
 returns_2 c =
-    let a = c.before.before.before.before.args in
-    c.entry.ensures ∙ ap (λ (b : Bool). cond b (get_or (entries a.body.now) a.i 0) 0) (sym (sym c.before.before.contains.ensures ∙ not-false _ c.before.if-not-contains.false-raw))
+    let a = c.args in
+    c.entry.ensures ∙ ap (λ (b : Bool). cond b (get_or (entries a.body.now) a.i 0) 0) (sym (sym c.contains.ensures ∙ not-false _ c.if-not-contains.false-raw))
 
 pub number_for_spec : {M : Type 1} → statement M
 number_for_spec = tie.close (tie.spec contains_requires returns entry_requires returns_2)

@@ -13,7 +13,7 @@ use Rattle.loader.proofs.numbers.numbers_held.Tie as tie
 
 returns : tie.Need-returns-then-not-sizes
 unfolding room_test
-returns c = let a = c.before.before.args in ap (λ (b : Bool). cond b (leb (a.sizes.b * a.sizes.n) (length a.numbers.now)) true) (sym (not-true a.sizes.numbered c.if-not-sizes.true))
+returns c = let a = c.args in ap (λ (b : Bool). cond b (leb (a.sizes.b * a.sizes.n) (length a.numbers.now)) true) (sym (not-true a.sizes.numbered c.if-not-sizes.true))
 
 mul_result : tie.Need-overflow_mul-result
 mul_result c =
@@ -23,7 +23,7 @@ mul_result c =
 
 returns_2 : tie.Need-returns
 unfolding room_test
-returns_2 c = let a = c.before.before.before.args in ap (λ (b : Bool). cond b (leb (a.sizes.b * a.sizes.n) (length a.numbers.now)) true) (sym (not-false a.sizes.numbered c.before.if-not-sizes.false))
+returns_2 c = let a = c.args in ap (λ (b : Bool). cond b (leb (a.sizes.b * a.sizes.n) (length a.numbers.now)) true) (sym (not-false a.sizes.numbered c.if-not-sizes.false))
 
 pub numbers_held_spec : {M : Type 1} → statement M
 numbers_held_spec = tie.close (tie.spec returns mul_result returns_2)

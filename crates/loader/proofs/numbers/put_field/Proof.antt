@@ -38,10 +38,10 @@ returns c =
     let d = c.before.before in
     let rest = d.before.before.before in
     let set = rest.before in
-    let a = set.before.before.before.before.args in
-    let is_set : whole set.of_bytes-set.result ≡ number (take room_bytes (said_body a.rest.now)) = set.of_bytes-set.ensures.is_number ∙ ap (λ (t : List ℕ). number (take room_bytes t)) set.before.said_body.ensures.bytes_are in
-    let body : d.before.said_body-2.result.now ≡ said_body (said_rest a.rest.now) = d.before.said_body-2.ensures.bytes_are ∙ ap said_body rest.said_rest-field.ensures.bytes_are in
-    subst (λ (t : List ℕ). Put t a.out-1.now d.put_row.new.0 d.put_row.result) (ap₂ (λ (w : ℕ) (t : List ℕ). spread (members w) 0 a.n (entries t)) is_set body) d.put_row.ensures
+    let a = set.args in
+    let is_set : whole set.of_bytes-set.result ≡ number (take room_bytes (said_body a.rest.now)) = set.of_bytes-set.ensures.is_number ∙ ap (λ (t : List ℕ). number (take room_bytes t)) set.said_body.ensures.bytes_are in
+    let body : d.said_body-2.result.now ≡ said_body (said_rest a.rest.now) = d.said_body-2.ensures.bytes_are ∙ ap said_body rest.said_rest-field.ensures.bytes_are in
+    subst (λ (t : List ℕ). Put t a.out.now d.put_row.new.out d.put_row.result) (ap₂ (λ (w : ℕ) (t : List ℕ). spread (members w) 0 a.n (entries t)) is_set body) d.put_row.ensures
 
 pub put_field_spec : {M : Type 1} → statement M
 put_field_spec =

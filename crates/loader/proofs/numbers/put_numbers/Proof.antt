@@ -38,8 +38,8 @@ returns : tie.Need-returns
 returns c =
     let d = c.before.before in
     let l = d.before.before.before in
-    let a = l.before.before.before.args in
-    d.put_rows.ensures ∙ ap (λ (t : List ℕ). over (numbers_said a.n a.b t) a.out-1.now) (left_part (said_rests_ends (2 + a.a) a.file.now) l.left_after.ensures)
+    let a = l.args in
+    d.put_rows.ensures ∙ ap (λ (t : List ℕ). over (numbers_said a.n a.b t) a.out.now) (left_part (said_rests_ends (2 + a.a) a.file.now) l.left_after.ensures)
 
 pub put_numbers_spec : {M : Type 1} → statement M
 put_numbers_spec =

@@ -33,7 +33,7 @@ loop_holds c =
     (rw all (wrote_none _ _ (omega (arith, spread_length (members (whole s.args.set)) 0 s.args.n (entries s.args.body.now), s.requires.1))), omega arith, omega arith)
 
 number_for_requires : tie.Need-number_for-requires invariant-loop decreases-loop
-number_for_requires c κs = let l = c.before.loop-c in let s = c.before.before.before.before in omega (arith, l.invariant.1, l.invariant.2, s.requires.0, c.loop-c-test.true)
+number_for_requires c κs = let l = c.loop-c in let s = c.before.before.before.before in omega (arith, l.invariant.1, l.invariant.2, s.requires.0, c.loop-c-test.true)
 
 mul_out : tie.Need-offset_bounds-out-c invariant-loop decreases-loop
 mul_out c = search rules
@@ -45,7 +45,7 @@ numbers_at_requires : tie.Need-numbers_at-used-requires invariant-loop decreases
 numbers_at_requires c κs = search rules
 
 add_used : tie.Need-overflow_add-used invariant-loop decreases-loop
-add_used c = let l = c.before.before.before.loop-c in let s = c.before.before.before.before.before.before in omega (arith, c.numbers_at-used.ensures.1, l.invariant.1, l.invariant.2, s.requires.0, c.before.before.loop-c-test.true)
+add_used c = let l = c.loop-c in let s = c.before.before.before.before.before.before in omega (arith, c.numbers_at-used.ensures.1, l.invariant.1, l.invariant.2, s.requires.0, c.loop-c-test.true)
 
 add_c : tie.Need-overflow_add-c invariant-loop decreases-loop
 add_c c = search rules
@@ -56,12 +56,12 @@ loop_less c = omega arith
 loop_again : tie.Need-loop-c-preserved invariant-loop decreases-loop
 loop_again c =
     let k = c.before.before in
-    let l = k.before.loop-c in
-    let a = k.before.before.before.before.args in
+    let l = k.loop-c in
+    let a = k.args in
     let S = members (whole a.set) in
     let ks = entries a.body.now in
     let here : get_or (drop l.used ks) 0 0 ≡ get_or ks l.used 0 = get_or-drop l.used ks 0 0 ∙ (let z : l.used + 0 ≡ l.used = omega arith in ap (λ (i : ℕ). get_or ks i 0) z) in
-    let stored : cond (S l.c) (get_or (drop l.used ks) 0 0) 0 ≡ c.before.number_for.result = ap (λ (x : ℕ). cond (S l.c) x 0) here ∙ sym c.before.number_for.ensures in
+    let stored : cond (S l.c) (get_or (drop l.used ks) 0 0) 0 ≡ c.number_for.result = ap (λ (x : ℕ). cond (S l.c) x 0) here ∙ sym c.number_for.ensures in
     let count : a.n - l.c - 1 ≡ a.n - (l.c + 1) = omega arith in
     let left : drop (indicator (S l.c)) (drop l.used ks) ≡ drop (l.used + c.numbers_at-used.result) ks = drop-drop (indicator (S l.c)) l.used ks ∙ ap (λ (j : ℕ). drop (l.used + j) ks) (sym c.numbers_at-used.ensures.0) in (
       wrote_set _ _ l.invariant.0 (spread_next S l.c (a.n - l.c) (drop l.used ks) (omega (arith, k.loop-c-test.true)) ∙ rw (stored, count, left) refl),
@@ -70,13 +70,13 @@ loop_again c =
     )
 
 same_length : tie.Need-shape_of-out invariant-loop decreases-loop
-same_length c = c.before.loop-c.invariant.0.same
+same_length c = c.loop-c.invariant.0.same
 
 returns : tie.Need-returns invariant-loop decreases-loop
 unfolding spread
 returns c =
-    let l = c.before.loop-c in
-    let a = c.before.before.before.before.args in
+    let l = c.loop-c in
+    let a = c.args in
     let none : a.n - l.c ≡ 0 = omega (arith, c.loop-c-test.false) in
     put_all l.invariant.0 (ap (λ (k : ℕ). spread (members (whole a.set)) l.c k (drop l.used (entries a.body.now))) none)
 

@@ -32,15 +32,15 @@ abbrev turn : tie.After-put_field-at invariant-loop decreases-loop → tie.In-lo
 turn c = c.before.before
 
 -- while rows are left, the area has room for the next one
-room : (c : tie.In-loop-todo invariant-loop decreases-loop) → let l = c.before.loop-todo in let row = row_entries_said (entry c.before).args.n l.rest-1.now in
-    (l.at + length row ≤ length l.out-1) × (length row ≤ length (take (length l.out-1 - l.at) (drop l.at l.out-1)))
-room c = let l = c.before.loop-todo in room_left (row_entries_said (entry c.before).args.n l.rest-1.now) _ l.invariant (numbers_next l.todo l.rest-1.now (entry c.before).args.n c.loop-todo-test.true)
+room : (c : tie.In-loop-todo invariant-loop decreases-loop) → let l = c.loop-todo in let row = row_entries_said (entry c.before).args.n l.rest.now in
+    (l.at + length row ≤ length l.out) × (length row ≤ length (take (length l.out - l.at) (drop l.at l.out)))
+room c = let l = c.loop-todo in room_left (row_entries_said (entry c.before).args.n l.rest.now) _ l.invariant (numbers_next l.todo l.rest.now (entry c.before).args.n c.loop-todo-test.true)
 
 loop_holds : tie.Need-loop-todo-init invariant-loop decreases-loop
 loop_holds c = let s = c.before.before in wrote_none _ _ (omega (arith, numbers_said_length s.args.n s.args.b s.args.file.now, s.requires.1))
 
 mul_put_field : tie.Need-offset_bounds-out-at invariant-loop decreases-loop
-mul_put_field c = omega (arith, room c, (entry c.before).good)
+mul_put_field c = omega (arith, room c, (entry c.before).well_formed)
 
 sub_put_field : tie.Need-slice_bounds-put_field-count invariant-loop decreases-loop
 sub_put_field c = omega (arith, room c)
@@ -55,10 +55,10 @@ put_field_requires : tie.Need-put_field-at-requires invariant-loop decreases-loo
 put_field_requires c κs =
     let k = c.before in
     let s = entry k.before in
-    (s.requires.0, omega (arith, (room k).1, row_entries_length s.args.n k.before.loop-todo.rest-1.now))
+    (s.requires.0, omega (arith, (room k).1, row_entries_length s.args.n k.loop-todo.rest.now))
 
 add_at : tie.Need-overflow_add-at invariant-loop decreases-loop
-add_at c = let d = c.before.before in let m = d.put_field-at.ensures.many_is in omega (arith, m, room (turn d), (entry (turn d).before).good)
+add_at c = let d = c.before.before in let m = d.put_field-at.ensures.many_is in omega (arith, m, room (turn d), (entry (turn d).before).well_formed)
 
 left_after_requires : tie.Need-left_after-requires invariant-loop decreases-loop
 left_after_requires c κs = search rules
@@ -85,17 +85,17 @@ loop_again : tie.Need-loop-todo-preserved invariant-loop decreases-loop
 loop_again c =
     let d = row_put c.before in
     let k = turn d in
-    let l = k.before.loop-todo in
-    let r = l.rest-1.now in
+    let l = k.loop-todo in
+    let r = l.rest.now in
     let n = (entry k.before).args.n in
-    let next = left_part (said_rests_ends 2 r) c.before.left_after.ensures in
-    wrote_put (row_entries_said n r) _ _ l.inv (numbers_next l.todo r n k.loop-todo-test.true ∙ ap (λ (s : List ℕ). row_entries_said n r ++ numbers_said n (l.todo - 1) s) (sym next)) d.put_field-at.ensures
+    let next = left_part (said_rests_ends 2 r) c.left_after.ensures in
+    wrote_put (row_entries_said n r) _ _ l.invariant (numbers_next l.todo r n k.loop-todo-test.true ∙ ap (λ (s : List ℕ). row_entries_said n r ++ numbers_said n (l.todo - 1) s) (sym next)) d.put_field-at.ensures
 
 same_length : tie.Need-shape_of-out invariant-loop decreases-loop
-same_length c = c.before.loop-todo.invariant.same
+same_length c = c.loop-todo.invariant.same
 
 returns : tie.Need-returns invariant-loop decreases-loop
-returns c = wrote_all c.before.loop-todo.invariant (numbers_done _ _ _ c.loop-todo-test.false)
+returns c = wrote_all c.loop-todo.invariant (numbers_done _ _ _ c.loop-todo-test.false)
 
 pub put_rows_spec : {M : Type 1} → statement M
 put_rows_spec =

@@ -18,7 +18,7 @@ use Rattle.loader.proofs.Reading.{Sizes-are, sizes_accepted, constants_fit, read
 use Rattle.loader.proofs.read.fill_rows.Statement.{statement}
 use Rattle.loader.proofs.read.fill_rows.Tie as tie
 
-bytes : (c : tie.After-shared_slice_known-1) → AreBytes c.before.args.file.now
+bytes : (c : tie.After-shared_slice_known-1) → AreBytes c.args.file.now
 bytes c i = search (rules, c.shared_slice_known-1.given i)
 
 -- the places before the rows are found: where the areas are lent, where the call began, where the constants' area is found to hold them, and where the file
@@ -31,7 +31,7 @@ abbrev entry : tie.Else-sizes-ne0 → tie.Start
 entry c = (lent c).before.before.before
 
 abbrev constants_held : tie.After-rows → tie.Else-constants-a
-constants_held c = c.before.before
+constants_held c = c.before
 
 abbrev passed : tie.After-rows → tie.Else-sizes-ne0
 passed c = (constants_held c).before.before
@@ -61,8 +61,8 @@ sizes : (c : tie.Else-sizes-ne0) → Sizes-are (file c) (entry c).args.sizes
 sizes c = sizes_accepted (entry c).requires (accepted c)
 
 -- the area of the parameter rows holds them
-parameters_held : (c : tie.Else-rows-b) → let a = (entry (passed c.before)).args in a.sizes.b ≤ length (row_numbers a.parameters-1.now)
-parameters_held c = rw c.before.rows.ensures at c.if-rows-b.false
+parameters_held : (c : tie.Else-rows-b) → let a = (entry (passed c.before)).args in a.sizes.b ≤ length (row_numbers a.parameters.now)
+parameters_held c = rw c.rows.ensures at c.if-rows-b.false
 
 -- the rows stand behind two fields
 rows : (c : tie.After-left_after) → let s = file (passed c.before.before) in let left = c.left_after.result in
@@ -70,7 +70,7 @@ rows : (c : tie.After-left_after) → let s = file (passed c.before.before) in l
 rows c = left_part (said_rests_ends 2 _) c.left_after.ensures ∙ rows_said _ (accepted (passed c.before.before))
 
 returns : tie.Need-returns-then-sizes-ne0
-returns c = reading_refused _ _ _ c.before.before.before.before.before.requires c.if-sizes-ne0.true
+returns c = reading_refused _ _ _ c.requires c.if-sizes-ne0.true
 
 mul_if2 : tie.Need-overflow_mul-a
 mul_if2 c =
@@ -85,7 +85,7 @@ returns_2 : tie.Need-returns-then-constants-a
 returns_2 c =
     let z = c.no_sizes.ensures in
     let d = c.before.before.before in
-    rw (z.0, z.1, z.2, z.3, z.4, z.5) (constants_short _ _ _ (accepted d) (sizes d) c.before.if-constants-a.true)
+    rw (z.0, z.1, z.2, z.3, z.4, z.5) (constants_short _ _ _ (accepted d) (sizes d) c.if-constants-a.true)
 
 rows_requires : tie.Need-rows-requires
 rows_requires c κs = search rules
@@ -101,7 +101,7 @@ returns_3 c =
     let z = c.no_sizes-then-rows-b.ensures in
     let held = c.before.before in
     let d = passed held in
-    rw (z.0, z.1, z.2, z.3, z.4, z.5) (parameters_short _ _ _ (accepted d) (sizes d) (constants_held held).if-constants-a.false (rw held.rows.ensures at c.before.if-rows-b.true))
+    rw (z.0, z.1, z.2, z.3, z.4, z.5) (parameters_short _ _ _ (accepted d) (sizes d) (constants_held held).if-constants-a.false (rw held.rows.ensures at c.if-rows-b.true))
 
 left_after_requires : tie.Need-left_after-requires
 left_after_requires c κs = search rules
@@ -162,9 +162,9 @@ returns_4 c =
     let a = (entry d).args in
     let z = a.sizes in
     let t = rows found in
-    let constants = (constants_read behind).read_constants.ensures ∙ ap (λ (u : List ℕ). over (constants_said z.a u) a.constants-1.now) t in
+    let constants = (constants_read behind).read_constants.ensures ∙ ap (λ (u : List ℕ). over (constants_said z.a u) a.constants.now) t in
     let left = left_part (said_rests_ends z.a _) behind.left_after-2.ensures ∙ ap (said_rests z.a) t in
-    let parameters = e.read_parameters.ensures ∙ ap₂ (λ (k : ℕ) (u : List ℕ). over (parameters_said k z.b u) (row_numbers a.parameters-1.now)) e.before.fields_of_row.ensures left in
+    let parameters = e.read_parameters.ensures ∙ ap₂ (λ (k : ℕ) (u : List ℕ). over (parameters_said k z.b u) (row_numbers a.parameters.now)) e.fields_of_row.ensures left in
     rw d.if-sizes-ne0.false (reading_done _ _ _ (accepted d) (sizes d) (constants_held held).if-constants-a.false (parameters_held found.before) _ _ constants parameters)
 
 pub fill_rows_spec : {M : Type 1} → statement M

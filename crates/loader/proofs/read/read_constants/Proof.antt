@@ -33,20 +33,20 @@ abbrev turn : tie.After-read_entries-at invariant-loop decreases-loop → tie.In
 turn c = c.before.before.before
 
 -- while rows are left, the area has room for the next one
-room : (c : tie.In-loop-todo invariant-loop decreases-loop) → let l = c.before.loop-todo in
-    (l.at + length (entries (said_body l.rest.now)) ≤ length l.out-1) × (length (entries (said_body l.rest.now)) ≤ length (take (length l.out-1 - l.at) (drop l.at l.out-1)))
-room c = let l = c.before.loop-todo in room_left (entries (said_body l.rest.now)) _ l.invariant (constants_next l.todo l.rest.now (omega arith))
+room : (c : tie.In-loop-todo invariant-loop decreases-loop) → let l = c.loop-todo in
+    (l.at + length (entries (said_body l.rest.now)) ≤ length l.out) × (length (entries (said_body l.rest.now)) ≤ length (take (length l.out - l.at) (drop l.at l.out)))
+room c = let l = c.loop-todo in room_left (entries (said_body l.rest.now)) _ l.invariant (constants_next l.todo l.rest.now (omega arith))
 
 -- its constants are put there
-read : (c : tie.After-read_entries-at invariant-loop decreases-loop) → let l = (turn c).before.loop-todo in
-    Put (entries (said_body l.rest.now)) (take (length l.out-1 - l.at) (drop l.at l.out-1)) c.read_entries-at.new.0 c.read_entries-at.result
-read c = rw c.before.said_body.ensures.bytes_are at c.read_entries-at.ensures
+read : (c : tie.After-read_entries-at invariant-loop decreases-loop) → let l = (turn c).loop-todo in
+    Put (entries (said_body l.rest.now)) (take (length l.out - l.at) (drop l.at l.out)) c.read_entries-at.new.out c.read_entries-at.result
+read c = rw c.said_body.ensures.bytes_are at c.read_entries-at.ensures
 
 loop_holds : tie.Need-loop-todo-init invariant-loop decreases-loop
-loop_holds c = wrote_none _ _ c.before.before.requires
+loop_holds c = wrote_none _ _ c.requires
 
 mul_read_entries : tie.Need-offset_bounds-out-at invariant-loop decreases-loop
-mul_read_entries c = omega (arith, room c, (entry c.before).good)
+mul_read_entries c = omega (arith, room c, (entry c.before).well_formed)
 
 sub_read_entries : tie.Need-slice_bounds-read_entries-count invariant-loop decreases-loop
 sub_read_entries c = omega (arith, room c)
@@ -64,7 +64,7 @@ read_entries_requires : tie.Need-read_entries-at-requires invariant-loop decreas
 read_entries_requires c κs = rw c.said_body.ensures.bytes_are (room c.before.before).1
 
 add_at : tie.Need-overflow_add-at invariant-loop decreases-loop
-add_at c = let m = (read (row_read c)).many_is in omega (arith, room (turn (row_read c)), (entry (turn (row_read c)).before).good)
+add_at c = let m = (read (row_read c)).many_is in omega (arith, room (turn (row_read c)), (entry (turn (row_read c)).before).well_formed)
 
 said_rest_requires : tie.Need-said_rest-next-requires invariant-loop decreases-loop
 said_rest_requires c κs = search rules
@@ -78,15 +78,15 @@ loop_less c = omega arith
 loop_again : tie.Need-loop-todo-preserved invariant-loop decreases-loop
 loop_again c =
     let d = row_read c.before in
-    let l = (turn d).before.loop-todo in
+    let l = (turn d).loop-todo in
     let r = l.rest.now in
-    wrote_put (entries (said_body r)) _ _ l.inv (constants_next l.todo r (omega arith) ∙ ap (λ (s : List ℕ). entries (said_body r) ++ constants_said (l.todo - 1) s) (sym c.said_rest-next.ensures.bytes_are)) (read d)
+    wrote_put (entries (said_body r)) _ _ l.invariant (constants_next l.todo r (omega arith) ∙ ap (λ (s : List ℕ). entries (said_body r) ++ constants_said (l.todo - 1) s) (sym c.said_rest-next.ensures.bytes_are)) (read d)
 
 same_length : tie.Need-shape_of-out invariant-loop decreases-loop
-same_length c = c.before.loop-todo.invariant.same
+same_length c = c.loop-todo.invariant.same
 
 returns : tie.Need-returns invariant-loop decreases-loop
-returns c = wrote_all c.before.loop-todo.invariant (constants_done _ _ c.loop-todo-test.false)
+returns c = wrote_all c.loop-todo.invariant (constants_done _ _ c.loop-todo-test.false)
 
 pub read_constants_spec : {M : Type 1} → statement M
 read_constants_spec =

@@ -25,13 +25,13 @@ abbrev turn : tie.After-two invariant-loop decreases-loop → tie.In-loop-rest i
 turn c = c.before.before.before
 
 -- while entries are left, the area has room for the next one
-room : (c : tie.After-two invariant-loop decreases-loop) → let l = (turn c).before.loop-rest in l.at + 1 ≤ length l.out
+room : (c : tie.After-two invariant-loop decreases-loop) → let l = (turn c).loop-rest in l.at + 1 ≤ length l.out
 room c =
-    let l = (turn c).before.loop-rest in
-    omega (arith, ap length (entries_next l.rest-1.now (turn c).loop-rest-test.true), l.inv.room)
+    let l = (turn c).loop-rest in
+    omega (arith, ap length (entries_next l.rest.now (turn c).loop-rest-test.true), l.invariant.room)
 
 loop_holds : tie.Need-loop-rest-init invariant-loop decreases-loop
-loop_holds c = wrote_none _ _ c.before.before.requires
+loop_holds c = wrote_none _ _ c.requires
 
 shared_slice_read_two : tie.Need-bounds-rest-0 invariant-loop decreases-loop
 shared_slice_read_two c = omega arith
@@ -69,17 +69,17 @@ loop_less c = simp (length-take, length-drop) (omega arith)
 loop_again : tie.Need-loop-rest-preserved invariant-loop decreases-loop
 loop_again c =
     let k = turn c.before in
-    let l = k.before.loop-rest in
-    let r = l.rest-1.now in
-    let x = c.before.two in
-    wrote_set x.result _ l.inv
+    let l = k.loop-rest in
+    let r = l.rest.now in
+    let x = c.two in
+    wrote_set x.result _ l.invariant
     (entries_next r k.loop-rest-test.true ∙ ap (λ (y : ℕ). y ∷ entries (drop 2 r)) (sym x.ensures.0) ∙ ap (λ (s : List ℕ). x.result ∷ entries s) (sym (tail_part 2 r)))
 
 same_length : tie.Need-shape_of-out invariant-loop decreases-loop
-same_length c = c.before.loop-rest.invariant.same
+same_length c = c.loop-rest.invariant.same
 
 returns : tie.Need-returns invariant-loop decreases-loop
-returns c = put_all c.before.loop-rest.invariant (entries_done _ c.loop-rest-test.false)
+returns c = put_all c.loop-rest.invariant (entries_done _ c.loop-rest-test.false)
 
 pub read_entries_spec : {M : Type 1} → statement M
 read_entries_spec =

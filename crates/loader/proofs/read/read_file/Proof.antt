@@ -14,7 +14,7 @@ use Rattle.loader.proofs.read.read_file.Tie as tie
 -- the places: where the sizes are read, where the call began, and where the rows are filled
 
 abbrev sized : tie.After-numbers_held → tie.After-read_sizes-sizes
-sized c = c.before.before
+sized c = c.before
 
 abbrev entry : tie.After-numbers_held → tie.Start
 entry c = (sized c).before.before.before.before.before
@@ -23,8 +23,8 @@ abbrev tested : tie.After-fill_rows-read → tie.After-numbers_held
 tested c = c.before.before.before.before
 
 -- the area of the numbers holds them
-held : (c : tie.After-fill_rows-read) → let t = tested c in room_test (sized t).read_sizes-sizes.result (length (entry t).args.numbers-1.now) ≡ true
-held c = sym (tested c).numbers_held.ensures ∙ not-false _ c.before.before.before.if-not-numbers_held.false-raw
+held : (c : tie.After-fill_rows-read) → let t = tested c in room_test (sized t).read_sizes-sizes.result (length (entry t).args.numbers.now) ≡ true
+held c = sym (tested c).numbers_held.ensures ∙ not-false _ c.if-not-numbers_held.false-raw
 
 -- where the file is numbered, its own sizes were read
 due : (c : tie.After-fill_rows-read) → c.fill_rows-read.result.numbered ≡ true → let t = tested c in NumbersDue (entry t).args.file.now (sized t).read_sizes-sizes.result c.fill_rows-read.result
@@ -34,7 +34,7 @@ read_sizes_requires : tie.Need-read_sizes-sizes-requires
 read_sizes_requires c κs = search rules
 
 numbers_held_requires : tie.Need-numbers_held-requires
-numbers_held_requires c κs = let x = c.before.read_sizes-sizes.ensures in (x.n_small, x.b_small)
+numbers_held_requires c κs = let x = c.read_sizes-sizes.ensures in (x.n_small, x.b_small)
 
 no_sizes_requires : tie.Need-no_sizes-requires
 no_sizes_requires c κs = search rules
@@ -47,19 +47,19 @@ returns c =
     let t = c.before.before in
     let z = c.no_sizes.ensures in
     let a = (entry t).args in
-    let q = room_short (sized t).read_sizes-sizes.ensures (length a.numbers-1.now) (sym t.numbers_held.ensures ∙ not-true _ c.before.if-not-numbers_held.true-raw) in
-    rw (z.0, z.1, z.2, z.3, z.4, z.5) (file_short a.file.now a.constants-1.now (row_numbers a.parameters-1.now) a.numbers-1.now q.0 q.1)
+    let q = room_short (sized t).read_sizes-sizes.ensures (length a.numbers.now) (sym t.numbers_held.ensures ∙ not-true _ c.if-not-numbers_held.true-raw) in
+    rw (z.0, z.1, z.2, z.3, z.4, z.5) (file_short a.file.now a.constants.now (row_numbers a.parameters.now) a.numbers.now q.0 q.1)
 
 fill_rows_requires : tie.Need-fill_rows-read-requires
-fill_rows_requires c κs = c.before.before.before.before.before.read_sizes-sizes.ensures
+fill_rows_requires c κs = c.read_sizes-sizes.ensures
 
 put_numbers_requires : tie.Need-put_numbers-requires
 put_numbers_requires c κs =
     let d = c.before.before.before.before.before.before in
     let x = (sized (tested d)).read_sizes-sizes.ensures in
-    let q = due d c.before.if-read.true in
+    let q = due d c.if-read.true in
     let room = room_enough x _ (held d) q.is_numbered_too in
-    let len = length (entry (tested d)).args.numbers-1.now in (
+    let len = length (entry (tested d)).args.numbers.now in (
       subst (λ (k : ℕ). k < 256) (sym q.a_same) x.a_small,
       subst (λ (k : ℕ). k < 256) (sym q.n_same) x.n_small,
       subst (λ (k : ℕ). k ≤ len) (sym (ap₂ (λ (b : ℕ) (n : ℕ). b * n) q.b_same q.n_same)) room,
@@ -79,7 +79,7 @@ returns_2 c =
     let p = c.before.before in
     let d = p.before.before.before.before.before.before.before in
     let t = tested d in
-    let n = p.before.before.if-read.true in
+    let n = p.if-read.true in
     file_done _ _ _ _ (room_held (sized t).read_sizes-sizes.ensures _ (held d)) d.fill_rows-read.ensures (λ _. p.put_numbers.ensures) (λ f. absurd (false≢true (sym f ∙ n)))
 
 same_length_5 : tie.Need-shape_of-constants-else-read

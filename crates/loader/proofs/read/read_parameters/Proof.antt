@@ -40,9 +40,9 @@ abbrev entry : tie.At-loop-at invariant-loop decreases-loop → tie.Start invari
 entry k = k.before.before.before
 
 loop_holds : tie.Need-loop-at-init invariant-loop decreases-loop
-loop_holds c = let a = c.before.before.args in
+loop_holds c = let a = c.args in
     let all : a.b - 0 ≡ a.b = omega arith in
-    (rw all (wrote_none _ _ (omega (arith, parameters_length a.step a.b a.file.now, c.before.before.requires))), omega arith, refl)
+    (rw all (wrote_none _ _ (omega (arith, parameters_length a.step a.b a.file.now, c.requires))), omega arith, refl)
 
 said_body_requires : tie.Need-said_body-requires invariant-loop decreases-loop
 said_body_requires c κs = search rules
@@ -78,24 +78,24 @@ loop_again : tie.Need-loop-at-preserved invariant-loop decreases-loop
 loop_again c =
     let e = c.before in
     let is-put = (put e).put_row.ensures in
-    let of-bytes = (put e).before.of_bytes in
+    let of-bytes = (put e).of_bytes in
     let body = (body_read e).said_body in
     let k = (turn e).before in
     let l = k.loop-at in
-    let r = l.rest-1.now in
+    let r = l.rest.now in
     let a = (entry k).args in
     let w = whole of-bytes.result in
     let q : a.b - l.at - 1 ≡ a.b - (l.at + 1) = omega arith in
     let is_row : number (take room_bytes (said_body r)) ≡ w = ap (λ (t : List ℕ). number (take room_bytes t)) (sym body.ensures.bytes_are) ∙ sym of-bytes.ensures.is_number in
-    let written = ap row_numbers is-put ∙ rows_with_row l.out-1 l.at w in
+    let written = ap row_numbers is-put ∙ rows_with_row l.out l.at w in
     let next = left_part (said_rests_ends a.step r) e.left_after.ensures in
-    (rw written (wrote_set w _ l.inv.0 (parameters_next (a.b - l.at) r a.step (omega (arith, (turn e).loop-at-test.true)) ∙ rw (q, is_row, ← next) refl)), omega (arith, (turn e).loop-at-test.true), ap length is-put ∙ with_row_length l.out-1 l.at w ∙ l.inv.2)
+    (rw written (wrote_set w _ l.invariant.0 (parameters_next (a.b - l.at) r a.step (omega (arith, (turn e).loop-at-test.true)) ∙ rw (q, is_row, ← next) refl)), omega (arith, (turn e).loop-at-test.true), ap length is-put ∙ with_row_length l.out l.at w ∙ l.invariant.2)
 
 same_length : tie.Need-shape_of-out invariant-loop decreases-loop
-same_length c = c.before.loop-at.invariant.2
+same_length c = c.loop-at.invariant.2
 
 returns : tie.Need-returns invariant-loop decreases-loop
-returns c = let l = c.before.loop-at in wrote_all l.invariant.0 (parameters_done _ _ _ (omega arith))
+returns c = let l = c.loop-at in wrote_all l.invariant.0 (parameters_done _ _ _ (omega arith))
 
 pub read_parameters_spec : {M : Type 1} → statement M
 read_parameters_spec =

@@ -14,11 +14,11 @@ judge_area_requires c κs = search rules
 
 returns : tie.Need-returns-then-judged-ne0
 unfolding unnumbered_judge
-returns c = then_refused (closed unnumbered_fields (area_file c.before.before.before.args.area.now)) _ _ c.before.judge_area-judged.ensures c.if-judged-ne0.true
+returns c = then_refused (closed unnumbered_fields (area_file c.args.area.now)) _ _ c.judge_area-judged.ensures c.if-judged-ne0.true
 
 returns_2 : tie.Need-returns
 unfolding unnumbered_judge first_refusal
-returns_2 c = then_passed (closed unnumbered_fields (area_file c.before.before.before.args.area.now)) _ _ (sym c.before.judge_area-judged.ensures ∙ c.if-judged-ne0.false) refl
+returns_2 c = then_passed (closed unnumbered_fields (area_file c.args.area.now)) _ _ (sym c.judge_area-judged.ensures ∙ c.if-judged-ne0.false) refl
 
 pub refuse_answer_spec : {M : Type 1} → statement M
 refuse_answer_spec = tie.close (tie.spec judge_area_requires returns returns_2)

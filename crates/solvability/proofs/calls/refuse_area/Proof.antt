@@ -13,11 +13,11 @@ judge_file_requires c κs = search rules
 
 returns : tie.Need-returns-then-number-ne0
 unfolding judge
-returns c = then_refused (closed fields c.before.before.before.args.file.now) _ _ c.before.judge_file-number.ensures c.if-number-ne0.true
+returns c = then_refused (closed fields c.args.file.now) _ _ c.judge_file-number.ensures c.if-number-ne0.true
 
 returns_2 : tie.Need-returns
 unfolding judge first_refusal
-returns_2 c = then_passed (closed fields c.before.before.before.args.file.now) _ _ (sym c.before.judge_file-number.ensures ∙ c.if-number-ne0.false) refl
+returns_2 c = then_passed (closed fields c.args.file.now) _ _ (sym c.judge_file-number.ensures ∙ c.if-number-ne0.false) refl
 
 pub refuse_area_spec : {M : Type 1} → statement M
 refuse_area_spec = tie.close (tie.spec judge_file_requires returns returns_2)

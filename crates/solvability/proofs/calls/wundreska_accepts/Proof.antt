@@ -39,7 +39,7 @@ returns : tie.Need-returns-then-answer-lt-ACCEPTANCE_LENGTH
 returns c =
     let k = begun c.before.before in
     let a = k.args in
-    refused_short (closed fields a.file.now) (claim_question a.claim.now) acceptance_length (Written k) a.answer-1.now c.before.if-answer-lt-ACCEPTANCE_LENGTH.true _ c.refuse_area.ensures
+    refused_short (closed fields a.file.now) (claim_question a.claim.now) acceptance_length (Written k) a.answer.now c.if-answer-lt-ACCEPTANCE_LENGTH.true _ c.refuse_area.ensures
 
 refuse_area_requires_2 : tie.Need-refuse_area-requires-then-claim-lt-CLAIM_LENGTH
 refuse_area_requires_2 c κs = search rules
@@ -49,7 +49,7 @@ unfolding area_test
 returns_2 c =
     let k = begun c.before.before.before in
     let a = k.args in
-    refused_beside (closed fields a.file.now) [] (area_test claim_length (length a.claim.now)) acceptance_length (Written k) a.answer-1.now c.before.before.if-answer-lt-ACCEPTANCE_LENGTH.false (lt-leb _ _ c.before.if-claim-lt-CLAIM_LENGTH.true) _ c.refuse_area-then-claim-lt-CLAIM_LENGTH.ensures
+    refused_beside (closed fields a.file.now) [] (area_test claim_length (length a.claim.now)) acceptance_length (Written k) a.answer.now c.if-answer-lt-ACCEPTANCE_LENGTH.false (lt-leb _ _ c.if-claim-lt-CLAIM_LENGTH.true) _ c.refuse_area-then-claim-lt-CLAIM_LENGTH.ensures
 
 read_claim_requires : tie.Need-read_claim-requires
 read_claim_requires c κs = search rules
@@ -63,7 +63,7 @@ returns_3 c =
     let f = c.before.before in
     let k = start f in
     let a = k.args in
-    refused_before (closed fields a.file.now) (claim_question a.claim.now) acceptance_length (Written k) a.answer-1.now _ f.file_acceptance-r.ensures.is_refusal c.if-r-ne0.true
+    refused_before (closed fields a.file.now) (claim_question a.claim.now) acceptance_length (Written k) a.answer.now _ f.file_acceptance-r.ensures.is_refusal c.if-r-ne0.true
 
 put_acceptance_requires : tie.Need-put_acceptance-requires
 put_acceptance_requires c κs = search rules
@@ -82,7 +82,7 @@ returns_4 c =
     let r = f.file_acceptance-r.result in
     let ok = sym h.is_refusal ∙ at-else.if-r-ne0.false in
     let enough = (long f).if-claim-lt-CLAIM_LENGTH.false in
-    answer_put acceptance_bytes (closed fields a.file.now) (claim_question a.claim.now) r (answered_of_bytes r (f.before.read_claim.ensures.if_long enough) (h.if_accepted ok)) ok
+    answer_put acceptance_bytes (closed fields a.file.now) (claim_question a.claim.now) r (answered_of_bytes r (f.read_claim.ensures.if_long enough) (h.if_accepted ok)) ok
     (zero_unless _ area_short ((area_reads _ _).1 enough)) d.put_acceptance.ensures
 
 pub wundreska_accepts_spec : {M : Type 1} → statement M

@@ -37,7 +37,7 @@ refuse_answer_requires c κs = search rules
 returns : tie.Need-returns-then-answer-lt-ANSWER_LENGTH
 returns c =
     let a = (begun c.before.before).args in
-    refused_short (closed unnumbered_fields (area_file a.area.now)) (held a.area.now) answer_length (AnswerWritten (open_model (area_open a.area.now))) a.answer-1.now c.before.if-answer-lt-ANSWER_LENGTH.true _ c.refuse_answer.ensures
+    refused_short (closed unnumbered_fields (area_file a.area.now)) (held a.area.now) answer_length (AnswerWritten (open_model (area_open a.area.now))) a.answer.now c.if-answer-lt-ANSWER_LENGTH.true _ c.refuse_answer.ensures
 
 answer_area_requires : tie.Need-answer_area-answered-requires
 answer_area_requires c κs = search rules
@@ -47,7 +47,7 @@ returns_2 c =
     let f = answered c.before in
     let at-else = f.before in
     let a = (begun at-else.before).args in
-    refused_around (closed unnumbered_fields (area_file a.area.now)) (held a.area.now) answer_length (AnswerWritten (open_model (area_open a.area.now))) a.answer-1.now at-else.if-answer-lt-ANSWER_LENGTH.false _ f.answer_area-answered.ensures.is_refusal c.if-answered-ne0.true
+    refused_around (closed unnumbered_fields (area_file a.area.now)) (held a.area.now) answer_length (AnswerWritten (open_model (area_open a.area.now))) a.answer.now at-else.if-answer-lt-ANSWER_LENGTH.false _ f.answer_area-answered.ensures.is_refusal c.if-answered-ne0.true
 
 put_answer_requires : tie.Need-put_answer-requires
 put_answer_requires c κs = search rules

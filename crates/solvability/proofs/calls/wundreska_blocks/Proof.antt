@@ -34,7 +34,7 @@ unfolding judge
 returns c =
     let f = answered c.before in
     let a = (begun f).args in
-    refused_before (closed fields a.file.now) [] blocks_length (WrittenOver (BlocksAnswered (file_model a.file.now)) blocks_bytes) a.answer-1.now _ f.file_blocks-r.ensures.is_refusal c.if-r-ne0.true
+    refused_before (closed fields a.file.now) [] blocks_length (WrittenOver (BlocksAnswered (file_model a.file.now)) blocks_bytes) a.answer.now _ f.file_blocks-r.ensures.is_refusal c.if-r-ne0.true
 
 put_blocks_requires : tie.Need-put_blocks-requires
 put_blocks_requires c κs = search rules

@@ -32,7 +32,7 @@ unfolding judge
 returns c =
     let f = answered c.before in
     let a = (begun f).args in
-    refused_before (closed fields a.file.now) [] answer_length (AnswerWritten (file_model a.file.now)) a.answer-1.now _ f.layered_file-r.ensures.is_refusal c.if-r-ne0.true
+    refused_before (closed fields a.file.now) [] answer_length (AnswerWritten (file_model a.file.now)) a.answer.now _ f.layered_file-r.ensures.is_refusal c.if-r-ne0.true
 
 put_answer_requires : tie.Need-put_answer-requires
 put_answer_requires c κs = search rules

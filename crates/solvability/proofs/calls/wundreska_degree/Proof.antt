@@ -38,7 +38,7 @@ refuse_area_requires c κs = search rules
 returns : tie.Need-returns-then-answer-lt-DEGREE_LENGTH
 returns c =
     let a = (begun c.before.before).args in
-    refused_short (closed fields a.file.now) (file_question a.file.now a.rowpowers.now a.columnpowers.now a.parameterpowers.now) degree_length (Written a.file.now a.rowpowers.now a.columnpowers.now a.parameterpowers.now) a.answer-1.now c.before.if-answer-lt-DEGREE_LENGTH.true _ c.refuse_area.ensures
+    refused_short (closed fields a.file.now) (file_question a.file.now a.rowpowers.now a.columnpowers.now a.parameterpowers.now) degree_length (Written a.file.now a.rowpowers.now a.columnpowers.now a.parameterpowers.now) a.answer.now c.if-answer-lt-DEGREE_LENGTH.true _ c.refuse_area.ensures
 
 file_degree_requires : tie.Need-file_degree-r-requires
 file_degree_requires c κs = search rules
@@ -48,7 +48,7 @@ returns_2 c =
     let f = answered c.before in
     let at-else = f.before in
     let a = (begun at-else.before).args in
-    refused_around (closed fields a.file.now) (file_question a.file.now a.rowpowers.now a.columnpowers.now a.parameterpowers.now) degree_length (Written a.file.now a.rowpowers.now a.columnpowers.now a.parameterpowers.now) a.answer-1.now at-else.if-answer-lt-DEGREE_LENGTH.false _ f.file_degree-r.ensures.is_refusal c.if-r-ne0.true
+    refused_around (closed fields a.file.now) (file_question a.file.now a.rowpowers.now a.columnpowers.now a.parameterpowers.now) degree_length (Written a.file.now a.rowpowers.now a.columnpowers.now a.parameterpowers.now) a.answer.now at-else.if-answer-lt-DEGREE_LENGTH.false _ f.file_degree-r.ensures.is_refusal c.if-r-ne0.true
 
 put_degree_requires : tie.Need-put_degree-requires
 put_degree_requires c κs = search rules

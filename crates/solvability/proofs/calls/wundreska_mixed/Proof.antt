@@ -29,7 +29,7 @@ refuse_area_requires c κs = search rules
 returns : tie.Need-returns-then-answer-lt-MIXED_LENGTH
 returns c =
     let a = (begun c.before.before).args in
-    refused_short (closed fields a.file.now) (mixed_question a.file.now) mixed_length (MixedWritten (file_mixed a.file.now)) a.answer-1.now c.before.if-answer-lt-MIXED_LENGTH.true _ c.refuse_area.ensures
+    refused_short (closed fields a.file.now) (mixed_question a.file.now) mixed_length (MixedWritten (file_mixed a.file.now)) a.answer.now c.if-answer-lt-MIXED_LENGTH.true _ c.refuse_area.ensures
 
 mixed_file_requires : tie.Need-mixed_file-r-requires
 mixed_file_requires c κs = search rules
@@ -39,7 +39,7 @@ returns_2 c =
     let f = answered c.before in
     let at-else = f.before in
     let a = (begun at-else.before).args in
-    refused_around (closed fields a.file.now) (mixed_question a.file.now) mixed_length (MixedWritten (file_mixed a.file.now)) a.answer-1.now at-else.if-answer-lt-MIXED_LENGTH.false _ f.mixed_file-r.ensures.is_refusal c.if-r-ne0.true
+    refused_around (closed fields a.file.now) (mixed_question a.file.now) mixed_length (MixedWritten (file_mixed a.file.now)) a.answer.now at-else.if-answer-lt-MIXED_LENGTH.false _ f.mixed_file-r.ensures.is_refusal c.if-r-ne0.true
 
 put_mixed_requires : tie.Need-put_mixed-requires
 put_mixed_requires c κs = search rules

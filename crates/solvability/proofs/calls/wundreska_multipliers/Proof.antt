@@ -31,7 +31,7 @@ abbrev begun : tie.After-slice_known-1 → tie.Start
 begun c = c.before.before.before
 
 abbrev long : tie.After-of_bytes-set → tie.Else-held-lt-SET_BYTES
-long c = c.before.before
+long c = c.before
 
 abbrev start : tie.After-of_bytes-set → tie.Start
 start c = begun (long c).before.before
@@ -69,7 +69,7 @@ returns : tie.Need-returns-then-answer-lt-MULTIPLIERS_LENGTH
 returns c =
     let k = begun c.before.before in
     let a = k.args in
-    refused_short (closed fields a.file.now) (multipliers_question a.file.now a.held.now a.column) multipliers_length (Written k) a.answer-1.now c.before.if-answer-lt-MULTIPLIERS_LENGTH.true _ c.refuse_area.ensures
+    refused_short (closed fields a.file.now) (multipliers_question a.file.now a.held.now a.column) multipliers_length (Written k) a.answer.now c.if-answer-lt-MULTIPLIERS_LENGTH.true _ c.refuse_area.ensures
 
 refuse_area_requires_2 : tie.Need-refuse_area-requires-then-held-lt-SET_BYTES
 refuse_area_requires_2 c κs = search rules
@@ -79,10 +79,10 @@ unfolding area_test
 returns_2 c =
     let k = begun c.before.before.before in
     let a = k.args in
-    refused_beside (closed fields a.file.now) (columns_asked k) (area_test set_bytes (length a.held.now)) multipliers_length (Written k) a.answer-1.now c.before.before.if-answer-lt-MULTIPLIERS_LENGTH.false (lt-leb _ _ c.before.if-held-lt-SET_BYTES.true) _ c.refuse_area-then-held-lt-SET_BYTES.ensures
+    refused_beside (closed fields a.file.now) (columns_asked k) (area_test set_bytes (length a.held.now)) multipliers_length (Written k) a.answer.now c.if-answer-lt-MULTIPLIERS_LENGTH.false (lt-leb _ _ c.if-held-lt-SET_BYTES.true) _ c.refuse_area-then-held-lt-SET_BYTES.ensures
 
 slice_aggregate_of_bytes : tie.Need-slice_bounds-of_bytes-end
-slice_aggregate_of_bytes c = sym (length-take-le _ (begun c.before.before.before).args.held.now (omega (arith, c.before.if-held-lt-SET_BYTES.false)))
+slice_aggregate_of_bytes c = sym (length-take-le _ (begun c.before.before).args.held.now (omega (arith, c.if-held-lt-SET_BYTES.false)))
 
 of_bytes_requires : tie.Need-of_bytes-set-requires
 of_bytes_requires c κs = search rules
@@ -96,7 +96,7 @@ returns_3 c =
     let e = long f.before in
     let k = start f.before in
     let a = k.args in
-    refused_around (closed fields a.file.now) (multipliers_question a.file.now a.held.now a.column) multipliers_length (Written k) a.answer-1.now e.before.if-answer-lt-MULTIPLIERS_LENGTH.false _
+    refused_around (closed fields a.file.now) (multipliers_question a.file.now a.held.now a.column) multipliers_length (Written k) a.answer.now e.if-answer-lt-MULTIPLIERS_LENGTH.false _
     ((asked f).is_refusal ∙ passed_beside (closed fields a.file.now) (columns_asked k) (area_test set_bytes (length a.held.now)) (passes e)) c.if-r-ne0.true
 
 put_multipliers_requires : tie.Need-put_multipliers-requires

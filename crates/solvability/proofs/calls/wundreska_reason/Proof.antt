@@ -31,7 +31,7 @@ refuse_area_requires c κs = search rules
 returns : tie.Need-returns-then-answer-lt-REASON_LENGTH
 returns c =
     let a = (begun c.before.before).args in
-    refused_short (closed fields a.file.now) (reason_question (file_model a.file.now) a.column) reason_length (WrittenOver (FileReason a.file.now a.column) reason_bytes) a.answer-1.now c.before.if-answer-lt-REASON_LENGTH.true _ c.refuse_area.ensures
+    refused_short (closed fields a.file.now) (reason_question (file_model a.file.now) a.column) reason_length (WrittenOver (FileReason a.file.now a.column) reason_bytes) a.answer.now c.if-answer-lt-REASON_LENGTH.true _ c.refuse_area.ensures
 
 file_reason_requires : tie.Need-file_reason-r-requires
 file_reason_requires c κs = search rules
@@ -41,7 +41,7 @@ returns_2 c =
     let f = answered c.before in
     let at-else = f.before in
     let a = (begun at-else.before).args in
-    refused_around (closed fields a.file.now) (reason_question (file_model a.file.now) a.column) reason_length (WrittenOver (FileReason a.file.now a.column) reason_bytes) a.answer-1.now at-else.if-answer-lt-REASON_LENGTH.false _ f.file_reason-r.ensures.is_refusal c.if-r-ne0.true
+    refused_around (closed fields a.file.now) (reason_question (file_model a.file.now) a.column) reason_length (WrittenOver (FileReason a.file.now a.column) reason_bytes) a.answer.now at-else.if-answer-lt-REASON_LENGTH.false _ f.file_reason-r.ensures.is_refusal c.if-r-ne0.true
 
 put_reason_requires : tie.Need-put_reason-requires
 put_reason_requires c κs = search rules
