@@ -1,6 +1,6 @@
 /* A host that starts its solver on a determined model alone, and otherwise says why not. Plain C89, and C++ too.
  *
- * Build: rt staticlib solvability
+ * Build: tools/archive solvability
  *        gcc examples/host.c -Iinclude target/staticlib/libsolvability.a -o host
  * Run:   ./host models/s2.model
  *        ./host --mixed models/s9.model

@@ -56,7 +56,7 @@
  *   less than WUNDRESKA_DEGREE_STACK_MAX (measured: 105 KB).
  * - Platform: the archive is for x86-64 Linux, can stand in a shared object, and takes memcpy, memmove and memset of the host.
  *
- * Linking: rt staticlib solvability
+ * Linking: tools/archive solvability
  *          gcc host.c -Iinclude target/staticlib/libsolvability.a -o host
  *      or, after tools/install PREFIX,
  *          gcc host.c $(pkg-config --cflags --libs wundreska) -o host
