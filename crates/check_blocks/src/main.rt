@@ -1,17 +1,19 @@
 // The program behind `./check --blocks`: the file of a model on standard input, the report of its blocks on standard output. It only
 // reads, calls and writes. One byte more than the longest file has is enough to refuse whatever follows a file's end. Where a read
-// fails, what was read before it is the input.
+// fails, what was read before it is the input; where a write fails, the program ends with its error.
 #![tactic(auto)]
+
 use blocks_report::LONGEST_BLOCKS_REPORT;
 use limits::LONGEST_FILE;
+use std::io;
 
 const INPUT: usize = LONGEST_FILE + 1;
 
-fn main() {
+fn main(rt: HostRuntime) -> io::Result<()> {
     let mut input = [0u8; INPUT];
-    let length = io::read_full(0, &mut input);
+    let length = reading::read_full(&mut rt.stdin(), &mut input);
     let mut text = [0u8; LONGEST_BLOCKS_REPORT];
     let printed = blocks_report::report_blocks_file(&input[..length], &mut text);
     let written = printed.length;
-    io::write_all(1, &text[..written]);
+    rt.write_all(&text[..written])
 }

@@ -3,6 +3,7 @@ use crate::rows::looked_up;
 use crate::said;
 use columns::MOST_WORDS;
 use limits::{LARGEST_PRIME, LONGEST_FILE, MOST_COLUMNS, MOST_ROWS};
+use std::io;
 
 const MOST_ENTRIES: usize = MOST_ROWS * MOST_COLUMNS;
 
@@ -41,30 +42,37 @@ fn fill_numbers(numbers: &mut [u16]) {
     }
 }
 
-pub fn unnumbered() {
+pub fn unnumbered(rt: &impl Print) -> io::Result<()> {
     let mut constants = [0u16; MOST_ENTRIES];
     let mut parameters = [0u64; MOST_WORDS];
     fill_constants(&mut constants);
     fill_parameters(&mut parameters);
     let numbers = [0u16; 1];
-    said::label(b"longest unnumbered");
-    there_and_back(&constants, &parameters, false, &numbers[..0]);
+    said::label(rt, b"longest unnumbered")?;
+    there_and_back(rt, &constants, &parameters, false, &numbers[..0])
 }
 
-pub fn numbered() {
+pub fn numbered(rt: &impl Print) -> io::Result<()> {
     let mut constants = [0u16; MOST_ENTRIES];
     let mut parameters = [0u64; MOST_WORDS];
     let mut numbers = [0u16; MOST_ENTRIES];
     fill_constants(&mut constants);
     fill_rows(&mut parameters);
     fill_numbers(&mut numbers);
-    said::label(b"longest");
-    there_and_back(&constants, &parameters, true, &numbers);
+    said::label(rt, b"longest")?;
+    there_and_back(rt, &constants, &parameters, true, &numbers)
 }
 
-fn there_and_back(constants: &[u16], parameters: &[u64], numbered: bool, numbers: &[u16]) {
+fn there_and_back(
+    rt: &impl Print,
+    constants: &[u16],
+    parameters: &[u64],
+    numbered: bool,
+    numbers: &[u16],
+) -> io::Result<()> {
     let mut file = [0u8; LONGEST_FILE];
     let length = written(
+        rt,
         LARGEST_PRIME,
         MOST_COLUMNS,
         MOST_ROWS,
@@ -74,21 +82,22 @@ fn there_and_back(constants: &[u16], parameters: &[u64], numbered: bool, numbers
         numbered,
         numbers,
         &mut file,
-    );
-    back(said::front(&file, length));
+    )?;
+    back(rt, said::front(&file, length))
 }
 
-fn back(file: &[u8]) {
+fn back(rt: &impl Print, file: &[u8]) -> io::Result<()> {
     let mut constants = [0u16; MOST_ENTRIES];
     let mut parameters = [0u64; MOST_WORDS];
     let mut numbers = [0u16; MOST_ENTRIES];
     let r = loader::read_file(file, &mut constants, &mut parameters, &mut numbers);
-    said::label(b"read");
-    said::sizes(r);
-    said::end_line();
+    said::label(rt, b"read")?;
+    said::sizes(rt, r)?;
+    said::end_line(rt)?;
     let mut again = [0u8; LONGEST_FILE];
-    said::label(b"written again");
+    said::label(rt, b"written again")?;
     let length = written(
+        rt,
         r.p,
         r.n,
         r.a,
@@ -98,24 +107,25 @@ fn back(file: &[u8]) {
         r.numbered,
         &numbers,
         &mut again,
-    );
-    said::label(b"same bytes");
-    said::number(check::same(file, said::front(&again, length)) as u64);
-    said::end_line();
-    looked_into(file);
+    )?;
+    said::label(rt, b"same bytes")?;
+    said::number(rt, check::same(file, said::front(&again, length)) as u64)?;
+    said::end_line(rt)?;
+    looked_into(rt, file)
 }
 
-fn looked_into(file: &[u8]) {
-    looked_up(file, MOST_ROWS - 1);
-    looked_up(file, MOST_ROWS);
-    said::label(b"last byte missing");
+fn looked_into(rt: &impl Print, file: &[u8]) -> io::Result<()> {
+    looked_up(rt, file, MOST_ROWS - 1)?;
+    looked_up(rt, file, MOST_ROWS)?;
+    said::label(rt, b"last byte missing")?;
     let less = std::num::wrapping_sub_usize(file.len(), 1);
-    said::number(format::judge_file(said::front(file, less)) as u64);
-    said::end_line();
+    said::number(rt, format::judge_file(said::front(file, less)) as u64)?;
+    said::end_line(rt)
 }
 
 // The refusal, the length and a sum of what is written; the length is given back.
 fn written(
+    rt: &impl Print,
     p: u32,
     n: usize,
     a: usize,
@@ -125,11 +135,11 @@ fn written(
     numbered: bool,
     numbers: &[u16],
     out: &mut [u8],
-) -> usize {
+) -> io::Result<usize> {
     let w = writer::write_file(p, n, a, b, constants, parameters, numbered, numbers, out);
-    said::number(w.refusal as u64);
-    said::number(w.length as u64);
-    said::number(said::checksum(said::front(out, w.length)));
-    said::end_line();
-    w.length
+    said::number(rt, w.refusal as u64)?;
+    said::number(rt, w.length as u64)?;
+    said::number(rt, said::checksum(said::front(out, w.length)))?;
+    said::end_line(rt)?;
+    Ok(w.length)
 }

@@ -1,78 +1,87 @@
 // Models handed over without numbers, judged.
 use crate::said;
+use std::io;
 
-fn judged_unnumbered(p: u32, n: usize, a: usize, b: usize, constants: &[u16], parameters: &[u64]) {
+fn judged_unnumbered(
+    rt: &impl Print,
+    p: u32,
+    n: usize,
+    a: usize,
+    b: usize,
+    constants: &[u16],
+    parameters: &[u64],
+) -> io::Result<()> {
     let numbers = [0u16; 1];
     let r = format::judge_model(p, n, a, b, constants, parameters, false, &numbers[..0]);
-    said::number(r as u64);
+    said::number(rt, r as u64)
 }
 
 // A model with two constants 1 0 and a parameter row {1}.
-fn judged(p: u32, n: usize, a: usize, b: usize) {
+fn judged(rt: &impl Print, p: u32, n: usize, a: usize, b: usize) -> io::Result<()> {
     let constants = [1u16, 0];
     let parameters = [2u64, 0];
-    judged_unnumbered(p, n, a, b, &constants, &parameters);
+    judged_unnumbered(rt, p, n, a, b, &constants, &parameters)
 }
 
 // A model of one constant and one parameter row, at n 2.
-fn with_contents(p: u32, constant: u16, set: u64) {
+fn with_contents(rt: &impl Print, p: u32, constant: u16, set: u64) -> io::Result<()> {
     let constants = [0u16, constant];
     let parameters = [set, 0];
-    judged_unnumbered(p, 2, 1, 1, &constants, &parameters);
+    judged_unnumbered(rt, p, 2, 1, 1, &constants, &parameters)
 }
 
-fn accepted() {
-    said::label(b"accepted");
-    judged(1021, 2, 1, 1);
-    judged(2, 2, 1, 1);
-    judged(65521, 2, 1, 1);
-    judged(1021, 2, 0, 0);
-    said::end_line();
+fn accepted(rt: &impl Print) -> io::Result<()> {
+    said::label(rt, b"accepted")?;
+    judged(rt, 1021, 2, 1, 1)?;
+    judged(rt, 2, 2, 1, 1)?;
+    judged(rt, 65521, 2, 1, 1)?;
+    judged(rt, 1021, 2, 0, 0)?;
+    said::end_line(rt)
 }
 
-fn primes() {
-    said::label(b"p");
-    judged(0, 0, 97, 97);
-    judged(1, 2, 1, 1);
-    judged(4, 2, 1, 1);
-    judged(65535, 2, 1, 1);
-    judged(65537, 2, 1, 1);
-    said::end_line();
+fn primes(rt: &impl Print) -> io::Result<()> {
+    said::label(rt, b"p")?;
+    judged(rt, 0, 0, 97, 97)?;
+    judged(rt, 1, 2, 1, 1)?;
+    judged(rt, 4, 2, 1, 1)?;
+    judged(rt, 65535, 2, 1, 1)?;
+    judged(rt, 65537, 2, 1, 1)?;
+    said::end_line(rt)
 }
 
-fn sizes() {
-    said::label(b"sizes");
-    judged(1021, 0, 1, 1);
-    judged(1021, 97, 1, 1);
-    judged(1021, 2, 97, 1);
-    judged(1021, 2, 1, 97);
-    said::end_line();
+fn sizes(rt: &impl Print) -> io::Result<()> {
+    said::label(rt, b"sizes")?;
+    judged(rt, 1021, 0, 1, 1)?;
+    judged(rt, 1021, 97, 1, 1)?;
+    judged(rt, 1021, 2, 97, 1)?;
+    judged(rt, 1021, 2, 1, 97)?;
+    said::end_line(rt)
 }
 
-fn areas() {
-    said::label(b"areas");
-    judged(1021, 3, 1, 1);
-    judged(1021, 2, 2, 1);
-    judged(1021, 2, 1, 2);
-    judged(1021, 96, 96, 96);
-    said::end_line();
+fn areas(rt: &impl Print) -> io::Result<()> {
+    said::label(rt, b"areas")?;
+    judged(rt, 1021, 3, 1, 1)?;
+    judged(rt, 1021, 2, 2, 1)?;
+    judged(rt, 1021, 2, 1, 2)?;
+    judged(rt, 1021, 96, 96, 96)?;
+    said::end_line(rt)
 }
 
-fn contents() {
-    said::label(b"contents");
-    with_contents(1021, 1020, 3);
-    with_contents(1021, 1021, 2);
-    with_contents(1021, 1020, 4);
-    with_contents(1021, 65535, 4);
-    with_contents(65521, 65520, 2);
-    with_contents(65521, 65521, 2);
-    said::end_line();
+fn contents(rt: &impl Print) -> io::Result<()> {
+    said::label(rt, b"contents")?;
+    with_contents(rt, 1021, 1020, 3)?;
+    with_contents(rt, 1021, 1021, 2)?;
+    with_contents(rt, 1021, 1020, 4)?;
+    with_contents(rt, 1021, 65535, 4)?;
+    with_contents(rt, 65521, 65520, 2)?;
+    with_contents(rt, 65521, 65521, 2)?;
+    said::end_line(rt)
 }
 
-pub fn handed_over() {
-    accepted();
-    primes();
-    sizes();
-    areas();
-    contents();
+pub fn handed_over(rt: &impl Print) -> io::Result<()> {
+    accepted(rt)?;
+    primes(rt)?;
+    sizes(rt)?;
+    areas(rt)?;
+    contents(rt)
 }

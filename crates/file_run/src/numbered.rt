@@ -1,6 +1,7 @@
 // A small numbered model: written, read into areas of several lengths, and judged in a file and handed over.
 use crate::said::{back, front};
 use crate::{changed, prefixes, said, set_two};
+use std::io;
 
 // The fields of numbers start there in the model's file, which is so long; each takes five bytes.
 const FIRST: usize = 29;
@@ -26,56 +27,56 @@ fn sample() -> [u8; LENGTH] {
     file
 }
 
-fn written() {
+fn written(rt: &impl Print) -> io::Result<()> {
     let numbers = [17u16, 9, 9, 18];
     let mut out = [7u8; 54];
     let w = write_model(&numbers, &mut out);
-    said::label(b"numbered written");
-    said::number(w.refusal as u64);
-    said::number(w.length as u64);
-    said::bytes(&out);
-    said::end_line();
+    said::label(rt, b"numbered written")?;
+    said::number(rt, w.refusal as u64)?;
+    said::number(rt, w.length as u64)?;
+    said::bytes(rt, &out)?;
+    said::end_line(rt)
 }
 
 // The file is read with the first k numbers lent; the area is printed whole.
-fn read_into(file: &[u8], numbers: &mut [u16], k: usize) {
+fn read_into(rt: &impl Print, file: &[u8], numbers: &mut [u16], k: usize) -> io::Result<()> {
     if numbers.len() < k {
-        return;
+        return Ok(());
     }
     let mut constants = [7u16; 2];
     let mut parameters = [7u64; 4];
     let r = loader::read_file(file, &mut constants, &mut parameters, &mut numbers[..k]);
-    said::sizes(r);
-    said::constants(&constants);
-    said::parameters(&parameters);
-    said::constants(numbers);
-    said::end_line();
+    said::sizes(rt, r)?;
+    said::constants(rt, &constants)?;
+    said::parameters(rt, &parameters)?;
+    said::constants(rt, numbers)?;
+    said::end_line(rt)
 }
 
-fn read() {
+fn read(rt: &impl Print) -> io::Result<()> {
     let file = sample();
     let mut numbers = [7u16; 5];
-    said::label(b"numbers short");
-    read_into(&file, &mut numbers, 3);
-    said::label(b"numbers just long enough");
-    read_into(&file, &mut numbers, 4);
+    said::label(rt, b"numbers short")?;
+    read_into(rt, &file, &mut numbers, 3)?;
+    said::label(rt, b"numbers just long enough")?;
+    read_into(rt, &file, &mut numbers, 4)?;
     let mut others = [9u16; 5];
-    said::label(b"numbers longer");
-    read_into(&file, &mut others, 5);
+    said::label(rt, b"numbers longer")?;
+    read_into(rt, &file, &mut others, 5)
 }
 
 // The file and all that it starts with, one byte changed in it at a time, and a number twice.
-fn judged() {
+fn judged(rt: &impl Print) -> io::Result<()> {
     let mut file = sample();
-    said::label(b"numbered file");
-    said::number(format::judge_file(&file) as u64);
-    said::end_line();
-    prefixes(&file);
-    changed(&mut file);
+    said::label(rt, b"numbered file")?;
+    said::number(rt, format::judge_file(&file) as u64)?;
+    said::end_line(rt)?;
+    prefixes(rt, &file)?;
+    changed(rt, &mut file)?;
     set_two(&mut file, SECOND + 3, 17, 0);
-    said::label(b"number twice");
-    said::number(format::judge_file(&file) as u64);
-    said::end_line();
+    said::label(rt, b"number twice")?;
+    said::number(rt, format::judge_file(&file) as u64)?;
+    said::end_line(rt)
 }
 
 // Leaves what lies outside alone.
@@ -94,44 +95,44 @@ fn put(out: &mut [u8], at: usize, bytes: &[u8]) {
 }
 
 // The file without the field of numbers from there up to there.
-fn judged_without(from: usize, to: usize) {
+fn judged_without(rt: &impl Print, from: usize, to: usize) -> io::Result<()> {
     let file = sample();
     let mut other = [0u8; LENGTH - FIELD];
     put(&mut other, 0, front(&file, from));
     put(&mut other, from, back(&file, to));
-    said::number(format::judge_file(&other) as u64);
+    said::number(rt, format::judge_file(&other) as u64)
 }
 
-fn one_row_numbered() {
-    said::label(b"second row alone, first row alone");
-    judged_without(FIRST, FIRST + FIELD);
-    judged_without(SECOND, SECOND + FIELD);
-    said::end_line();
+fn one_row_numbered(rt: &impl Print) -> io::Result<()> {
+    said::label(rt, b"second row alone, first row alone")?;
+    judged_without(rt, FIRST, FIRST + FIELD)?;
+    judged_without(rt, SECOND, SECOND + FIELD)?;
+    said::end_line(rt)
 }
 
-fn handed(numbers: &[u16]) {
+fn handed(rt: &impl Print, numbers: &[u16]) -> io::Result<()> {
     let constants = [1u16, 0];
     let parameters = [1u64, 0, 2, 0];
     let r = format::judge_model(1021, 2, 1, 2, &constants, &parameters, true, numbers);
-    said::number(r as u64);
+    said::number(rt, r as u64)
 }
 
-fn handed_over() {
-    said::label(b"apart, twice, twice without a parameter, short");
+fn handed_over(rt: &impl Print) -> io::Result<()> {
+    said::label(rt, b"apart, twice, twice without a parameter, short")?;
     let apart = [17u16, 0, 0, 18];
-    handed(&apart);
+    handed(rt, &apart)?;
     let twice = [17u16, 0, 0, 17];
-    handed(&twice);
+    handed(rt, &twice)?;
     let elsewhere = [17u16, 17, 18, 18];
-    handed(&elsewhere);
-    handed(&elsewhere[..3]);
-    said::end_line();
+    handed(rt, &elsewhere)?;
+    handed(rt, &elsewhere[..3])?;
+    said::end_line(rt)
 }
 
-pub fn small() {
-    written();
-    read();
-    judged();
-    one_row_numbered();
-    handed_over();
+pub fn small(rt: &impl Print) -> io::Result<()> {
+    written(rt)?;
+    read(rt)?;
+    judged(rt)?;
+    one_row_numbered(rt)?;
+    handed_over(rt)
 }

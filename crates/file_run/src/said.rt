@@ -1,51 +1,55 @@
 // What the program prints: lines of a label and numbers.
 ghost use Rattle.std.specs.Prelude.{◌≡◌, ◌<◌};
 
-pub fn label(text: &[u8]) {
-    io::write_all(1, text);
-    io::write_all(1, b":");
+use std::io;
+
+pub fn label(rt: &impl Print, text: &[u8]) -> io::Result<()> {
+    rt.write_all(text)?;
+    rt.write_all(b":")
 }
 
-pub fn number(n: u64) {
-    io::write_all(1, b" ");
-    io::print_decimal(1, n);
+pub fn number(rt: &impl Print, n: u64) -> io::Result<()> {
+    print!(rt; " {n}")
 }
 
-pub fn end_line() {
-    io::write_all(1, b"\n");
+pub fn end_line(rt: &impl Print) -> io::Result<()> {
+    rt.write_all(b"\n")
 }
 
-pub fn sizes(r: loader::Sizes) {
-    number(r.refusal as u64);
-    number(r.p as u64);
-    number(r.n as u64);
-    number(r.a as u64);
-    number(r.b as u64);
-    number(r.numbered as u64);
+pub fn sizes(rt: &impl Print, r: loader::Sizes) -> io::Result<()> {
+    number(rt, r.refusal as u64)?;
+    number(rt, r.p as u64)?;
+    number(rt, r.n as u64)?;
+    number(rt, r.a as u64)?;
+    number(rt, r.b as u64)?;
+    number(rt, r.numbered as u64)
 }
 
-pub fn bytes(xs: &[u8]) {
+pub fn bytes(rt: &impl Print, xs: &[u8]) -> io::Result<()> {
     let mut i = 0;
     while i < xs.len() {
-        number(widened(xs[i]));
+        number(rt, widened(xs[i]))?;
         i = i + 1;
     }
+    Ok(())
 }
 
-pub fn constants(xs: &[u16]) {
+pub fn constants(rt: &impl Print, xs: &[u16]) -> io::Result<()> {
     let mut i = 0;
     while i < xs.len() {
-        number(widened_constant(xs[i]));
+        number(rt, widened_constant(xs[i]))?;
         i = i + 1;
     }
+    Ok(())
 }
 
-pub fn parameters(xs: &[u64]) {
+pub fn parameters(rt: &impl Print, xs: &[u64]) -> io::Result<()> {
     let mut i = 0;
     while i < xs.len() {
-        number(xs[i]);
+        number(rt, xs[i])?;
         i = i + 1;
     }
+    Ok(())
 }
 
 fn widened(x: u8) -> u64

@@ -1,6 +1,7 @@
 // The calls for models handed over without a file, and the count of rows that touch a set, exported to C for the tests that hold the
 // compiled library against a reference, and for measuring. The product's archive has none of them.
 #![tactic(auto)]
+
 ghost use Rattle.std.specs.Prelude.{◌≡◌, ℕ, take};
 ghost use Rattle.columns.specs.Bytes.{number};
 ghost use Rattle.columns.specs.Columns.{room_bytes, members};

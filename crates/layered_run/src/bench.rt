@@ -2,6 +2,7 @@
 ghost use Rattle.std.specs.Prelude.{◌<◌};
 
 use crate::report::{answer_line, line, number};
+use std::io;
 
 const USUAL: u32 = 1021;
 
@@ -10,48 +11,48 @@ const S4_CONSTANTS: [u16; 10] = [1, 1, 1, 1, 0, 0, 2, 1, 1, 0];
 // Areas of parameter rows have two words a row.
 const S4_PARAMETERS: [u64; 4] = [17, 0, 18, 0];
 
-fn run_without_constants() {
+fn run_without_constants(rt: &impl Print) -> io::Result<()> {
     let none = [0u16; 1];
     let twice = [1u64, 0, 1, 0];
-    line(b"S1", USUAL, 1, 0, 0, &none[..0], &twice[..0]);
-    line(b"S10", USUAL, 2, 0, 2, &none[..0], &twice);
-    line(b"S11", USUAL, 1, 0, 2, &none[..0], &twice);
+    line(rt, b"S1", USUAL, 1, 0, 0, &none[..0], &twice[..0])?;
+    line(rt, b"S10", USUAL, 2, 0, 2, &none[..0], &twice)?;
+    line(rt, b"S11", USUAL, 1, 0, 2, &none[..0], &twice)
 }
 
-fn run_without_parameters() {
+fn run_without_parameters(rt: &impl Print) -> io::Result<()> {
     let none = [0u64; 1];
     let same = [1u16, 1, 1, 1];
-    line(b"S3", USUAL, 2, 2, 0, &same, &none[..0]);
+    line(rt, b"S3", USUAL, 2, 2, 0, &same, &none[..0])?;
     let turned = [1u16, 2, 2, 1];
-    line(b"S5", 3, 2, 2, 0, &turned, &none[..0]);
-    line(b"S6", USUAL, 2, 2, 0, &turned, &none[..0]);
+    line(rt, b"S5", 3, 2, 2, 0, &turned, &none[..0])?;
+    line(rt, b"S6", USUAL, 2, 2, 0, &turned, &none[..0])
 }
 
-fn run_with_both() {
+fn run_with_both(rt: &impl Print) -> io::Result<()> {
     let balance = [1u16, 0];
     let second = [2u64, 0];
-    line(b"S2", USUAL, 2, 1, 1, &balance, &second);
+    line(rt, b"S2", USUAL, 2, 1, 1, &balance, &second)?;
     let constants = S4_CONSTANTS;
     let parameters = S4_PARAMETERS;
-    line(b"S4", USUAL, 5, 2, 2, &constants, &parameters);
+    line(rt, b"S4", USUAL, 5, 2, 2, &constants, &parameters)
 }
 
 // Four unknowns: the first rows of the unit matrix, and laws that have all unknowns, or the first alone.
-fn run_rows() {
+fn run_rows(rt: &impl Print) -> io::Result<()> {
     let unit = [1u16, 0, 0, 0, 0, 1, 0, 0, 0, 0, 1, 0, 0, 0, 0, 1];
     let wide = [15u64, 0, 15, 0];
     let narrow = [1u64, 0, 1, 0];
-    line(b"3 equations", USUAL, 4, 1, 2, &unit, &wide);
-    line(b"4 equations", USUAL, 4, 2, 2, &unit, &wide);
-    line(b"5 equations", USUAL, 4, 3, 2, &unit, &wide);
-    line(b"5 equations, rank 3", USUAL, 4, 3, 2, &unit, &narrow);
+    line(rt, b"3 equations", USUAL, 4, 1, 2, &unit, &wide)?;
+    line(rt, b"4 equations", USUAL, 4, 2, 2, &unit, &wide)?;
+    line(rt, b"5 equations", USUAL, 4, 3, 2, &unit, &wide)?;
+    line(rt, b"5 equations, rank 3", USUAL, 4, 3, 2, &unit, &narrow)
 }
 
-pub fn run_all() {
-    run_without_constants();
-    run_without_parameters();
-    run_with_both();
-    run_rows();
+pub fn run_all(rt: &impl Print) -> io::Result<()> {
+    run_without_constants(rt)?;
+    run_without_parameters(rt)?;
+    run_with_both(rt)?;
+    run_rows(rt)
 }
 
 // The column of S4 that stands at c: from start on in steps, around.
@@ -73,7 +74,7 @@ fn moved_row(row: u64, step: usize, start: usize) -> u64 {
 }
 
 // S4 where column c is its column start + c * step, around.
-fn run_order(step: usize, start: usize) {
+fn run_order(rt: &impl Print, step: usize, start: usize) -> io::Result<()> {
     let mut constants = [0u16; 10];
     for c in 0..5 {
         let from = source(c, step, start);
@@ -86,15 +87,16 @@ fn run_order(step: usize, start: usize) {
         moved_row(S4_PARAMETERS[2], step, start),
         0,
     ];
-    io::write_all(1, b"S4 in order");
-    number(step as u64);
-    number(start as u64);
-    answer_line(USUAL, 5, 2, 2, &constants, &parameters);
+    rt.write_all(b"S4 in order")?;
+    number(rt, step as u64)?;
+    number(rt, start as u64)?;
+    answer_line(rt, USUAL, 5, 2, 2, &constants, &parameters)
 }
 
 // Every order of that kind: 20 of the 120.
-pub fn run_orders() {
+pub fn run_orders(rt: &impl Print) -> io::Result<()> {
     for k in 0..20 {
-        run_order(1 + k / 5, k % 5);
+        run_order(rt, 1 + k / 5, k % 5)?;
     }
+    Ok(())
 }

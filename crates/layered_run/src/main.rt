@@ -2,14 +2,17 @@
 // other orders. A line has the model's name, then refusal, verdict, rank, placed set and short set, and whether the columns of the
 // constant side and the rows with a column are as many as the rank says.
 #![tactic(auto)]
+
 mod bench;
 mod edges;
 mod numbered;
 mod report;
 
-fn main() {
-    bench::run_all();
-    edges::run_all();
-    numbered::run_all();
-    bench::run_orders();
+use std::io;
+
+fn main(rt: HostRuntime) -> io::Result<()> {
+    bench::run_all(&rt)?;
+    edges::run_all(&rt)?;
+    numbered::run_all(&rt)?;
+    bench::run_orders(&rt)
 }

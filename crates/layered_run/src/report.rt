@@ -2,25 +2,26 @@
 use columns::ColumnSet;
 use layered::Answer;
 use limits::{MOST_COLUMNS, MOST_ROWS, NO_COLUMN};
+use std::io;
 
-pub fn number(n: u64) {
-    io::write_all(1, b" ");
-    io::print_decimal(1, n);
+pub fn number(rt: &impl Print, n: u64) -> io::Result<()> {
+    print!(rt; " {n}")
 }
 
-fn each_column(set: ColumnSet) {
+fn each_column(rt: &impl Print, set: ColumnSet) -> io::Result<()> {
     for x in 0..MOST_COLUMNS {
         if columns::contains(set, x) {
-            number(x as u64);
+            number(rt, x as u64)?;
         }
     }
+    Ok(())
 }
 
 // The columns of a set, in braces.
-fn braces(set: ColumnSet) {
-    io::write_all(1, b" {");
-    each_column(set);
-    io::write_all(1, b" }");
+fn braces(rt: &impl Print, set: ColumnSet) -> io::Result<()> {
+    rt.write_all(b" {")?;
+    each_column(rt, set)?;
+    rt.write_all(b" }")
 }
 
 // How many rows have a column.
@@ -41,27 +42,40 @@ fn adds_up(answer: Answer) -> bool {
         == answer.rank as usize
 }
 
-fn tell(answer: Answer) {
-    number(answer.refusal as u64);
-    number(answer.verdict as u64);
-    number(answer.rank as u64);
-    braces(answer.placed);
-    braces(answer.short);
+fn tell(rt: &impl Print, answer: Answer) -> io::Result<()> {
+    number(rt, answer.refusal as u64)?;
+    number(rt, answer.verdict as u64)?;
+    number(rt, answer.rank as u64)?;
+    braces(rt, answer.placed)?;
+    braces(rt, answer.short)?;
     if adds_up(answer) {
-        io::write_all(1, b" yes\n");
+        rt.write_all(b" yes\n")?;
     } else {
-        io::write_all(1, b" no\n");
+        rt.write_all(b" no\n")?;
     }
+    Ok(())
 }
 
 // The rest of a line whose name is written, for an unnumbered model.
-pub fn answer_line(p: u32, n: usize, a: usize, b: usize, constants: &[u16], parameters: &[u64]) {
+pub fn answer_line(
+    rt: &impl Print,
+    p: u32,
+    n: usize,
+    a: usize,
+    b: usize,
+    constants: &[u16],
+    parameters: &[u64],
+) -> io::Result<()> {
     let numbers = [0u16; 1];
-    tell(layered::layered_rank(p, n, a, b, constants, parameters, false, &numbers[..0]));
+    tell(
+        rt,
+        layered::layered_rank(p, n, a, b, constants, parameters, false, &numbers[..0]),
+    )
 }
 
 // A whole line for a numbered model,
 pub fn numbered_line(
+    rt: &impl Print,
     name: &[u8],
     p: u32,
     n: usize,
@@ -70,13 +84,17 @@ pub fn numbered_line(
     constants: &[u16],
     parameters: &[u64],
     numbers: &[u16],
-) {
-    io::write_all(1, name);
-    tell(layered::layered_rank(p, n, a, b, constants, parameters, true, numbers));
+) -> io::Result<()> {
+    rt.write_all(name)?;
+    tell(
+        rt,
+        layered::layered_rank(p, n, a, b, constants, parameters, true, numbers),
+    )
 }
 
 // and for an unnumbered one.
 pub fn line(
+    rt: &impl Print,
     name: &[u8],
     p: u32,
     n: usize,
@@ -84,7 +102,7 @@ pub fn line(
     b: usize,
     constants: &[u16],
     parameters: &[u64],
-) {
-    io::write_all(1, name);
-    answer_line(p, n, a, b, constants, parameters);
+) -> io::Result<()> {
+    rt.write_all(name)?;
+    answer_line(rt, p, n, a, b, constants, parameters)
 }

@@ -1,5 +1,6 @@
 // The mixed bench models, S7 to S9, and S12 at several primes; and the model where a dropped constant spoils the short set.
 use crate::report::{answer_line, line, number};
+use std::io;
 
 const USUAL: u32 = 1021;
 
@@ -12,16 +13,17 @@ const S12_CONSTANTS: [u16; 49] = [
 // Areas of parameter rows have two words a row.
 const S12_PARAMETERS: [u64; 14] = [5, 0, 2, 0, 12, 0, 0, 0, 0, 0, 0, 0, 0, 0];
 
-fn run_small() {
+fn run_small(rt: &impl Print) -> io::Result<()> {
     let ones = [1u16, 1, 1, 1];
     let none = [0u64; 4];
     let corner = [1u64, 0, 0, 0];
-    line(b"S7", USUAL, 1, 1, 1, &ones, &corner);
-    line(b"S8", USUAL, 2, 2, 2, &ones, &none);
-    line(b"S9", USUAL, 2, 2, 2, &ones, &corner);
+    line(rt, b"S7", USUAL, 1, 1, 1, &ones, &corner)?;
+    line(rt, b"S8", USUAL, 2, 2, 2, &ones, &none)?;
+    line(rt, b"S9", USUAL, 2, 2, 2, &ones, &corner)?;
     let first = [1u16, 0];
     let both = [3u64, 0];
     line(
+        rt,
         b"constant beside a parameter",
         USUAL,
         2,
@@ -29,7 +31,7 @@ fn run_small() {
         1,
         &first,
         &both,
-    );
+    )
 }
 
 // The residue that a number of the table stands for.
@@ -53,21 +55,21 @@ fn fill(constants: &mut [u16], p: u32) {
     }
 }
 
-fn run_s12(p: u32) {
+fn run_s12(rt: &impl Print, p: u32) -> io::Result<()> {
     let mut constants = [0u16; 49];
     fill(&mut constants, p);
     let parameters = S12_PARAMETERS;
-    io::write_all(1, b"S12 at");
-    number(p as u64);
-    answer_line(p, 7, 7, 7, &constants, &parameters);
+    rt.write_all(b"S12 at")?;
+    number(rt, p as u64)?;
+    answer_line(rt, p, 7, 7, 7, &constants, &parameters)
 }
 
-pub fn run_all() {
-    run_small();
-    run_s12(2);
-    run_s12(3);
-    run_s12(5);
-    run_s12(7);
-    run_s12(USUAL);
-    run_s12(65521);
+pub fn run_all(rt: &impl Print) -> io::Result<()> {
+    run_small(rt)?;
+    run_s12(rt, 2)?;
+    run_s12(rt, 3)?;
+    run_s12(rt, 5)?;
+    run_s12(rt, 7)?;
+    run_s12(rt, USUAL)?;
+    run_s12(rt, 65521)
 }

@@ -2,15 +2,18 @@
 // ones with every set of parameters. A line has the model's name, then refusal, verdict, rank and short set, and whether the rows and
 // columns shown lie below m and n.
 #![tactic(auto)]
+
 mod bench;
 mod edges;
 mod numbered;
 mod report;
 mod smallest;
 
-fn main() {
-    bench::run_all();
-    edges::run_all();
-    numbered::run_all();
-    smallest::run_all();
+use std::io;
+
+fn main(rt: HostRuntime) -> io::Result<()> {
+    bench::run_all(&rt)?;
+    edges::run_all(&rt)?;
+    numbered::run_all(&rt)?;
+    smallest::run_all(&rt)
 }

@@ -21,8 +21,7 @@ use multipliers::{MULTIPLIERS_LENGTH, file_multipliers, put_multipliers};
 use reason::{REASON_LENGTH, file_reason, put_reason};
 
 // Judges the file, then the area; where both are accepted, writes the answer to the layered model over the front of the area.
-#[unsafe(no_mangle)]
-pub extern "C" fn wundreska_check(file: &[u8], answer: &mut [u8]) -> u32
+pub fn wundreska_check(file: &[u8], answer: &mut [u8]) -> u32
     ensures { HostAnswer file.now answer.old result answer.new }
 {
     let r = layered_file(file);
@@ -45,8 +44,7 @@ fn refuse_area(file: &[u8]) -> u32
 
 // Judges the file, then the area, then whether the file holds a mixed question; where all are accepted, writes the answer to the
 // mixed model over the front of the area.
-#[unsafe(no_mangle)]
-pub extern "C" fn wundreska_mixed(file: &[u8], answer: &mut [u8]) -> u32
+pub fn wundreska_mixed(file: &[u8], answer: &mut [u8]) -> u32
     ensures { HostMixedAnswer file.now answer.old result answer.new }
 {
     if answer.len() < MIXED_LENGTH {
@@ -61,13 +59,7 @@ pub extern "C" fn wundreska_mixed(file: &[u8], answer: &mut [u8]) -> u32
 
 // Judges the file, then both areas, then the columns that are named; where all are accepted, writes how the column depends on the held
 // ones over the front of the answer's area. Of the area of held columns the bytes of one set are read.
-#[unsafe(no_mangle)]
-pub extern "C" fn wundreska_multipliers(
-    file: &[u8],
-    held: &[u8],
-    column: usize,
-    answer: &mut [u8],
-) -> u32
+pub fn wundreska_multipliers(file: &[u8], held: &[u8], column: usize, answer: &mut [u8]) -> u32
     ensures { HostMultipliers file.now held.now column answer.old result answer.new }
 {
     if answer.len() < MULTIPLIERS_LENGTH {
@@ -86,8 +78,7 @@ pub extern "C" fn wundreska_multipliers(
 
 // Judges the file, then the area, then the column that is named; where all are accepted, writes the reason why the column is not placed
 // over the front of the area.
-#[unsafe(no_mangle)]
-pub extern "C" fn wundreska_reason(file: &[u8], column: usize, answer: &mut [u8]) -> u32
+pub fn wundreska_reason(file: &[u8], column: usize, answer: &mut [u8]) -> u32
     ensures { HostReason file.now column answer.old result answer.new }
 {
     if answer.len() < REASON_LENGTH {
@@ -102,8 +93,7 @@ pub extern "C" fn wundreska_reason(file: &[u8], column: usize, answer: &mut [u8]
 
 // Judges the file, then both areas; where all are accepted, writes whether the claim is accepted over the front of the answer's area.
 // Of the area of the claim its bytes alone are read.
-#[unsafe(no_mangle)]
-pub extern "C" fn wundreska_accepts(file: &[u8], claim: &[u8], answer: &mut [u8]) -> u32
+pub fn wundreska_accepts(file: &[u8], claim: &[u8], answer: &mut [u8]) -> u32
     ensures { HostAccepts file.now claim.now answer.old result answer.new }
 {
     if answer.len() < ACCEPTANCE_LENGTH {
@@ -120,8 +110,7 @@ pub extern "C" fn wundreska_accepts(file: &[u8], claim: &[u8], answer: &mut [u8]
 }
 
 // Judges the file, then the area; where both are accepted, writes the blocks of the model over the front of the area.
-#[unsafe(no_mangle)]
-pub extern "C" fn wundreska_blocks(file: &[u8], answer: &mut [u8]) -> u32
+pub fn wundreska_blocks(file: &[u8], answer: &mut [u8]) -> u32
     ensures { HostBlocks file.now answer.old result answer.new }
 {
     let r = file_blocks(file);
@@ -133,8 +122,7 @@ pub extern "C" fn wundreska_blocks(file: &[u8], answer: &mut [u8]) -> u32
 
 // Judges the file, then all areas, then the verdict and the powers; where all are accepted, writes the degree and an assignment that
 // reaches it over the front of the answer's area. Of the areas of powers the powers alone are read.
-#[unsafe(no_mangle)]
-pub extern "C" fn wundreska_degree(
+pub fn wundreska_degree(
     file: &[u8],
     rowpowers: &[u8],
     columnpowers: &[u8],
@@ -155,16 +143,14 @@ pub extern "C" fn wundreska_degree(
 
 // Judges the file, then the area; where both are accepted, writes the open model over the front of the area: all columns are present,
 // and the parameters have no numbers.
-#[unsafe(no_mangle)]
-pub extern "C" fn wundreska_open(file: &[u8], area: &mut [u8]) -> u32
+pub fn wundreska_open(file: &[u8], area: &mut [u8]) -> u32
     ensures { HostOpen file.now area.old result area.new }
 {
     open_area(file, area)
 }
 
 // Judges the open model in the area, then the bytes of the edit, then the edit; where all are accepted, the edit is made in the area.
-#[unsafe(no_mangle)]
-pub extern "C" fn wundreska_edit(area: &mut [u8], edit: &[u8]) -> u32
+pub fn wundreska_edit(area: &mut [u8], edit: &[u8]) -> u32
     ensures { HostEdit area.old edit.now result area.new }
 {
     edit_area(area, edit)
@@ -183,8 +169,7 @@ fn refuse_answer(area: &[u8]) -> u32
 
 // Judges the open model in the area, then the area of the answer, then the columns held as present; where all are accepted, writes the
 // answer to the model over the columns present over the front of the answer's area.
-#[unsafe(no_mangle)]
-pub extern "C" fn wundreska_answer(area: &[u8], answer: &mut [u8]) -> u32
+pub fn wundreska_answer(area: &[u8], answer: &mut [u8]) -> u32
     ensures { HostOpenAnswer area.now answer.old result answer.new }
 {
     if answer.len() < ANSWER_LENGTH {

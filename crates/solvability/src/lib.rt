@@ -1,5 +1,6 @@
-// The archive: the calls for a host in C.
+// The calls for a host in C. The crate `solvability_c` exports them, as the archive.
 #![tactic(auto)]
+
 mod calls;
 
 pub use calls::{

@@ -1,0 +1,10 @@
+-- The report lies within its area.
+use Rattle.std.proofs.Common.{sym, length-take-le}
+use Rattle.report.specs.FileReportLaws.{reports_within}
+use Rattle.check_mixed.proofs.main.Goals as goal
+
+pub slice_bounds-text-end : goal.slice_bounds-text-end
+slice_bounds-text-end c = reports_within c.report_mixed_file-printed.ensures
+
+pub slice_bounds-write_all-end : goal.slice_bounds-write_all-end
+slice_bounds-write_all-end c = sym (length-take-le _ _ (reports_within c.report_mixed_file-printed.ensures))
