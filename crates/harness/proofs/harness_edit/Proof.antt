@@ -28,7 +28,7 @@ named : (c : tie.Else-named-ne0) → let a = (entry c).args in meant c.name_edit
 named c = c.name_edit-named.ensures.is_edit ∙ accepted_value 0 (sym (known c)) refl _ _
 
 -- the set is the one that the area shows
-held : (c : tie.After-of_bytes-set) → whole c.of_bytes-set.result ≡ number (take set_bytes (entry c.before.before.before).args.present.now)
+held : (c : tie.After-of_bytes-set) → whole c.of_bytes-set.result ≡ number (take set_bytes (entry c.before.before).args.present.now)
 held c =
     let present = (entry c.before.before).args.present.now in
     c.of_bytes-set.ensures.is_number ∙ ap number (take_all room_bytes (take set_bytes present) (omega (arith, length-take-le set_bytes present c.if-present-lt-SET_BYTES.false)))
@@ -68,7 +68,7 @@ returns_3 c =
     let r = c.before.before.before.before in
     let o = r.before.before in
     let l = o.before.before in
-    edit_refused _ _ _ _ _ _ _ _ _ _ (known l) l.if-present-lt-SET_BYTES.false _ (held o) _ (named l) r.edit_model-r.ensures c.if-r-ne0.true
+    edit_refused _ _ _ _ _ _ _ _ _ _ (known l) c.if-present-lt-SET_BYTES.false _ (held o) _ (named l) r.edit_model-r.ensures c.if-r-ne0.true
 
 put_set_requires : tie.Need-put_set-requires
 put_set_requires c κs = search rules
@@ -86,7 +86,7 @@ returns_4 c =
     let r = passed.before.before.before.before in
     let o = r.before.before.before in
     let l = o.before.before in
-    edit_put _ _ _ _ _ _ _ _ _ _ (known l) l.if-present-lt-SET_BYTES.false _ (held o) _ (named l) r.edit_model-r.ensures passed.if-r-ne0.false _ put.put_set.ensures
+    edit_put _ _ _ _ _ _ _ _ _ _ (known l) c.if-present-lt-SET_BYTES.false _ (held o) _ (named l) r.edit_model-r.ensures passed.if-r-ne0.false _ put.put_set.ensures
 
 pub harness_edit_spec : {M : Type 1} → statement M
 harness_edit_spec =
