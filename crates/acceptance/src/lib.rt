@@ -1,6 +1,7 @@
 // Whether a claim about a model is accepted, of a model handed over or in a file: a rank, an assignment and a column set that somebody
 // else found. And the bytes of a claim and of the answer.
 #![tactic(auto)]
+
 ghost use Rattle.std.specs.Prelude.{◌≡◌, ◌≤◌, true, [], ◌↔◌, length, take};
 ghost use Rattle.std.proofs.Math.Option.{none};
 ghost use Rattle.limits.specs.Limits.{most_columns, most_rows};

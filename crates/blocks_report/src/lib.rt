@@ -1,5 +1,6 @@
 // The report of the blocks of the model in a file, as text: a line for each block, the verdict and the rank, or a refusal's one line.
 #![tactic(auto)]
+
 ghost use Rattle.std.specs.Prelude.{◌≡◌};
 ghost use Rattle.columns.specs.Columns.{members};
 ghost use Rattle.columns.specs.ColumnSets.{whole};

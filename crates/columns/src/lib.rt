@@ -2,6 +2,7 @@
 // are. Column x below 64 is in a set if bit x of its low word is 1, and column 64 + x if bit x of its high word is. Every function is
 // total: a column that a set has no room for is in none, and putting it into one changes nothing.
 #![tactic(auto)]
+
 ghost use Rattle.std.specs.Prelude.{◌≡◌, ◌<◌, ◌≤◌, min, eqb, length, get_or};
 ghost use Rattle.counting.specs.Sets.{◌∪◌, ◌∩◌, ∁, #, any};
 ghost use Rattle.columns.specs.Bytes.{bytes_of};

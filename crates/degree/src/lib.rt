@@ -1,6 +1,7 @@
 // The degree of a model's determinant in s, by the powers of its rows, columns and parameters, of a model handed over or in a file; one
 // assignment that reaches it; and the bytes of the answer.
 #![tactic(auto)]
+
 ghost use Rattle.std.specs.Prelude.{◌≡◌, ℕ, ◌*◌, ◌<◌, ◌≤◌, ◌&&◌, leb, length, get_or};
 ghost use Rattle.std.proofs.Math.Option.{none};
 ghost use Rattle.limits.specs.Limits.{most_columns, most_rows, most_constants};

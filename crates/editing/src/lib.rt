@@ -1,6 +1,7 @@
 // A model held open: opened, edited and answered. Of a model handed over the constants are lent, the parameter rows lent and changed in
 // place, and the columns present are a set by value; of one in an area all of it lies in the area's bytes.
 #![tactic(auto)]
+
 ghost use Rattle.columns.specs.ColumnSets.{row_numbers};
 ghost use Rattle.format.specs.Numbers.{lent};
 ghost use Rattle.editing.specs.Calls.{OpenCall, EditCall, AnswerCall};

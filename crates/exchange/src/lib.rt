@@ -3,6 +3,7 @@
 // column depends on others, read off the tableau; what reaches each column in the final state; and rows of constants reduced, each at
 // an entry that stands at its level. Code outside sees four calls.
 #![tactic(auto)]
+
 ghost use Rattle.std.specs.Prelude.{◌≡◌, ◌↔◌, true, false, ℕ, ◌<◌, ◌≤◌, replicate};
 ghost use Rattle.limits.specs.Limits.{most_columns, most_rows};
 ghost use Rattle.residue.specs.Arithmetic.{is_prime, InverseTable};

@@ -1,5 +1,6 @@
 // Models in files and handed over, judged; a file read field by field. Every public function is total, and refuses by a number.
 #![tactic(auto)]
+
 mod content;
 pub mod fields;
 mod handed_over;

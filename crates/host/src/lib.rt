@@ -1,6 +1,7 @@
 // Answers as bytes, for a caller that lends an area: each is written over the front of the area, or the area is refused and left as it
 // was. And the byte of a yes or no.
 #![tactic(auto)]
+
 ghost use Rattle.std.specs.Prelude.{[], ◌∷◌, ◌≡◌, ◌≤◌, length};
 ghost use Rattle.limits.specs.Limits.{most_rows};
 ghost use Rattle.counting.specs.Sets.{indicator};

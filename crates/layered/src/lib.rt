@@ -1,5 +1,6 @@
 // The layered rank call: the answer to a model handed over, over all its columns or some of them, or in a file.
 #![tactic(auto)]
+
 ghost use Rattle.std.specs.Prelude.{◌≡◌};
 ghost use Rattle.std.proofs.Math.Option.{none};
 ghost use Rattle.columns.specs.ColumnSets.{whole, row_numbers};

@@ -1,6 +1,7 @@
 // The limits of models, files and answers. Each constant has a twin in specs/ that contracts cite; a private function's promise ties the two,
 // so that they cannot part.
 #![tactic(auto)]
+
 ghost use Rattle.std.specs.Prelude.{◌≡◌};
 ghost use Rattle.limits.specs.Limits.{most_columns, most_rows, most_constants, largest_prime, set_bytes, no_column, longest_file};
 

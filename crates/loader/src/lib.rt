@@ -1,5 +1,6 @@
 // A file's model read into lent areas, and a constant row looked up in a file. Every public function is total, and refuses by a number.
 #![tactic(auto)]
+
 mod header;
 mod lookup;
 mod numbers;

@@ -1,5 +1,6 @@
 // The mixed rank call: row i is the sum of constant row i and parameter row i. It is answered through the layered form.
 #![tactic(auto)]
+
 ghost use Rattle.std.specs.Prelude.{◌≡◌, ◌↔◌, true, false, ℕ, ◌+◌, ◌*◌, ◌<◌, ◌≤◌, length, get_or};
 ghost use Rattle.std.proofs.Math.Option.{none};
 ghost use Rattle.limits.specs.Limits.{most_columns, most_rows, most_constants};

@@ -1,5 +1,6 @@
 // The report of the mixed question about a file, as text: five lines, or a refusal's one.
 #![tactic(auto)]
+
 ghost use Rattle.std.specs.Prelude.{◌≡◌};
 ghost use Rattle.text.specs.Text.{Puts};
 ghost use Rattle.report.specs.Report.{report_text};

@@ -1,5 +1,6 @@
 // How a column depends on held columns, of a model handed over or in a file; and the bytes of the answer.
 #![tactic(auto)]
+
 ghost use Rattle.std.specs.Prelude.{◌≡◌, []};
 ghost use Rattle.std.proofs.Math.Option.{none};
 ghost use Rattle.columns.specs.ColumnSets.{row_numbers};

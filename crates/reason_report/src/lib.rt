@@ -1,5 +1,6 @@
 // The report of why a column of the model in a file is not placed, as text: one line or two, or a refusal's one.
 #![tactic(auto)]
+
 ghost use Rattle.std.specs.Prelude.{◌≡◌};
 ghost use Rattle.text.specs.Text.{Puts};
 ghost use Rattle.report.specs.Report.{report_text};

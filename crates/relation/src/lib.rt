@@ -1,6 +1,7 @@
 // A relation between columns, as the set of each column in a row of an area of words: columns put into rows, and rows closed, so that
 // each has all that it leads to. A column without a row of its own leads nowhere, and nothing is put there.
 #![tactic(auto)]
+
 ghost use Rattle.std.specs.Prelude.{◌≡◌, false, ◌≢◌, ℕ, ◌<◌};
 ghost use Rattle.counting.specs.Sets.{Set, ◌∈◌, #};
 ghost use Rattle.columns.specs.Columns.{width, members};

@@ -1,5 +1,6 @@
 // The report of a file, as text: document 01's five lines, or a refusal's one.
 #![tactic(auto)]
+
 ghost use Rattle.std.specs.Prelude.{◌≡◌};
 ghost use Rattle.text.specs.Text.{ascii, line, Puts};
 ghost use Rattle.report.specs.Report.{row_items, answer_text, report_text, longest_report};

@@ -2,6 +2,7 @@
 // that has no room is left out, so that every function is total; `print` is for a whole text, and refuses where it has no room. And a
 // reader of numbers.
 #![tactic(auto)]
+
 ghost use Rattle.std.specs.Prelude.{◌≡◌, [], ◌∷◌, ◌+◌, ◌-◌, ◌*◌, ◌≤◌, ◌<◌};
 ghost use Rattle.columns.specs.Columns.{members};
 ghost use Rattle.columns.specs.ColumnSets.{whole};

@@ -1,5 +1,6 @@
 // How many parameter rows touch a set of columns: the middle term of the set's sum.
 #![tactic(auto)]
+
 ghost use Rattle.std.specs.Prelude.{◌≡◌};
 ghost use Rattle.columns.specs.Columns.{members};
 ghost use Rattle.columns.specs.ColumnSets.{whole, row_numbers};

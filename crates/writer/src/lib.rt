@@ -1,6 +1,7 @@
 // A model handed over, written as a file: each field into what is left of the lent area. Each function gives back how many bytes it put
 // there, and the next field goes behind them. And numbers, put into an area of their own.
 #![tactic(auto)]
+
 ghost use Rattle.std.specs.Prelude.{◌≡◌, true, cond, ◌+◌, ◌*◌, ◌/◌, ◌%◌, ◌≤◌, ◌<◌, length, take};
 ghost use mathlib.Core.List.{[], ◌∷◌, flat_map};
 ghost use Rattle.columns.specs.Columns.{members, within};
