@@ -1,5 +1,5 @@
-// The calls for models handed over without a file, and the count of rows that touch a set, exported to C for the tests that hold the
-// compiled library against a reference, and for measuring. The product's archive has none of them.
+// The calls for models handed over without a file, and the count of rows that touch a set, which `harness_c` exports to C for the tests that
+// hold the compiled library against a reference, and for measuring. The product's archive has none of them.
 #![tactic(auto)]
 
 ghost use Rattle.std.specs.Prelude.{◌≡◌, ℕ, take};
@@ -27,8 +27,7 @@ use touching::touching_rows;
 use writer::write_file;
 
 // The bytes of the layered answer.
-#[unsafe(no_mangle)]
-pub extern "C" fn harness_layered(
+pub fn harness_layered(
     p: u32,
     n: usize,
     a: usize,
@@ -49,8 +48,7 @@ pub extern "C" fn harness_layered(
 }
 
 // The bytes of the mixed answer.
-#[unsafe(no_mangle)]
-pub extern "C" fn harness_mixed(
+pub fn harness_mixed(
     p: u32,
     n: usize,
     a: usize,
@@ -71,8 +69,7 @@ pub extern "C" fn harness_mixed(
 }
 
 // The bytes of the answer about multipliers; the bytes of the held set are handed over.
-#[unsafe(no_mangle)]
-pub extern "C" fn harness_multipliers(
+pub fn harness_multipliers(
     p: u32,
     n: usize,
     a: usize,
@@ -98,8 +95,7 @@ pub extern "C" fn harness_multipliers(
 }
 
 // The bytes of the answer about the reason for a column.
-#[unsafe(no_mangle)]
-pub extern "C" fn harness_reason(
+pub fn harness_reason(
     p: u32,
     n: usize,
     a: usize,
@@ -121,8 +117,7 @@ pub extern "C" fn harness_reason(
 }
 
 // The byte of the answer about a claim, whose bytes are handed over.
-#[unsafe(no_mangle)]
-pub extern "C" fn harness_accepts(
+pub fn harness_accepts(
     p: u32,
     n: usize,
     a: usize,
@@ -148,8 +143,7 @@ pub extern "C" fn harness_accepts(
 }
 
 // The bytes of the blocks.
-#[unsafe(no_mangle)]
-pub extern "C" fn harness_blocks(
+pub fn harness_blocks(
     p: u32,
     n: usize,
     a: usize,
@@ -170,8 +164,7 @@ pub extern "C" fn harness_blocks(
 }
 
 // The bytes of the degree and of an assignment that reaches it.
-#[unsafe(no_mangle)]
-pub extern "C" fn harness_degree(
+pub fn harness_degree(
     p: u32,
     n: usize,
     a: usize,
@@ -207,8 +200,7 @@ pub extern "C" fn harness_degree(
 }
 
 // The bytes of the columns present of a model that is opened.
-#[unsafe(no_mangle)]
-pub extern "C" fn harness_open(
+pub fn harness_open(
     p: u32,
     n: usize,
     a: usize,
@@ -229,8 +221,7 @@ pub extern "C" fn harness_open(
 }
 
 // An edit of an open model, by its kind, row and column; the bytes of the columns present are handed over and changed.
-#[unsafe(no_mangle)]
-pub extern "C" fn harness_edit(
+pub fn harness_edit(
     p: u32,
     n: usize,
     a: usize,
@@ -261,8 +252,7 @@ pub extern "C" fn harness_edit(
 }
 
 // The bytes of the answer to an open model; the bytes of the columns present are handed over.
-#[unsafe(no_mangle)]
-pub extern "C" fn harness_answer(
+pub fn harness_answer(
     p: u32,
     n: usize,
     a: usize,
@@ -283,8 +273,7 @@ pub extern "C" fn harness_answer(
 }
 
 // The bytes of the model's file; what a C caller does not see is how many they are.
-#[unsafe(no_mangle)]
-pub extern "C" fn harness_write(
+pub fn harness_write(
     p: u32,
     n: usize,
     a: usize,
@@ -302,8 +291,7 @@ pub extern "C" fn harness_write(
 }
 
 // The model in a file, read into areas; what a C caller does not see are its sizes and whether it is numbered.
-#[unsafe(no_mangle)]
-pub extern "C" fn harness_read(
+pub fn harness_read(
     file: &[u8],
     constants: &mut [u16],
     parameters: &mut [u64],
@@ -316,8 +304,7 @@ pub extern "C" fn harness_read(
 }
 
 // How many parameter rows, b of them in an area, have a parameter in a set of columns below n; the bytes of the set are handed over.
-#[unsafe(no_mangle)]
-pub extern "C" fn harness_touching(n: usize, b: usize, parameters: &[u64], set: &[u8]) -> usize
+pub fn harness_touching(n: usize, b: usize, parameters: &[u64], set: &[u8]) -> usize
     ensures { result ≡ touching_count n b (row_numbers parameters.now) (members (number (take room_bytes set.now))) }
 {
     touching_rows(parameters, n, b, columns::of_bytes(set))
