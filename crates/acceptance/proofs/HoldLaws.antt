@@ -9,9 +9,9 @@ use Rattle.columns.specs.Columns.{width, members, within}
 use Rattle.columns.specs.Words.Operations.{within_iff}
 use Rattle.rank.specs.Layered.Model.{Model, placing}
 use Rattle.rank.specs.Layered.Rank.{constant_rank, sum}
-use Rattle.rank.specs.ListedModel.{listed_model}
+use Rattle.listed_models.specs.ListedModel.{listed_model}
 use Rattle.claims.specs.Claim.{AcceptsClaim}
-use Rattle.claims.specs.ClaimLaws.{Named, placed_shown, Holds, claim_iff}
+use Rattle.claims.proofs.ClaimLaws.{Named, placed_shown, Holds, claim_iff}
 use Rattle.acceptance.specs.Code.{RowsServe}
 use Rattle.acceptance.proofs.SumLaws.{set_below, set_size, independent_where}
 

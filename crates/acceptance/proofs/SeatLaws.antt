@@ -17,7 +17,7 @@ use Rattle.columns.specs.ColumnSets.{whole}
 use Rattle.columns.specs.Words.SetLaws.{inserted_same, inserted_old, inserted_split}
 use Rattle.rank.specs.ListedModel.{parameter_at}
 use Rattle.claims.specs.Claim.{Names}
-use Rattle.claims.specs.ClaimLaws.{Named, named_below}
+use Rattle.claims.proofs.ClaimLaws.{Named, named_below}
 use Rattle.acceptance.specs.declared.Seats.{Seats}
 use Rattle.acceptance.specs.Code.{row_serves, RowSeated, RowsServe}
 

@@ -11,8 +11,8 @@ use Rattle.columns.specs.Columns.{width, members, within}
 use Rattle.columns.specs.Words.Operations.{members_below, and_true, within_iff}
 use Rattle.rank.specs.Linear.Independence.{Indep}
 use Rattle.rank.specs.Layered.Rank.{constant_rank, sum}
-use Rattle.rank.specs.Layered.Meaning.{constant_rank_at}
-use Rattle.rank.specs.ListedModel.{listed_model}
+use Rattle.rank.proofs.Layered.Meaning.{constant_rank_at}
+use Rattle.listed_models.specs.ListedModel.{listed_model}
 use Rattle.dependence.specs.Constants.{constants_only}
 use Rattle.dependence.specs.ConstantSide.{constant_rank_is_a_rank, independent_by_rank}
 use Rattle.touching.specs.RowCount.{touching_count}

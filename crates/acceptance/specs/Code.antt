@@ -6,7 +6,7 @@ use Rattle.columns.specs.Columns.{members}
 use Rattle.columns.specs.ColumnSets.{whole}
 use Rattle.rank.specs.ListedModel.{parameter_at}
 use Rattle.claims.specs.Claim.{Names}
-use Rattle.claims.specs.ClaimLaws.{Named, Serves}
+use Rattle.claims.proofs.ClaimLaws.{Named, Serves}
 use Rattle.acceptance.specs.declared.Seats.{Seats}
 
 -- parameter row r, one of b with the words ws, can serve column x of n, where the columns in S have a seat

@@ -7,7 +7,7 @@ ghost use Rattle.std.proofs.Math.Option.{none};
 ghost use Rattle.limits.specs.Limits.{most_columns, most_rows};
 ghost use Rattle.columns.specs.Columns.{members, within};
 ghost use Rattle.columns.specs.ColumnSets.{whole, row_numbers};
-ghost use Rattle.rank.specs.ListedModel.{listed_model};
+ghost use Rattle.listed_models.specs.ListedModel.{listed_model};
 ghost use Rattle.rank.specs.Layered.Rank.{constant_rank, sum};
 ghost use Rattle.format.specs.Numbers.{lent};
 ghost use Rattle.format.specs.TestLaws.{Accepted};

@@ -12,7 +12,8 @@ use Rattle.rank.specs.Linear.Independence.{Σ, dot}
 use Rattle.rank.specs.Layered.Model.{Model, same_row, has_parameter, legal}
 use Rattle.rank.specs.Layered.Rank.{seat, constant_rank, sum, last_seat, largest_assignment, some_assignment, row_outside, matching, rank, placeable, taken, placed}
 use Rattle.rank.specs.Independent.{is_zero, last_coefficient, in_kernel, independent}
-use Rattle.rank.specs.ListedModel.{constant_at, parameter_at, listed_modulo}
+use Rattle.rank.specs.ListedModel.{constant_at, parameter_at}
+use Rattle.listed_models.specs.ListedModel.{listed_modulo}
 use Rattle.dependence.specs.Multipliers.{sums_to, depends, multiplier, given}
 use Rattle.blocking.specs.Reason.{reason, untouched, reason_multiplier}
 

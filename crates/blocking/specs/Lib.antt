@@ -4,6 +4,4 @@ pub mod Reason
 pub mod OfferingLaws
 pub mod ReasonLaws
 pub mod ShortLaws
-pub mod MultiplierLaws
-pub mod Theorems
 pub mod Computed

@@ -10,10 +10,10 @@ use Rattle.counting.specs.Injections.{#-mono, #-strict}
 use Rattle.counting.specs.Choices.{Part}
 use Rattle.rank.specs.Layered.Model.{Model, Assignment, is_placed, placing, Legal, size}
 use Rattle.rank.specs.Layered.Rank.{constant_rank, sum, rank, placeable, short}
-use Rattle.rank.specs.Layered.Meaning.{placeable_iff, short_iff}
-use Rattle.rank.specs.Layered.Restricting.{legal_less, restrict, restrict_less, restrict_in, restrict_out}
-use Rattle.rank.specs.Layered.Duality.{placed_in, size_lt_sum, rank_reached}
-use Rattle.rank.specs.Layered.Minimax.{short_of_E, sum_short, rank_le_sum}
+use Rattle.rank.proofs.Layered.Meaning.{placeable_iff, short_iff}
+use Rattle.rank.proofs.Layered.Restricting.{legal_less, restrict, restrict_less, restrict_in, restrict_out}
+use Rattle.rank.proofs.Layered.Duality.{placed_in, size_lt_sum, rank_reached}
+use Rattle.rank.proofs.Layered.Minimax.{short_of_E, sum_short, rank_le_sum}
 use Rattle.blocking.specs.Offering.{offering}
 
 module _ (M : Model) where

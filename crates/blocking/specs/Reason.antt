@@ -8,7 +8,7 @@ use Rattle.counting.specs.Sets.{Set, ◌∈◌, all, set, touching}
 use Rattle.counting.specs.Counts.{◌⊖◌}
 use Rattle.rank.specs.Layered.Model.{Model}
 use Rattle.rank.specs.Layered.Rank.{placeable, placed}
-use Rattle.rank.specs.ModelModulo.{model_modulo}
+use Rattle.listed_models.specs.ModelModulo.{model_modulo}
 use Rattle.dependence.specs.Multipliers.{given}
 
 module _ (M : Model) where

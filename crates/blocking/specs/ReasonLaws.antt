@@ -10,9 +10,9 @@ use Rattle.counting.specs.Counts.{◌⊖◌, ⊖-in, ⊖-at, ⊖-other, set_same
 use Rattle.counting.specs.Choices.{Part}
 use Rattle.rank.specs.Layered.Model.{Model, Assignment, placing, Legal}
 use Rattle.rank.specs.Layered.Rank.{constant_rank, rank, placeable, placed, short}
-use Rattle.rank.specs.Layered.Meaning.{placeable_iff, short_iff}
-use Rattle.rank.specs.Layered.Duality.{size_le_rank, size_lt_sum}
-use Rattle.rank.specs.Layered.ColumnOrder.{placed_below, placed_legal, placed_first, placed_size}
+use Rattle.rank.proofs.Layered.Meaning.{placeable_iff, short_iff}
+use Rattle.rank.proofs.Layered.Duality.{size_le_rank, size_lt_sum}
+use Rattle.rank.proofs.Layered.ColumnOrder.{placed_below, placed_legal, placed_first, placed_size}
 use Rattle.blocking.specs.Offering.{offering}
 use Rattle.blocking.specs.Reason.{drawn_from, Blocking, reason, untouched}
 use Rattle.blocking.specs.OfferingLaws.{smaller_placeable, offering_legal, legal_offering, offering_rank, short_offering, short_none, short_lacks_one}

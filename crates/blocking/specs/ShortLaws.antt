@@ -10,9 +10,9 @@ use Rattle.counting.specs.Counts.{◌⊖◌, ⊖-in, ⊖-at, ⊖-other, set_same
 use Rattle.counting.specs.Choices.{Part}
 use Rattle.rank.specs.Layered.Model.{Model, Assignment, OneMoreThan, placing, Legal}
 use Rattle.rank.specs.Layered.Rank.{constant_rank, sum, rank, placed, short}
-use Rattle.rank.specs.Layered.Meaning.{placeable_iff, short_iff}
-use Rattle.rank.specs.Layered.Minimax.{short_of_E, sum_short, rank_le_sum, extends}
-use Rattle.rank.specs.Layered.ColumnOrder.{placed_legal, placed_size}
+use Rattle.rank.proofs.Layered.Meaning.{placeable_iff, short_iff}
+use Rattle.rank.proofs.Layered.Minimax.{short_of_E, sum_short, rank_le_sum, extends}
+use Rattle.rank.proofs.Layered.ColumnOrder.{placed_legal, placed_size}
 use Rattle.blocking.specs.Offering.{offering}
 use Rattle.blocking.specs.Reason.{drawn_from, BlockedWith}
 use Rattle.blocking.specs.OfferingLaws.{smaller_placeable, offering_legal, legal_offering, sum_one_more}

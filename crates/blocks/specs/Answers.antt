@@ -2,7 +2,7 @@
 use Rattle.std.specs.Prelude.{ℕ, ◌≡◌, cond, List, ltb, replicate}
 use Rattle.std.proofs.Math.Option.{Option}
 use Rattle.limits.specs.Limits.{most_columns, no_column}
-use Rattle.rank.specs.ListedModel.{listed_model}
+use Rattle.listed_models.specs.ListedModel.{listed_model}
 use Rattle.rank.specs.Layered.Model.{Model}
 use Rattle.dependence.specs.Listing.{listing}
 use Rattle.listings.specs.Blocks.{block_count, block_number}

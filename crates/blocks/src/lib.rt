@@ -7,7 +7,7 @@ ghost use Rattle.limits.specs.Limits.{most_columns};
 ghost use Rattle.counting.specs.Sets.{Set, ◌∈◌};
 ghost use Rattle.columns.specs.Columns.{members};
 ghost use Rattle.columns.specs.ColumnSets.{whole, row_numbers};
-ghost use Rattle.rank.specs.ListedModel.{listed_model};
+ghost use Rattle.listed_models.specs.ListedModel.{listed_model};
 ghost use Rattle.relation.specs.Relations.{row_of};
 ghost use Rattle.format.specs.Numbers.{lent};
 ghost use Rattle.format.specs.TestLaws.{Accepted};

@@ -22,10 +22,10 @@ use Rattle.rank.specs.ListedModel.{parameter_at}
 use Rattle.rank.specs.VerdictLaws.{number_1_iff}
 use Rattle.rank.specs.Layered.Model.{Model, Legal}
 use Rattle.rank.specs.Layered.Rank.{rank, verdict}
-use Rattle.rank.specs.ListedModelLaws.{total}
+use Rattle.rank.specs.Totals.{total}
 use Rattle.degrees.specs.Degrees.{Powers, AllPlaced, degree, listed_powers, weight}
 use Rattle.degrees.specs.Dynamics.{layered}
-use Rattle.degrees.specs.Theorems.{last_round_reaches_the_degree}
+use Rattle.degrees.proofs.Theorems.{last_round_reaches_the_degree}
 use Rattle.degrees.specs.Totals.{total_below}
 use Rattle.exchange.specs.Solution.{shown}
 use Rattle.exchange.specs.Solve.{SolvedBy}

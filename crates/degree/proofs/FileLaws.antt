@@ -7,8 +7,8 @@ use Rattle.residue.specs.Residues.{res}
 use Rattle.columns.specs.Columns.{members}
 use Rattle.columns.specs.Words.Bytes.{AreBytes}
 use Rattle.rank.specs.Modulus.{modulus}
-use Rattle.rank.specs.ModelModulo.{model_modulo}
-use Rattle.rank.specs.ListedModel.{listed_model}
+use Rattle.listed_models.specs.ModelModulo.{model_modulo}
+use Rattle.listed_models.specs.ListedModel.{listed_model}
 use Rattle.rank.specs.Layered.Model.{Model}
 use Rattle.degrees.specs.Degrees.{listed_powers}
 use Rattle.format.specs.Refusals.{◌then◌, first_refusal}

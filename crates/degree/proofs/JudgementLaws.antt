@@ -13,7 +13,7 @@ use Rattle.counting.specs.Bools.{and_left, and_right}
 use Rattle.format.specs.Refusals.{Tests, unless, ◌then◌, first_refusal, not_prime, sizes_beyond, constant_beyond, parameter_beyond, area_short, number_twice, prime_test, size_test, constant_test, parameter_test, area_test, numbers_room, number_test, area_tests, content_tests, model_tests, refusal}
 use Rattle.format.specs.RefusalLaws.{then_refused, then_passed, zero_then, zero_unless}
 use Rattle.format.specs.TestLaws.{area_reads}
-use Rattle.rank.specs.ListedModel.{listed_model}
+use Rattle.listed_models.specs.ListedModel.{listed_model}
 use Rattle.degrees.specs.Degrees.{listed_powers}
 use Rattle.degree.specs.Answers.{power_areas, dynamic_tests, degree_question}
 

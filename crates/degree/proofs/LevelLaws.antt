@@ -19,7 +19,7 @@ use Rattle.columns.specs.Columns.{members, removed}
 use Rattle.columns.specs.ColumnSets.{row_numbers, with_row}
 use Rattle.columns.specs.Words.Rows.{rows_with_row}
 use Rattle.columns.specs.Words.SetLaws.{removed_old, removed_gone, removed_other}
-use Rattle.rank.specs.ListedModelLaws.{total}
+use Rattle.rank.specs.Totals.{total}
 use Rattle.exchange.proofs.CellLaws.{row_within}
 use Rattle.degree.specs.Code.{touches, Rise, TightRow, AtLevel, TightConstants, TightParameters, Low}
 

@@ -26,8 +26,8 @@ use Rattle.degrees.specs.Elimination.{Marked}
 use Rattle.degrees.specs.Levels.{AfterRounds, Levelled, Room, raised, tight_constants, tight_parameters, touched}
 use Rattle.degrees.specs.Pivots.{Agree, agree_same}
 use Rattle.degrees.specs.Raising.{constant_touched, parameter_touched}
-use Rattle.degrees.specs.Rounds.{rounds_as}
-use Rattle.degrees.specs.Theorems.{descent_starts, rise_is_small, round_goes_on}
+use Rattle.degrees.proofs.Rounds.{rounds_as}
+use Rattle.degrees.proofs.Theorems.{descent_starts, rise_is_small, round_goes_on}
 use Rattle.degrees.specs.TightEntries.{tight_at, tight_nonzero, tight_row, row_tight}
 use Rattle.exchange.specs.Reduction.{RowsShown, reduced, reducible}
 use Rattle.exchange.specs.Solve.{admissible, fitting}

@@ -5,7 +5,7 @@ use Rattle.limits.specs.Limits.{most_rows, no_column}
 use Rattle.counting.specs.Sets.{all}
 use Rattle.columns.specs.Columns.{members}
 use Rattle.columns.specs.ColumnSets.{whole, empty_set}
-use Rattle.rank.specs.ListedModel.{listed_model}
+use Rattle.listed_models.specs.ListedModel.{listed_model}
 use Rattle.rank.specs.Layered.Model.{Model, Assignment, Legal, constants}
 use Rattle.rank.specs.Layered.Rank.{verdict}
 use Rattle.degrees.specs.Degrees.{Powers, AllPlaced, degree, listed_powers, weight}

@@ -4,7 +4,7 @@ ghost use Rattle.columns.specs.Columns.{members};
 ghost use Rattle.columns.specs.ColumnSets.{whole, row_numbers};
 ghost use Rattle.rank.specs.Modulus.{field_of};
 ghost use Rattle.rank.specs.Layered.Rank.{rank, sum};
-ghost use Rattle.rank.specs.ListedModelLaws.{total};
+ghost use Rattle.rank.specs.Totals.{total};
 ghost use Rattle.degrees.specs.Degrees.{listed_powers};
 ghost use Rattle.degrees.specs.Dynamics.{layered};
 ghost use Rattle.exchange.specs.Solve.{SolvedBy};

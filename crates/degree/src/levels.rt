@@ -5,7 +5,7 @@ ghost use Rattle.limits.specs.Limits.{most_columns, most_rows};
 ghost use Rattle.counting.specs.Sets.{◌∈◌};
 ghost use Rattle.columns.specs.Columns.{members, within};
 ghost use Rattle.columns.specs.ColumnSets.{whole, row_numbers};
-ghost use Rattle.rank.specs.ListedModelLaws.{total};
+ghost use Rattle.rank.specs.Totals.{total};
 ghost use Rattle.degree.specs.Code.{Top, Lines, ParameterRow, Tops, Weighed, touches, Rise, LevelsRaised, HeightsRaised, TightRow, AtLevel, TightConstants, TightParameters, Low};
 
 use columns::{ColumnSet, MOST_WORDS};

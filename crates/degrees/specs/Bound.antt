@@ -9,9 +9,9 @@ use Rattle.counting.specs.Counts.{#-split, Touching, touching_iff}
 use Rattle.counting.specs.Injections.{#-mono, inj_count}
 use Rattle.counting.specs.Sets.{#, Set, touching, ∁, ◌∈◌, ◌∩◌}
 use Rattle.rank.specs.Layered.Model.{Assignment, Legal, Seat, constant, constants, is_constant, is_placed, row}
-use Rattle.rank.specs.Layered.Meaning.{seat_cases}
+use Rattle.rank.proofs.Layered.Meaning.{seat_cases}
 use Rattle.rank.specs.Linear.Kernels.{hits, hits_iff, indep_count, indep_sub, same_indep}
-use Rattle.rank.specs.ListedModelLaws.{total}
+use Rattle.rank.specs.Totals.{total}
 use Rattle.degrees.specs.Degrees.{power_at, weight, AllPlaced}
 use Rattle.degrees.specs.Dynamics.{Dynamic, layered, over, powers}
 use Rattle.degrees.specs.Levels.{Levelled, tight, tight_constants, tight_parameters}

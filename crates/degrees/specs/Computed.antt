@@ -8,12 +8,12 @@ use Rattle.residue.specs.Residues.{mk, plus, res, residues, times}
 use Rattle.counting.specs.Choices.{every, greatest, largest, some}
 use Rattle.counting.specs.Sets.{#, all, any, choose, indicator, set}
 use Rattle.columns.specs.Columns.{members}
-use Rattle.rank.specs.ListedModel.{listed_modulo}
+use Rattle.listed_models.specs.ListedModel.{listed_modulo}
 use Rattle.rank.specs.Independent.{in_kernel, independent, is_zero, last_coefficient}
 use Rattle.rank.specs.Layered.Model.{has_parameter, legal, same_row}
 use Rattle.rank.specs.Layered.Rank.{largest_assignment, last_seat, seat}
 use Rattle.rank.specs.Linear.Independence.{dot, Σ}
-use Rattle.rank.specs.ListedModelLaws.{total}
+use Rattle.rank.specs.Totals.{total}
 use Rattle.degrees.specs.Degrees.{degree, listed_powers, power_at, weight}
 
 module _ (P : Prime 2) where

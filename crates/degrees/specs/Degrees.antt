@@ -1,7 +1,7 @@
 -- Document 02, E14: the powers of a layered model, the total of an assignment, and the degree. Definitions only; assumes nothing.
 use Rattle.std.specs.Prelude.{ℕ, ◌+◌, ◌*◌, ◌<◌, ◌&&◌, cond, List, get_or}
 use Rattle.counting.specs.Sets.{all, ◌∈◌}
-use Rattle.rank.specs.ListedModelLaws.{total}
+use Rattle.rank.specs.Totals.{total}
 use Rattle.rank.specs.Layered.Model.{Model, Seat, out, constant, row, Assignment, placing, legal}
 use Rattle.rank.specs.Layered.Rank.{largest_assignment}
 

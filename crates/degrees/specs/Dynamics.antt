@@ -6,7 +6,7 @@ use Rattle.residue.specs.Residues.{residues}
 use Rattle.counting.specs.Sets.{Set}
 use Rattle.rank.specs.Linear.Independence.{Indep}
 use Rattle.rank.specs.Independent.{independent}
-use Rattle.rank.specs.IndependentLaws.{independent_iff}
+use Rattle.rank.proofs.IndependentLaws.{independent_iff}
 use Rattle.rank.specs.Layered.Model.{Model}
 use Rattle.degrees.specs.Degrees.{Powers}
 

@@ -16,7 +16,7 @@ use Rattle.counting.specs.Counts.{Touching, set_other, set_same, touching_iff}
 use Rattle.counting.specs.Injections.{inj_count}
 use Rattle.counting.specs.Sets.{#, Set, Some, set, touching, ◌∈◌}
 use Rattle.rank.specs.Layered.Rank.{constant_rank}
-use Rattle.rank.specs.Layered.Meaning.{constant_rank_le}
+use Rattle.rank.proofs.Layered.Meaning.{constant_rank_le}
 use Rattle.rank.specs.Linear.Kernels.{hits, hits_iff, same_indep, same_refl, same_sym, same_trans}
 use Rattle.rank.specs.Linear.Tableaus.{Tableau, owned, owned_iff, owned_indep, pivot, pivot_other, pivot_same, pivot_tableau}
 use Rattle.degrees.specs.Dynamics.{Dynamic}

@@ -8,7 +8,7 @@ use Rattle.counting.specs.Sets.{Set, choose, indicator, touching, ◌∈◌}
 use Rattle.rank.specs.Layered.Model.{Model}
 use Rattle.rank.specs.Linear.Kernels.{Same, hits}
 use Rattle.rank.specs.Linear.Tableaus.{Tableau}
-use Rattle.rank.specs.ListedModelLaws.{total}
+use Rattle.rank.specs.Totals.{total}
 use Rattle.degrees.specs.Dynamics.{Dynamic, over}
 
 -- s more on S: so the levels of the rows that touch a set are raised, and the heights on it

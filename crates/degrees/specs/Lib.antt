@@ -4,13 +4,10 @@ pub mod Degrees
 pub mod Dynamics
 pub mod Levels
 pub mod Totals
-pub mod Degree
 pub mod TightEntries
 pub mod TightPart
 pub mod Bound
 pub mod Pivots
 pub mod Elimination
 pub mod Raising
-pub mod Rounds
 pub mod Computed
-pub mod Theorems

@@ -11,7 +11,7 @@ use Rattle.counting.specs.Injections.{#-mono}
 use Rattle.counting.specs.Sets.{#, Set, indicator, touching, ∁, ◌∩◌}
 use Rattle.rank.specs.Layered.Rank.{sum}
 use Rattle.rank.specs.Linear.Kernels.{hits}
-use Rattle.rank.specs.ListedModelLaws.{total}
+use Rattle.rank.specs.Totals.{total}
 use Rattle.degrees.specs.Dynamics.{Dynamic}
 use Rattle.degrees.specs.Elimination.{constant_rows}
 use Rattle.degrees.specs.Levels.{Eliminated, Levelled, Room, raised, tight, tight_constants, tight_parameters, touched}

@@ -6,7 +6,7 @@ use Rattle.std.proofs.Math.Decide.{dec_lt, ℕ_discrete}
 use Rattle.counting.specs.Bools.{not_true, true?}
 use Rattle.counting.specs.Counts.{#-∁}
 use Rattle.counting.specs.Sets.{#, Set, indicator, ∁, ◌∈◌}
-use Rattle.rank.specs.ListedModelLaws.{total}
+use Rattle.rank.specs.Totals.{total}
 use Rattle.degrees.specs.Levels.{raised}
 
 total_mono : (n : ℕ) (f g : ℕ → ℕ) → ((x : ℕ) → x < n → f x ≤ g x) → total n f ≤ total n g

@@ -12,10 +12,10 @@ use Rattle.rank.specs.Linear.Independence.{Indep}
 use Rattle.rank.specs.Linear.Kernels.{indep_sub}
 use Rattle.rank.specs.Layered.Model.{Model, constant, row, Assignment, is_placed, is_constant, placing, constants, Legal, size}
 use Rattle.rank.specs.Layered.Rank.{constant_rank, rank, placed}
-use Rattle.rank.specs.Layered.Meaning.{seat_cases, constant_rank_at, constant_rank_le}
-use Rattle.rank.specs.Layered.Restricting.{keep, keep_placed, keep_true, keep_false, constant_placed}
-use Rattle.rank.specs.Layered.Duality.{rank_reached, size_le_rank}
-use Rattle.rank.specs.Layered.ColumnOrder.{placed_legal, placed_size}
+use Rattle.rank.proofs.Layered.Meaning.{seat_cases, constant_rank_at, constant_rank_le}
+use Rattle.rank.proofs.Layered.Restricting.{keep, keep_placed, keep_true, keep_false, constant_placed}
+use Rattle.rank.proofs.Layered.Duality.{rank_reached, size_le_rank}
+use Rattle.rank.proofs.Layered.ColumnOrder.{placed_legal, placed_size}
 use Rattle.dependence.specs.Constants.{constants_only}
 
 -- all of S on the constant side

@@ -6,7 +6,5 @@ pub mod ListingLaws
 pub mod ConstantSide
 pub mod MultiplierLaws
 pub mod TableauLaws
-pub mod NumberLaws
 pub mod PlainNumbers
-pub mod Theorems
 pub mod Computed

@@ -8,9 +8,10 @@ use Rattle.residue.specs.Residues.{residues, res, res_zero, res_is_zero, res_sam
 use Rattle.counting.specs.Sets.{Set}
 use Rattle.rank.specs.Linear.Independence.{dot}
 use Rattle.rank.specs.Linear.Sums.{dot_cong}
-use Rattle.rank.specs.IndependentLaws.{cut, cut_below, cut_beyond}
+use Rattle.rank.proofs.IndependentLaws.{cut, cut_below, cut_beyond}
 use Rattle.rank.specs.ListedModel.{constant_at}
-use Rattle.rank.specs.ListedModelLaws.{total, res_total}
+use Rattle.rank.specs.Totals.{total}
+use Rattle.rank.proofs.ListedModelLaws.{res_total}
 use Rattle.dependence.specs.Multipliers.{Depends}
 
 -- The whole numbers c are multipliers of column x modulo p: they are 0 modulo p at the columns that are not in H, and in each constant row the sum of

@@ -15,8 +15,8 @@ use Rattle.rank.specs.Linear.Tableaus.{Tableau, owned, owned_iff, away, alone, o
 use Rattle.rank.specs.Graph.States.{Placed, placed_of, placed_iff}
 use Rattle.rank.specs.Layered.Model.{Model, is_placed}
 use Rattle.rank.specs.Layered.Seating.{Good}
-use Rattle.rank.specs.Layered.Augmenting.{StateOf}
-use Rattle.rank.specs.Layered.Realise.{realise}
+use Rattle.rank.proofs.Layered.Augmenting.{StateOf}
+use Rattle.rank.proofs.Layered.Realise.{realise}
 use Rattle.dependence.specs.Constants.{constants_only}
 use Rattle.dependence.specs.ConstantSide.{all_constant, all_constant_places, all_constant_legal}
 use Rattle.dependence.specs.Multipliers.{Depends}

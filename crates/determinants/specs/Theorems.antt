@@ -6,7 +6,7 @@ use Rattle.counting.specs.Sets.{Set, ◌∈◌}
 use Rattle.rank.specs.Linear.Independence.{Indep}
 use Rattle.rank.specs.Layered.Model.{Model}
 use Rattle.rank.specs.Layered.Rank.{rank}
-use Rattle.rank.specs.ListedModel.{listed_model}
+use Rattle.listed_models.specs.ListedModel.{listed_model}
 use Rattle.mixed_models.specs.Mixed.{Mixed, mixed_rank, mixed}
 use Rattle.determinants.specs.Determinant.{arrangements, Letter, Term, determinant, coefficient_at, NotZero, Each, Ascending, SquarePart, NonzeroOrder}
 use Rattle.determinants.specs.Determinant.{Largest}

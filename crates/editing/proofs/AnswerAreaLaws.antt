@@ -13,7 +13,7 @@ use Rattle.columns.specs.Bytes.{number}
 use Rattle.columns.specs.Columns.{room_bytes, members, within_in}
 use Rattle.columns.specs.Words.Bytes.{AreBytes}
 use Rattle.rank.specs.Modulus.{modulus}
-use Rattle.rank.specs.ModelModulo.{model_modulo}
+use Rattle.listed_models.specs.ModelModulo.{model_modulo}
 use Rattle.rank.specs.Layered.Model.{Model}
 use Rattle.format.specs.Numbers.{is_numbered}
 use Rattle.format.specs.Refusals.{first_refusal, unless, ◌then◌, where_accepted, column_beyond, held_columns, model_tests, refusal}

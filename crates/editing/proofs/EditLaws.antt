@@ -24,8 +24,8 @@ use Rattle.columns.specs.Words.Rows.{rows_with_row}
 use Rattle.format.specs.Refusals.{unless, first_refusal, number_of, column_beyond, column_test, named_column, refusal}
 use Rattle.format.specs.RefusalLaws.{first_fails, then_refused, then_passed, zero_unless, where_refused, accepted_value}
 use Rattle.open_models.specs.Open.{Open, Edit, take_off, put_back, set_place, clear_place, column_of, held_tests, row_tests, present_test, presence_tests, own_tests, edit_tests, edit_refusal, with_place, rows_done, present_done, done, after}
-use Rattle.open_models.specs.JudgeLaws.{edit_accepted, held_accepted, present_reads, done_present}
-use Rattle.open_models.specs.HeldLaws.{after_accepted, after_refused}
+use Rattle.open_models.proofs.JudgeLaws.{edit_accepted, held_accepted, present_reads, done_present}
+use Rattle.open_models.proofs.HeldLaws.{after_accepted, after_refused}
 use Rattle.editing.specs.Edits.{meant, of_sizes, own_refusal, row_refusal, presence_refusal, place_done, columns_done, words_done}
 use Rattle.editing.specs.Calls.{held, ShowsColumns, EditCall}
 use Rattle.editing.specs.declared.edit.Edit.{Edit as CodeEdit}

@@ -19,11 +19,11 @@ use Rattle.rank.specs.Graph.States.{State, Placed, placed_of, placed_iff}
 use Rattle.rank.specs.Graph.Layers.{grow_old, grow_arc, grow_split, layer, layer_start, layer_next, unplaced_iff}
 use Rattle.rank.specs.Layered.Model.{Model, Seat, out, constant, is_placed, is_constant, placing, constants}
 use Rattle.rank.specs.Layered.Rank.{rank, placed, short}
-use Rattle.rank.specs.Layered.Meaning.{seat_cases}
-use Rattle.rank.specs.Layered.Assignments.{row_seat_low, row_seat_high, assignment, assignment_owned, assignment_places, constant_owner, row_owner}
-use Rattle.rank.specs.Layered.Optimal.{open_columns, open_columns_iff, reach_open, reach_iff}
-use Rattle.rank.specs.Layered.ColumnOrder.{placed_below}
-use Rattle.rank.specs.Layered.Offers.{finished, StateAnswers, state_answers}
+use Rattle.rank.proofs.Layered.Meaning.{seat_cases}
+use Rattle.rank.proofs.Layered.Assignments.{row_seat_low, row_seat_high, assignment, assignment_owned, assignment_places, constant_owner, row_owner}
+use Rattle.rank.proofs.Layered.Optimal.{open_columns, open_columns_iff, reach_open, reach_iff}
+use Rattle.rank.proofs.Layered.ColumnOrder.{placed_below}
+use Rattle.rank.proofs.Layered.Offers.{finished, StateAnswers, state_answers}
 use Rattle.exchange.specs.Solution.{shown_row, shown, ShowsRow, Solved}
 use Rattle.exchange.specs.Code.Scanning.{owner_at}
 use Rattle.exchange.specs.Code.Searching.{Ended, Final, Searched}

@@ -22,7 +22,7 @@ use Rattle.rank.specs.Graph.States.{Placed, Moved, Entered}
 use Rattle.rank.specs.Layered.Model.{Model}
 use Rattle.rank.specs.Layered.Valid.{touch, touch_constant, touch_row, Valid, state, seated, seated_constant, seated_row, seat_valid}
 use Rattle.rank.specs.Layered.Seating.{good_valid, freed, moved_valid, moved}
-use Rattle.rank.specs.Layered.Assignments.{offered_owner}
+use Rattle.rank.proofs.Layered.Assignments.{offered_owner}
 use Rattle.exchange.specs.Sizes.{stride, lines}
 use Rattle.exchange.specs.Code.Cells.{cell, Below, Pivoted}
 use Rattle.exchange.specs.Code.Scanning.{Arrays, touched, owner_at}

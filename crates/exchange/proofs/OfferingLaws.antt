@@ -15,10 +15,10 @@ use Rattle.columns.specs.Words.SetLaws.{inserted_same, inserted_old, inserted_sp
 use Rattle.rank.specs.Graph.States.{Placed, SamePlaced, placed_of, placed_iff}
 use Rattle.rank.specs.Layered.Model.{Model, Assignment, placing, Legal}
 use Rattle.rank.specs.Layered.Rank.{taken}
-use Rattle.rank.specs.Layered.Meaning.{placeable_iff}
-use Rattle.rank.specs.Layered.Augmenting.{StateOf, OneMore}
-use Rattle.rank.specs.Layered.ColumnOrder.{taken_no}
-use Rattle.rank.specs.Layered.Offers.{Offered, offered_none, offered_same, offered_new, took, passed}
+use Rattle.rank.proofs.Layered.Meaning.{placeable_iff}
+use Rattle.rank.proofs.Layered.Augmenting.{StateOf, OneMore}
+use Rattle.rank.proofs.Layered.ColumnOrder.{taken_no}
+use Rattle.rank.proofs.Layered.Offers.{Offered, offered_none, offered_same, offered_new, took, passed}
 use Rattle.rank.specs.Modulus.{residue_of}
 use Rattle.rank.specs.Layered.Valid.{state}
 use Rattle.rank.specs.Layered.Seating.{empty_valid}

@@ -14,7 +14,7 @@ use Rattle.columns.specs.Words.SetLaws.{inserted_same, inserted_split}
 use Rattle.rank.specs.Graph.States.{State, Placed, Terminal, SamePlaced, moved_placed}
 use Rattle.rank.specs.Graph.Layers.{layer_start, layer_placed}
 use Rattle.rank.specs.Graph.Search.{Hit, fall}
-use Rattle.rank.specs.Layered.Augmenting.{only, only_iff, OneMore, entered_more}
+use Rattle.rank.proofs.Layered.Augmenting.{only, only_iff, OneMore, entered_more}
 use Rattle.exchange.specs.declared.search.Found.{Found}
 use Rattle.exchange.specs.Code.Scanning.{Arrays, touched, owner_at}
 use Rattle.exchange.specs.Code.Searching.{Shows, Ended, Searched}

@@ -15,7 +15,7 @@ use Rattle.columns.specs.ColumnSets.{most_words}
 use Rattle.columns.specs.Words.Rows.{most_words_rows}
 use Rattle.rank.specs.Graph.States.{State}
 use Rattle.rank.specs.Layered.Model.{Model}
-use Rattle.rank.specs.Layered.Offers.{finished}
+use Rattle.rank.proofs.Layered.Offers.{finished}
 use Rattle.relation.specs.Relations.{row_of, HasRow, closure, Joined, ClosedOver}
 use Rattle.relation.specs.RowLaws.{no_row, no_rows, same_rows}
 use Rattle.relation.specs.Closures.{closure_leads}

@@ -19,17 +19,17 @@ use Rattle.columns.specs.Words.SetLaws.{least_there, nothing_in}
 use Rattle.rank.specs.Modulus.{modulus, field_of}
 use Rattle.rank.specs.ModulusLaws.{modulus_is, residue_zero}
 use Rattle.rank.specs.Independent.{independent}
-use Rattle.rank.specs.IndependentLaws.{independent_iff}
+use Rattle.rank.proofs.IndependentLaws.{independent_iff}
 use Rattle.rank.specs.Linear.Tableaus.{owned}
 use Rattle.rank.specs.Graph.States.{State, Placed, placed_of, placed_iff}
 use Rattle.rank.specs.Layered.Model.{Model}
-use Rattle.rank.specs.Layered.Assignments.{offered_owner}
-use Rattle.rank.specs.Layered.Offers.{state_answers}
+use Rattle.rank.proofs.Layered.Assignments.{offered_owner}
+use Rattle.rank.proofs.Layered.Offers.{state_answers}
 use Rattle.dependence.specs.Multipliers.{depends, multiplier, outcome, given}
 use Rattle.dependence.specs.TableauLaws.{owned_columns_independent, state_owns}
-use Rattle.dependence.specs.NumberLaws.{multiplier_not_held, multiplier_none, outcome_dependent, none_given, outcome_depends, outcome_independent, multiplier_given}
+use Rattle.dependence.proofs.NumberLaws.{multiplier_not_held, multiplier_none, outcome_dependent, none_given, outcome_depends, outcome_independent, multiplier_given}
 use Rattle.dependence.specs.ListingLaws.{listed, zeros_listed}
-use Rattle.dependence.specs.Theorems.{held_all_placed, state_shows_multipliers, state_shows_independence}
+use Rattle.dependence.proofs.Theorems.{held_all_placed, state_shows_multipliers, state_shows_independence}
 use Rattle.exchange.specs.Sizes.{stride}
 use Rattle.exchange.specs.DependenceCall.{NoMultipliers, DependenceShown}
 use Rattle.exchange.specs.Code.Cells.{cell, Below}

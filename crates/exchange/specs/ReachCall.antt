@@ -4,7 +4,7 @@ use Rattle.counting.specs.Sets.{Set}
 use Rattle.columns.specs.ColumnSets.{most_words, whole}
 use Rattle.columns.specs.declared.ColumnSet.{ColumnSet}
 use Rattle.rank.specs.Modulus.{modulus, field_of}
-use Rattle.rank.specs.ModelModulo.{model_modulo}
+use Rattle.listed_models.specs.ModelModulo.{model_modulo}
 use Rattle.rank.specs.Layered.Model.{Model}
 use Rattle.relation.specs.Relations.{row_of}
 use Rattle.listings.specs.Blocks.{earlier}

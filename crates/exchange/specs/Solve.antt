@@ -7,7 +7,7 @@ use Rattle.columns.specs.Columns.{members, within}
 use Rattle.columns.specs.ColumnSets.{whole, empty_set}
 use Rattle.columns.specs.declared.ColumnSet.{ColumnSet}
 use Rattle.rank.specs.Modulus.{modulus, field_of, residue_of}
-use Rattle.rank.specs.ModelModulo.{model_modulo}
+use Rattle.listed_models.specs.ModelModulo.{model_modulo}
 use Rattle.rank.specs.Layered.Model.{Model}
 use Rattle.exchange.specs.Solution.{Solved}
 use Rattle.exchange.specs.declared.Solution.{Solution}

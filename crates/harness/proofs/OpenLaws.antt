@@ -22,7 +22,7 @@ use Rattle.format.specs.TestLaws.{area_reads}
 use Rattle.host.specs.AreaCall.{PutOver}
 use Rattle.host.proofs.AreaLaws.{put_refused, put_done}
 use Rattle.open_models.specs.Open.{Open, Edit, edit_refusal, done}
-use Rattle.open_models.specs.HeldLaws.{after_accepted}
+use Rattle.open_models.proofs.HeldLaws.{after_accepted}
 use Rattle.editing.specs.Edits.{meant, kind_tests, edit_by, words_done, columns_done}
 use Rattle.editing.specs.Calls.{EditCall}
 use Rattle.editing.specs.declared.Held.{Held}

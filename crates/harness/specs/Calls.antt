@@ -1,7 +1,7 @@
 -- The calls for a model handed over, their answers as the bytes of the calls on files; and the reading of a file into areas. Definitions only.
 use Rattle.std.specs.Prelude.{ℕ, ◌≡◌, List, [], length, take}
 use Rattle.std.proofs.Math.Option.{Option}
-use Rattle.rank.specs.ListedModel.{listed_model}
+use Rattle.listed_models.specs.ListedModel.{listed_model}
 use Rattle.mixed_models.specs.Mixed.{mixed}
 use Rattle.limits.specs.Limits.{set_bytes}
 use Rattle.columns.specs.Bytes.{number, bytes_of}

@@ -23,14 +23,14 @@ use Rattle.columns.specs.Words.SetLaws.{upto_iff}
 use Rattle.rank.specs.Verdict.{verdict_number}
 use Rattle.rank.specs.Layered.Model.{Model}
 use Rattle.rank.specs.Layered.Rank.{rank, placed, short, verdict}
-use Rattle.rank.specs.Layered.ColumnOrder.{placed_size}
+use Rattle.rank.proofs.Layered.ColumnOrder.{placed_size}
 use Rattle.exchange.specs.Solution.{Solved}
 use Rattle.exchange.specs.Solve.{fitting, admissible, Shown}
 use Rattle.exchange.specs.DependenceCall.{askable}
 use Rattle.exchange.specs.SolveLaws.{all_below_iff, admissible_reads}
 use Rattle.rank.specs.Modulus.{modulus}
-use Rattle.rank.specs.ListedModel.{listed_at, listed_model}
-use Rattle.rank.specs.Demand.{demand3_reported}
+use Rattle.listed_models.specs.ListedModel.{listed_at, listed_model}
+use Rattle.rank.proofs.Demand.{demand3_reported}
 use Rattle.format.specs.Lists.{All}
 use Rattle.limits.specs.Limits.{largest_prime, most_columns, most_rows}
 use Rattle.format.specs.Numbers.{parameter_count}

@@ -17,8 +17,8 @@ use Rattle.columns.specs.ColumnSets.{most_words, row_numbers}
 use Rattle.columns.specs.Words.Rows.{rows_zeros}
 use Rattle.columns.specs.Words.Bytes.{AreBytes}
 use Rattle.rank.specs.Modulus.{modulus}
-use Rattle.rank.specs.ModelModulo.{model_modulo}
-use Rattle.rank.specs.ListedModel.{listed_model}
+use Rattle.listed_models.specs.ModelModulo.{model_modulo}
+use Rattle.listed_models.specs.ListedModel.{listed_model}
 use Rattle.rank.specs.Layered.Model.{Model}
 use Rattle.format.specs.Lists.{All, over}
 use Rattle.format.proofs.Rows.{over_front, flat_length, flat_all, all_second}

@@ -9,7 +9,7 @@ use Rattle.rank.specs.Layered.Model.{Model}
 use Rattle.rank.specs.Layered.Rank.{placed, short, verdict}
 use Rattle.exchange.specs.Solution.{Solved}
 use Rattle.rank.specs.Modulus.{modulus}
-use Rattle.rank.specs.ListedModel.{listed_at, listed_model}
+use Rattle.listed_models.specs.ListedModel.{listed_at, listed_model}
 use Rattle.rank.specs.Steps.{Demand3}
 use Rattle.format.specs.Refusals.{◌then◌, first_refusal, held_columns, model_tests, refusal}
 use Rattle.format.specs.File.Format.{judge}

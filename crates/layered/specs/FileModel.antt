@@ -2,7 +2,7 @@
 use Rattle.std.specs.Prelude.{ℕ}
 use mathlib.Core.List.{List, flatten}
 use Rattle.rank.specs.Layered.Model.{Model}
-use Rattle.rank.specs.ListedModel.{listed_model}
+use Rattle.listed_models.specs.ListedModel.{listed_model}
 use Rattle.format.specs.File.Format.{decode}
 
 -- the model of the numbers, constants and parameter rows that the file has

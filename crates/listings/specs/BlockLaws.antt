@@ -9,8 +9,8 @@ use Rattle.counting.specs.Choices.{Part}
 use Rattle.counting.specs.ChoiceLaws.{every_part_iff}
 use Rattle.rank.specs.Layered.Model.{Model}
 use Rattle.rank.specs.Layered.Rank.{sum, rank, short}
-use Rattle.rank.specs.Layered.Minimax.{short_of_E, sum_short}
-use Rattle.rank.specs.Theorems.{short_is_the_smallest}
+use Rattle.rank.proofs.Layered.Minimax.{short_of_E, sum_short}
+use Rattle.rank.proofs.Theorems.{short_is_the_smallest}
 use Rattle.listings.specs.Offered.{offered}
 use Rattle.listings.specs.Blocks.{tight, share, before, in_no_set}
 

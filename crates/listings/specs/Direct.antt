@@ -11,8 +11,8 @@ use Rattle.rank.specs.Graph.Closed.{Closed}
 use Rattle.rank.specs.Graph.Layers.{layer, unplaced}
 use Rattle.rank.specs.Layered.Model.{Model}
 use Rattle.rank.specs.Layered.Seating.{Good}
-use Rattle.rank.specs.Layered.Assignments.{offered_owner}
-use Rattle.rank.specs.Layered.Augmenting.{StateOf}
+use Rattle.rank.proofs.Layered.Assignments.{offered_owner}
+use Rattle.rank.proofs.Layered.Augmenting.{StateOf}
 use Rattle.relation.specs.Closures.{LeadsTo}
 use Rattle.listings.specs.Offered.{offered, offered_iff}
 use Rattle.listings.specs.Blocks.{before, earlier}

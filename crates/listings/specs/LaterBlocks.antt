@@ -14,15 +14,15 @@ use Rattle.counting.specs.Choices.{Part}
 use Rattle.rank.specs.Graph.Closed.{Closed}
 use Rattle.rank.specs.Graph.Layers.{layer, unplaced}
 use Rattle.rank.specs.Layered.Seating.{Good}
-use Rattle.rank.specs.Layered.Augmenting.{StateOf}
+use Rattle.rank.proofs.Layered.Augmenting.{StateOf}
 use Rattle.rank.specs.Layered.Model.{Model}
 use Rattle.rank.specs.Layered.Rank.{constant_rank, sum, rank, short, verdict}
 use Rattle.rank.specs.Linear.Independence.{Indep}
 use Rattle.rank.specs.Linear.Kernels.{hits, indep_count}
-use Rattle.rank.specs.Layered.Meaning.{constant_rank_at}
-use Rattle.rank.specs.Theorems.{verdict_reads}
-use Rattle.rank.specs.Layered.Assignments.{offered_owner}
-use Rattle.rank.specs.Layered.Minimax.{optimal, short_of_E, sum_short, rank_le_sum}
+use Rattle.rank.proofs.Layered.Meaning.{constant_rank_at}
+use Rattle.rank.proofs.Theorems.{verdict_reads}
+use Rattle.rank.proofs.Layered.Assignments.{offered_owner}
+use Rattle.rank.proofs.Layered.Minimax.{optimal, short_of_E, sum_short, rank_le_sum}
 use Rattle.listings.specs.Offered.{offered, offered_iff}
 use Rattle.listings.specs.Blocks.{in_no_set, blocks, block_count, block_number}
 use Rattle.listings.specs.BlockLaws.{Tight, before_iff, in_no_set_iff}

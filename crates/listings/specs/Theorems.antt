@@ -8,7 +8,7 @@ use Rattle.counting.specs.Choices.{Part}
 use Rattle.columns.specs.Words.Operations.{least_in, least_first}
 use Rattle.rank.specs.Layered.Model.{Model}
 use Rattle.rank.specs.Layered.Rank.{sum, rank, short}
-use Rattle.rank.specs.Layered.Minimax.{short_of_E}
+use Rattle.rank.proofs.Layered.Minimax.{short_of_E}
 use Rattle.listings.specs.Offered.{offered, offered_iff}
 use Rattle.listings.specs.Blocks.{share, before, in_no_set, first_of, block, permitted, Listing, blocks, block_count, block_number}
 use Rattle.listings.specs.Listings.Tests.{Block, block_iff, permitted_iff, Next}

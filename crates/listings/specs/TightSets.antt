@@ -17,13 +17,13 @@ use Rattle.rank.specs.Graph.Closed.{Closed, UnplacedIn, closed_total}
 use Rattle.rank.specs.Graph.Layers.{ArcClosed, layer, unplaced}
 use Rattle.rank.specs.Layered.Model.{Model}
 use Rattle.rank.specs.Layered.Rank.{constant_rank, sum}
-use Rattle.rank.specs.Layered.Meaning.{constant_rank_at}
+use Rattle.rank.proofs.Layered.Meaning.{constant_rank_at}
 use Rattle.rank.specs.Layered.Seating.{Good}
-use Rattle.rank.specs.Layered.Assignments.{constant_rows, parameter_rows}
-use Rattle.rank.specs.Layered.Augmenting.{StateOf}
-use Rattle.rank.specs.Layered.Tight.{unplaced_in, touch_in}
-use Rattle.rank.specs.Layered.Optimal.{touches_offered, rank_placed}
-use Rattle.rank.specs.Layered.Minimax.{rank_le_sum}
+use Rattle.rank.proofs.Layered.Assignments.{constant_rows, parameter_rows}
+use Rattle.rank.proofs.Layered.Augmenting.{StateOf}
+use Rattle.rank.proofs.Layered.Tight.{unplaced_in, touch_in}
+use Rattle.rank.proofs.Layered.Optimal.{touches_offered, rank_placed}
+use Rattle.rank.proofs.Layered.Minimax.{rank_le_sum}
 use Rattle.listings.specs.BlockLaws.{Tight}
 
 module _ (M : Model) (s : StateOf M) (g : Good M s) where

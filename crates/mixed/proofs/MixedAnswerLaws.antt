@@ -27,14 +27,14 @@ use Rattle.rank.specs.Modulus.{modulus, field_of, residue_of}
 use Rattle.rank.specs.Verdict.{verdict_number}
 use Rattle.rank.specs.Layered.Model.{Assignment, placing, constants, size}
 use Rattle.rank.specs.Layered.Rank.{rank, placed, short}
-use Rattle.rank.specs.Layered.Restricting.{constant_placed}
-use Rattle.rank.specs.Layered.ColumnOrder.{placed_size}
+use Rattle.rank.proofs.Layered.Restricting.{constant_placed}
+use Rattle.rank.proofs.Layered.ColumnOrder.{placed_size}
 use Rattle.exchange.specs.Solution.{shown, Solved}
 use Rattle.exchange.specs.Solve.{fitting, admissible, Shown}
 use Rattle.exchange.specs.SolveLaws.{all_below_iff}
 use Rattle.mixed_models.specs.Mixed.{Mixed, unit, mixed_rank, mixed_verdict, form_constants, form_parameters, layered_form, served, shown_I, shown_J, mixed}
-use Rattle.mixed_models.specs.MixedTheorem.{form_rank, shown_reach}
-use Rattle.mixed_models.specs.MixedTheorem.Form.{served_iff, shown_I_iff}
+use Rattle.mixed_models.proofs.MixedTheorem.{form_rank, shown_reach}
+use Rattle.mixed_models.proofs.MixedTheorem.Form.{served_iff, shown_I_iff}
 use Rattle.mixed.specs.MixedForm.{form_entry, form_row, serves}
 use Rattle.limits.specs.Limits.{most_columns, most_rows, most_constants, no_column}
 use Rattle.format.specs.Refusals.{unless, not_mixed, mixed_test, mixed_tests, mixed_refusal, model_tests, refusal}

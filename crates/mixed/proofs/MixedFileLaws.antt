@@ -10,7 +10,7 @@ use Rattle.columns.specs.Columns.{members}
 use Rattle.columns.specs.Words.Bytes.{AreBytes}
 use Rattle.rank.specs.Modulus.{modulus}
 use Rattle.rank.specs.Independent.{independent}
-use Rattle.rank.specs.IndependentLaws.{independent_iff}
+use Rattle.rank.proofs.IndependentLaws.{independent_iff}
 use Rattle.mixed_models.specs.Mixed.{Mixed, mixed}
 use Rattle.format.specs.Refusals.{unless, ◌then◌, first_refusal, not_mixed, mixed_test, mixed_tests, mixed_refusal, model_tests, refusal}
 use Rattle.format.specs.RefusalLaws.{then_refused, then_passed}

@@ -1,7 +1,5 @@
 -- Document 01's mixed models; the mixed rank by its layered form, the mixed verdict, and the starred table.
 pub mod Mixed
 pub mod MixedRowUse
-pub mod MixedTheorem
-pub mod MixedVerdicts
 pub mod Starred
 pub mod Computed

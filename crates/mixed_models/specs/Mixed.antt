@@ -14,7 +14,7 @@ use Rattle.rank.specs.Verdict.{verdict_number}
 use Rattle.rank.specs.Layered.Model.{Model, row, Assignment, is_constant, same_row}
 use Rattle.rank.specs.Layered.Rank.{constant_rank, matching}
 use Rattle.rank.specs.Independent.{independent}
-use Rattle.rank.specs.IndependentLaws.{independent_iff}
+use Rattle.rank.proofs.IndependentLaws.{independent_iff}
 use Rattle.rank.specs.ListedModel.{constant_at, parameter_at}
 
 -- A mixed model: m rows and n columns. Row i is the sum of a constant row, with the constant Q i x at column x, and a parameter row, with a parameter at

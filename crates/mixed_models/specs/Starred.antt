@@ -6,4 +6,3 @@ pub mod Sound
 pub mod Checked
 pub mod Models
 pub mod Evidence
-pub mod Table

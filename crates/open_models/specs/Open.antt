@@ -6,7 +6,7 @@ use Rattle.counting.specs.Sets.{Set, all, set}
 use Rattle.columns.specs.Columns.{width, members, word_of}
 use Rattle.rank.specs.Modulus.{modulus}
 use Rattle.rank.specs.Layered.Model.{Model}
-use Rattle.rank.specs.ListedModel.{listed_at}
+use Rattle.listed_models.specs.ListedModel.{listed_at}
 use Rattle.format.specs.Refusals.{Tests, unless, ◌then◌, first_refusal, where_accepted, row_beyond, column_beyond, already_so, row_test, named_column, model_tests}
 
 -- what is held: p, n, a, b and the constants as opened, a word for each parameter row, and the set of columns present

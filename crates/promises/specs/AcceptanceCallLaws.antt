@@ -19,7 +19,7 @@ use Rattle.format.specs.File.Piece.{closed}
 use Rattle.format.specs.File.Format.{fields, judge, decode}
 use Rattle.rank.specs.Layered.Rank.{rank, short}
 use Rattle.claims.specs.Claim.{AcceptsClaim, Shows}
-use Rattle.claims.specs.Theorems.{accepted_is_the_rank, short_in_accepted}
+use Rattle.claims.proofs.Theorems.{accepted_is_the_rank, short_in_accepted}
 use Rattle.layered.specs.Answers.{AnswerShown, Answered}
 use Rattle.layered.specs.declared.Answer.{Answer}
 use Rattle.layered.specs.FileModel.{file_model}

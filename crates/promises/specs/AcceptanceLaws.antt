@@ -11,10 +11,10 @@ use Rattle.columns.specs.Columns.{members}
 use Rattle.columns.specs.ColumnSets.{whole}
 use Rattle.rank.specs.Layered.Model.{Model, row, Assignment, is_constant, constants, placing, Legal, size}
 use Rattle.rank.specs.Layered.Rank.{sum, rank, placed, short}
-use Rattle.rank.specs.Theorems.{short_is_the_smallest, placed_has_the_rank}
+use Rattle.rank.proofs.Theorems.{short_is_the_smallest, placed_has_the_rank}
 use Rattle.claims.specs.Claim.{Shows, AcceptsClaim}
-use Rattle.claims.specs.ClaimLaws.{constant_seat, named_below, read_below}
-use Rattle.claims.specs.Theorems.{accepted_is_the_rank, short_in_accepted}
+use Rattle.claims.proofs.ClaimLaws.{constant_seat, named_below, read_below}
+use Rattle.claims.proofs.Theorems.{accepted_is_the_rank, short_in_accepted}
 use Rattle.exchange.specs.Solution.{ShowsRow, shown}
 use Rattle.layered.specs.Answers.{Refused, Answered, RankCall}
 use Rattle.layered.specs.declared.Answer.{Answer}

@@ -6,7 +6,7 @@ use Rattle.std.proofs.Math.Option.{Option}
 use Rattle.std.proofs.Math.Decide.{ℕ_discrete}
 use Rattle.counting.specs.Bools.{iff_eq}
 use Rattle.rank.specs.Modulus.{modulus}
-use Rattle.rank.specs.ListedModel.{listed_model}
+use Rattle.listed_models.specs.ListedModel.{listed_model}
 use Rattle.format.specs.Refusals.{refusal}
 use Rattle.acceptance.specs.Answers.{ClaimAccepted, AcceptanceCall}
 use Rattle.acceptance.specs.declared.Claim.{Claim}

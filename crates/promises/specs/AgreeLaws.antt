@@ -13,14 +13,14 @@ use Rattle.counting.specs.Choices.{largest_part}
 use Rattle.rank.specs.Verdict.{verdict_number}
 use Rattle.rank.specs.Linear.Independence.{dot, Indep}
 use Rattle.rank.specs.Linear.Sums.{Σ-cong}
-use Rattle.rank.specs.IndependentLaws.{independent_iff}
+use Rattle.rank.proofs.IndependentLaws.{independent_iff}
 use Rattle.rank.specs.Independent.{independent}
-use Rattle.rank.specs.ModelModulo.{model_modulo}
+use Rattle.listed_models.specs.ModelModulo.{model_modulo}
 use Rattle.rank.specs.Layered.Model.{Model, Assignment, placing, Legal, size}
 use Rattle.rank.specs.Layered.Rank.{constant_rank, sum, rank, placeable, placed, short, verdict}
-use Rattle.rank.specs.Layered.Meaning.{placeable_iff, short_iff}
-use Rattle.rank.specs.Layered.Duality.{size_le_rank, rank_reached}
-use Rattle.rank.specs.Layered.ColumnOrder.{placed_below, placed_legal, placed_first}
+use Rattle.rank.proofs.Layered.Meaning.{placeable_iff, short_iff}
+use Rattle.rank.proofs.Layered.Duality.{size_le_rank, rank_reached}
+use Rattle.rank.proofs.Layered.ColumnOrder.{placed_below, placed_legal, placed_first}
 use Rattle.blocking.specs.Reason.{drawn_from, reason, untouched}
 use Rattle.blocking.specs.ReasonLaws.{untouched_count}
 

@@ -18,9 +18,9 @@ use Rattle.columns.specs.ColumnSets.{whole}
 use Rattle.rank.specs.Modulus.{modulus}
 use Rattle.rank.specs.Verdict.{verdict_number}
 use Rattle.rank.specs.Layered.Rank.{rank, short}
-use Rattle.rank.specs.ListedModel.{listed_model}
+use Rattle.listed_models.specs.ListedModel.{listed_model}
 use Rattle.mixed_models.specs.Mixed.{Mixed, unit, mixed_rank, mixed_verdict, form_constants, form_parameters, layered_form, mixed}
-use Rattle.mixed_models.specs.MixedTheorem.{form_rank}
+use Rattle.mixed_models.proofs.MixedTheorem.{form_rank}
 use Rattle.limits.specs.Limits.{most_columns}
 use Rattle.format.specs.Lists.{rows_of, over}
 use Rattle.format.specs.Numbers.{numbers_of}

@@ -12,7 +12,7 @@ use Rattle.counting.specs.Sets.{Set}
 use Rattle.counting.specs.Choices.{every_part}
 use Rattle.columns.specs.Columns.{least}
 use Rattle.rank.specs.Modulus.{modulus}
-use Rattle.rank.specs.ListedModel.{listed_model}
+use Rattle.listed_models.specs.ListedModel.{listed_model}
 use Rattle.rank.specs.Layered.Model.{Model}
 use Rattle.dependence.specs.ListingLaws.{listing_same}
 use Rattle.listings.specs.Blocks.{tight, share, before, blocks_by, block_count_by, blocks, block_count, block_number}

@@ -19,11 +19,11 @@ use Rattle.counting.specs.Counts.{#-all, #-ext, #-none, all_iff, both?, some?, t
 use Rattle.columns.specs.Columns.{members}
 use Rattle.columns.specs.ColumnSets.{whole}
 use Rattle.columns.specs.Words.Operations.{members_zero}
-use Rattle.rank.specs.ListedModel.{listed_model}
+use Rattle.listed_models.specs.ListedModel.{listed_model}
 use Rattle.rank.specs.Layered.Model.{Model, Seat, row}
 use Rattle.rank.specs.Layered.Rank.{rank, sum, verdict}
-use Rattle.rank.specs.Layered.Meaning.{constant_rank_at, seat_cases}
-use Rattle.rank.specs.Layered.Verdicts.{determined_uses_all, verdict_1_iff}
+use Rattle.rank.proofs.Layered.Meaning.{constant_rank_at, seat_cases}
+use Rattle.rank.proofs.Layered.Verdicts.{determined_uses_all, verdict_1_iff}
 use Rattle.claims.specs.Claim.{AcceptsClaim}
 use Rattle.degrees.specs.Degrees.{Powers, listed_powers, power_at, weight}
 use Rattle.degrees.specs.Totals.{total_below}

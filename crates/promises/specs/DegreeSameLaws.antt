@@ -9,11 +9,11 @@ use Rattle.std.proofs.Math.Option.{Option}
 use Rattle.std.proofs.Math.Decide.{ℕ_discrete}
 use Rattle.counting.specs.Bools.{iff_eq}
 use Rattle.rank.specs.Modulus.{modulus}
-use Rattle.rank.specs.ListedModel.{listed_model}
+use Rattle.listed_models.specs.ListedModel.{listed_model}
 use Rattle.rank.specs.Layered.Model.{Model, Assignment, Legal}
-use Rattle.rank.specs.Layered.Meaning.{seat_cases}
+use Rattle.rank.proofs.Layered.Meaning.{seat_cases}
 use Rattle.degrees.specs.Degrees.{Powers, degree, listed_powers, power_at, weight}
-use Rattle.degrees.specs.Degree.{degree_bounds, degree_cases}
+use Rattle.degrees.proofs.Degree.{degree_bounds, degree_cases}
 use Rattle.degrees.specs.Totals.{total_ext}
 use Rattle.format.specs.Refusals.{unless, ◌then◌, first_refusal, no_degree, area_test}
 use Rattle.format.specs.TestLaws.{area_reads}

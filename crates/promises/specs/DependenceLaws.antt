@@ -12,14 +12,15 @@ use Rattle.counting.specs.Sets.{Set, ◌∈◌}
 use Rattle.rank.specs.Modulus.{modulus}
 use Rattle.rank.specs.ModulusLaws.{modulus_is}
 use Rattle.rank.specs.Linear.Independence.{Indep}
-use Rattle.rank.specs.IndependentLaws.{cut, cut_below, independent_iff}
+use Rattle.rank.proofs.IndependentLaws.{cut, cut_below, independent_iff}
 use Rattle.rank.specs.ListedModel.{constant_at}
-use Rattle.rank.specs.ListedModelLaws.{OnlyZero, independent_reads}
+use Rattle.rank.specs.Totals.{OnlyZero}
+use Rattle.listed_models.specs.ListedModelLaws.{independent_reads}
 use Rattle.dependence.specs.Multipliers.{Depends, given}
 use Rattle.dependence.specs.PlainNumbers.{SumsTo, plain_multipliers, residue_multipliers}
-use Rattle.dependence.specs.NumberLaws.{given_below, given_not_held, multiplier_given}
+use Rattle.dependence.proofs.NumberLaws.{given_below, given_not_held, multiplier_given}
 use Rattle.dependence.specs.ListingLaws.{listing_at, listing_length}
-use Rattle.dependence.specs.Theorems as Theory
+use Rattle.dependence.proofs.Theorems as Theory
 use Rattle.exchange.specs.DependenceCall.{ListedDependenceShown}
 
 -- these numbers say how column x depends on the columns in H, all of them below n, modulo the prime p

@@ -6,7 +6,7 @@ use Rattle.std.proofs.Math.Option.{none}
 use Rattle.residue.specs.Arithmetic.{is_prime, undivided}
 use Rattle.counting.specs.Sets.{all}
 use Rattle.columns.specs.Columns.{members, within_in}
-use Rattle.rank.specs.ListedModel.{listed_model}
+use Rattle.listed_models.specs.ListedModel.{listed_model}
 use Rattle.mixed_models.specs.Starred.Models.{S2}
 use Rattle.format.specs.Lists.{all_pass}
 use Rattle.format.specs.Refusals.{first_refusal, head_test, body_test, due_test, prime_test, size_test, constant_test, end_test}

@@ -35,12 +35,12 @@ use Rattle.layered.proofs.FileLaws.{call_as}
 use Rattle.host.specs.AreaCall.{area_refusal}
 use Rattle.host.specs.AnswerBytes.{answer_length, AnswerWritten}
 use Rattle.rank.specs.Modulus.{modulus}
-use Rattle.rank.specs.ListedModel.{listed_at}
+use Rattle.listed_models.specs.ListedModel.{listed_at}
 use Rattle.open_models.specs.Open.{Open, opened, Edit, take_off, put_back, set_place, clear_place, column_of, held_tests, row_tests, present_test, own_tests, edit_tests, edit_refusal, answer_tests, answer_refusal, rows_done, done, after, after_edits, accepted_edits, rows_after, present_after, open_model, AreWords}
 use Rattle.open_models.specs.RowLaws.{place_length, place_words}
-use Rattle.open_models.specs.JudgeLaws.{edit_accepted, held_accepted, present_reads, done_held, done_present}
-use Rattle.open_models.specs.HeldLaws.{after_accepted, after_refused}
-use Rattle.open_models.specs.Theorems.{worked_out_afresh}
+use Rattle.open_models.proofs.JudgeLaws.{edit_accepted, held_accepted, present_reads, done_held, done_present}
+use Rattle.open_models.proofs.HeldLaws.{after_accepted, after_refused}
+use Rattle.open_models.proofs.Theorems.{worked_out_afresh}
 use Rattle.editing.specs.Edits.{kind_tests, edit_bytes, byte_tests, edit_of}
 use Rattle.editing.specs.Areas.{open_bytes, area_file, of_file, area_open, file_opened, edit_area_tests, EditAreaCall, AnswerAreaCall}
 use Rattle.editing.proofs.AreaLaws.{file_bytes, area_again}

@@ -18,9 +18,9 @@ use Rattle.rank.specs.Modulus.{modulus}
 use Rattle.rank.specs.Verdict.{verdict_number}
 use Rattle.rank.specs.Layered.Model.{Model, Assignment, placing, Legal}
 use Rattle.rank.specs.Layered.Rank.{placed, verdict}
-use Rattle.rank.specs.Theorems.{placed_has_a_legal_assignment}
-use Rattle.rank.specs.Layered.ColumnOrder.{placed_below}
-use Rattle.rank.specs.ListedModel.{listed_at}
+use Rattle.rank.proofs.Theorems.{placed_has_a_legal_assignment}
+use Rattle.rank.proofs.Layered.ColumnOrder.{placed_below}
+use Rattle.listed_models.specs.ListedModel.{listed_at}
 use Rattle.format.specs.Refusals.{unless, first_refusal, row_beyond, row_test, refusal}
 use Rattle.format.specs.RefusalLaws.{where_refused, accepted_value, unless_zero}
 use Rattle.format.specs.TestLaws.{row_reads}
@@ -28,9 +28,9 @@ use Rattle.layered.specs.declared.Answer.{Answer}
 use Rattle.layered.specs.Answers.{RankCall, Refused, Answered}
 use Rattle.open_models.specs.Open as Open
 use Rattle.open_models.specs.Open.{Open, opened, holding, take_off, put_back, set_place, clear_place, row_tests, edit_refusal, answer_refusal, done, after, after_edits, accepted_edits, rows_after, present_after, open_model}
-use Rattle.open_models.specs.JudgeLaws.{edit_accepted, held_accepted}
-use Rattle.open_models.specs.HeldLaws.{after_accepted, after_refused}
-use Rattle.open_models.specs.Theorems.{none_present_rank, none_present_short, none_present_verdict, always_accepted, worked_out_afresh}
+use Rattle.open_models.proofs.JudgeLaws.{edit_accepted, held_accepted}
+use Rattle.open_models.proofs.HeldLaws.{after_accepted, after_refused}
+use Rattle.open_models.proofs.Theorems.{none_present_rank, none_present_short, none_present_verdict, always_accepted, worked_out_afresh}
 use Rattle.editing.specs.Edits.{meant, place_done, words_done}
 use Rattle.editing.specs.Calls.{held, OpenCall, EditCall, AnswerCall}
 use Rattle.editing.specs.declared.Held.{Held}

@@ -15,7 +15,7 @@ use Rattle.format.specs.Refusals.{Cause, number_of, Tests, unless, ◌then◌, f
 use Rattle.format.specs.RefusalLaws.{then_passed, then_refused, first_fails, zero_unless}
 use Rattle.format.specs.TestLaws.{row_reads, column_reads}
 use Rattle.open_models.specs.Open.{Open, Edit, take_off, put_back, set_place, clear_place, column_of, held_tests, row_tests, present_test, presence_tests, own_tests, edit_tests, edit_refusal}
-use Rattle.open_models.specs.JudgeLaws.{present_reads}
+use Rattle.open_models.proofs.JudgeLaws.{present_reads}
 
 -- ---- what each of them says
 

@@ -14,7 +14,7 @@ use Rattle.columns.specs.Words.Sets.{columns_below}
 use Rattle.rank.specs.Modulus.{modulus}
 use Rattle.rank.specs.ListedModel.{constant_at}
 use Rattle.dependence.specs.Multipliers.{given}
-use Rattle.dependence.specs.NumberLaws.{given_not_held, outcome_same, given_same}
+use Rattle.dependence.proofs.NumberLaws.{given_not_held, outcome_same, given_same}
 use Rattle.dependence.specs.ListingLaws.{listing_same}
 use Rattle.exchange.specs.DependenceCall.{ListedDependenceShown}
 use Rattle.format.specs.Refusals.{unless, first_refusal, column_beyond, column_test, model_tests, refusal}

@@ -19,7 +19,7 @@ use Rattle.format.specs.Refusals.{unless, not_mixed, area_test, numbers_room, nu
 use Rattle.format.specs.RefusalLaws.{then_zero, zero_then}
 use Rattle.format.specs.TestLaws.{area_reads, model_accepted, accepted_model, unnumbered_accepted}
 use Rattle.columns.specs.Words.Bytes.{AreBytes}
-use Rattle.rank.specs.ListedModel.{listed_model}
+use Rattle.listed_models.specs.ListedModel.{listed_model}
 use Rattle.mixed_models.specs.Mixed.{mixed}
 use Rattle.format.specs.File.Format.{FileModel, ValidModel, judge, decode, encode}
 use Rattle.format.specs.File.FormatLaws.{decoded_valid, decode_encode, encoded_accepted}

@@ -15,17 +15,17 @@ use Rattle.columns.specs.ColumnSets.{whole}
 use Rattle.columns.specs.declared.ColumnSet.{ColumnSet}
 use Rattle.columns.specs.Words.Operations.{within_iff}
 use Rattle.rank.specs.Modulus.{modulus}
-use Rattle.rank.specs.ListedModel.{listed_model}
+use Rattle.listed_models.specs.ListedModel.{listed_model}
 use Rattle.rank.specs.Layered.Model.{Model}
 use Rattle.rank.specs.Layered.Rank.{constant_rank, placed, short}
 use Rattle.dependence.specs.Multipliers.{outcome, given}
-use Rattle.dependence.specs.NumberLaws.{multiplier_given}
+use Rattle.dependence.proofs.NumberLaws.{multiplier_given}
 use Rattle.dependence.specs.Listing.{listing}
 use Rattle.dependence.specs.ListingLaws.{listing_at, listing_length, listing_same}
-use Rattle.dependence.specs.Theorems.{outcome_1}
+use Rattle.dependence.proofs.Theorems.{outcome_1}
 use Rattle.blocking.specs.Reason.{Blocking, reason, untouched, reason_multiplier}
-use Rattle.blocking.specs.MultiplierLaws.{untouched_multiplier, touched_multiplier}
-use Rattle.blocking.specs.Theorems as Theory
+use Rattle.blocking.proofs.MultiplierLaws.{untouched_multiplier, touched_multiplier}
+use Rattle.blocking.proofs.Theorems as Theory
 use Rattle.exchange.specs.DependenceCall.{ListedDependenceShown}
 use Rattle.format.specs.Refusals.{unless, first_refusal, column_placed, named_column, held_columns, column_beyond, column_test, model_tests, refusal}
 use Rattle.format.specs.RefusalLaws.{then_zero, zero_then, unless_zero, zero_unless}

@@ -13,10 +13,10 @@ use Rattle.counting.specs.Counts.{◌⊖◌, ⊖-in}
 use Rattle.columns.specs.Columns.{width, word_of}
 use Rattle.columns.specs.ColumnSets.{whole}
 use Rattle.rank.specs.Modulus.{modulus}
-use Rattle.rank.specs.ListedModel.{listed_model}
+use Rattle.listed_models.specs.ListedModel.{listed_model}
 use Rattle.rank.specs.Layered.Model.{Model}
 use Rattle.dependence.specs.Multipliers.{given}
-use Rattle.dependence.specs.NumberLaws.{given_not_held, given_same}
+use Rattle.dependence.proofs.NumberLaws.{given_not_held, given_same}
 use Rattle.dependence.specs.ListingLaws.{listing_same}
 use Rattle.blocking.specs.Reason.{reason, untouched, reason_multiplier}
 use Rattle.blocking.specs.ReasonLaws.{reason_iff}

@@ -9,8 +9,8 @@ use Rattle.columns.specs.ColumnSets.{whole}
 use Rattle.rank.specs.Layered.Model.{Model, Assignment, constants}
 use Rattle.rank.specs.Layered.Rank.{rank}
 use Rattle.rank.specs.Layered.RowUse.{PlacesAll}
-use Rattle.rank.specs.Layered.ColumnOrder.{placed_size}
-use Rattle.rank.specs.Layered.Verdicts.{places_all_iff, verdict_1_iff, verdict_2_iff, determined_uses_all, surplus_leaves_over}
+use Rattle.rank.proofs.Layered.ColumnOrder.{placed_size}
+use Rattle.rank.proofs.Layered.Verdicts.{places_all_iff, verdict_1_iff, verdict_2_iff, determined_uses_all, surplus_leaves_over}
 use Rattle.exchange.specs.Solution.{shown}
 use Rattle.layered.specs.Answers.{Answered}
 use Rattle.layered.specs.declared.Answer.{Answer}

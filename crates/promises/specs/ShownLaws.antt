@@ -10,12 +10,12 @@ use Rattle.columns.specs.Columns.{width, members, word_of}
 use Rattle.columns.specs.ColumnSets.{whole}
 use Rattle.columns.specs.Words.Bytes.{number_bytes}
 use Rattle.columns.specs.Words.Operations.{within_in_iff, within_pow}
-use Rattle.rank.specs.ListedModel.{listed_model}
+use Rattle.listed_models.specs.ListedModel.{listed_model}
 use Rattle.rank.specs.Layered.Model.{Model}
 use Rattle.rank.specs.Layered.Rank.{short}
-use Rattle.rank.specs.Layered.ColumnOrder.{placed_below}
-use Rattle.rank.specs.Layered.Restricting.{constant_placed}
-use Rattle.rank.specs.Theorems.{short_is_the_smallest}
+use Rattle.rank.proofs.Layered.ColumnOrder.{placed_below}
+use Rattle.rank.proofs.Layered.Restricting.{constant_placed}
+use Rattle.rank.proofs.Theorems.{short_is_the_smallest}
 use Rattle.mixed_models.specs.Mixed.{Mixed, layered_form}
 use Rattle.exchange.specs.Solution.{shown}
 use Rattle.layered.specs.Answers.{Answered}

@@ -16,18 +16,18 @@ use Rattle.rank.specs.Layered.Model.{Model, row, Assignment, constants, Legal, s
 use Rattle.rank.specs.Layered.Rank.{constant_rank, sum, rank, short, verdict}
 use Rattle.rank.specs.Modulus.{modulus}
 use Rattle.rank.specs.Verdict.{verdict_number}
-use Rattle.rank.specs.ListedModel.{listed_at, listed_model}
-use Rattle.rank.specs.ListedModelLaws.{OnlyZero}
+use Rattle.listed_models.specs.ListedModel.{listed_at, listed_model}
+use Rattle.rank.specs.Totals.{OnlyZero}
 use Rattle.dependence.specs.PlainNumbers.{SumsTo}
 use Rattle.blocking.specs.Reason.{Blocking, BlockedWith}
-use Rattle.blocking.specs.Theorems.{short_is_all_reasons}
+use Rattle.blocking.proofs.Theorems.{short_is_all_reasons}
 use Rattle.claims.specs.Claim.{Shows}
 use Rattle.listings.specs.Blocks.{Listing}
 use Rattle.degrees.specs.Degrees.{Powers, AllPlaced, listed_powers, weight}
-use Rattle.degrees.specs.Theorems.{none_exceeds_the_degree, degree_without_powers}
+use Rattle.degrees.proofs.Theorems.{none_exceeds_the_degree, degree_without_powers}
 use Rattle.mixed_models.specs.Mixed.{Mixed, mixed}
 use Rattle.mixed_models.specs.MixedRowUse.{UsesEveryRow, LeavesRow}
-use Rattle.mixed_models.specs.MixedVerdicts.{mixed_determined_uses_every_row, mixed_surplus_leaves_a_row}
+use Rattle.mixed_models.proofs.MixedVerdicts.{mixed_determined_uses_every_row, mixed_surplus_leaves_a_row}
 use Rattle.mixed_models.specs.Starred.Models.{S2}
 use Rattle.determinants.specs.Determinant.{Largest}
 use Rattle.determinants.specs.ModelTables.{LayeredOrder, MixedOrder}
@@ -52,7 +52,7 @@ use Rattle.mixed.specs.MixedAnswers.{MixedAnswered, MixedCall, file_mixed}
 use Rattle.mixed.specs.declared.MixedAnswer.{MixedAnswer}
 use Rattle.host.specs.AnswerBytes.{answer_length, AnswerWritten}
 use Rattle.open_models.specs.Open.{Open, opened, own_tests, edit_refusal, answer_refusal, after, after_edits, accepted_edits, rows_after, present_after, open_model, AreWords}
-use Rattle.open_models.specs.Theorems.{opened_offers_all, taken_off_and_put_back, put_back_and_taken_off, set_and_cleared, cleared_and_set, set_twice_is_once, cleared_twice_is_once, set_while_the_column_is_out}
+use Rattle.open_models.proofs.Theorems.{opened_offers_all, taken_off_and_put_back, put_back_and_taken_off, set_and_cleared, cleared_and_set, set_twice_is_once, cleared_twice_is_once, set_while_the_column_is_out}
 use Rattle.editing.specs.Edits.{meant, edit_bytes, byte_tests, edit_of}
 use Rattle.editing.specs.Calls.{held, OpenCall, EditCall, AnswerCall}
 use Rattle.editing.specs.Areas.{open_bytes, area_file, area_open, file_opened, AnswerAreaCall}

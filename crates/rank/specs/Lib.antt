@@ -7,13 +7,7 @@ pub mod Verdict
 pub mod VerdictLaws
 pub mod Layered
 pub mod Independent
-pub mod IndependentLaws
-pub mod ModelModulo
 pub mod ListedModel
-pub mod ListedModelLaws
-pub mod Computed
+pub mod Totals
 pub mod Steps
 pub mod StepsLaws
-pub mod Demand
-pub mod StepsReach
-pub mod Theorems

@@ -18,16 +18,16 @@ use Rattle.columns.specs.Words.Sets.{whole_below}
 use Rattle.columns.specs.Words.Operations.{within_iff, word_members}
 use Rattle.columns.specs.Words.SetLaws.{inserted_set, removed_set}
 use Rattle.rank.specs.Modulus.{modulus}
-use Rattle.rank.specs.ListedModel.{listed_model}
+use Rattle.listed_models.specs.ListedModel.{listed_model}
 use Rattle.rank.specs.Layered.Model.{Model}
 use Rattle.rank.specs.Layered.Rank.{placed, short}
-use Rattle.rank.specs.Layered.ColumnOrder.{placed_below}
+use Rattle.rank.proofs.Layered.ColumnOrder.{placed_below}
 use Rattle.dependence.specs.Multipliers.{given}
 use Rattle.dependence.specs.Listing.{listing}
 use Rattle.dependence.specs.ListingLaws.{listing_same, zeros_listed}
 use Rattle.blocking.specs.Reason.{drawn_from, reason, untouched, reason_multiplier}
 use Rattle.blocking.specs.ReasonLaws.{second_call, untouched_count, reason_short, reason_blocking}
-use Rattle.blocking.specs.MultiplierLaws.{untouched_multiplier, touched_multiplier}
+use Rattle.blocking.proofs.MultiplierLaws.{untouched_multiplier, touched_multiplier}
 use Rattle.touching.specs.RowCount.{touching_count}
 use Rattle.exchange.specs.Solve.{admissible, Shown, SolvedBy}
 use Rattle.exchange.specs.declared.Solution.{Solution}

@@ -7,7 +7,7 @@ use Rattle.residue.specs.Residues.{res}
 use Rattle.columns.specs.Columns.{members}
 use Rattle.columns.specs.Words.Bytes.{AreBytes}
 use Rattle.rank.specs.Modulus.{modulus}
-use Rattle.rank.specs.ListedModel.{listed_model}
+use Rattle.listed_models.specs.ListedModel.{listed_model}
 use Rattle.rank.specs.Layered.Model.{Model}
 use Rattle.format.specs.Refusals.{first_refusal}
 use Rattle.format.specs.File.Format.{RowsCall}

@@ -6,8 +6,9 @@ use Rattle.limits.specs.Limits.{most_columns}
 use Rattle.columns.specs.Columns.{width, members, word_of}
 use Rattle.columns.specs.ColumnSets.{whole, empty_set}
 use Rattle.rank.specs.Modulus.{modulus, field_of}
-use Rattle.rank.specs.ModelModulo.{model_modulo}
-use Rattle.rank.specs.ListedModel.{constant_at, parameter_at, listed_model}
+use Rattle.listed_models.specs.ModelModulo.{model_modulo}
+use Rattle.rank.specs.ListedModel.{constant_at, parameter_at}
+use Rattle.listed_models.specs.ListedModel.{listed_model}
 use Rattle.rank.specs.Layered.Model.{Model}
 use Rattle.rank.specs.Layered.Rank.{placed}
 use Rattle.dependence.specs.Listing.{listing}

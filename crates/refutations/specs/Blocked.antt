@@ -7,7 +7,7 @@ use Rattle.limits.specs.Limits.{most_columns}
 use Rattle.counting.specs.Sets.{#}
 use Rattle.columns.specs.Columns.{width, word_of}
 use Rattle.columns.specs.ColumnSets.{whole, empty_set}
-use Rattle.rank.specs.ListedModel.{listed_model}
+use Rattle.listed_models.specs.ListedModel.{listed_model}
 use Rattle.rank.specs.Layered.Rank.{short}
 use Rattle.blocking.specs.Reason.{reason, untouched}
 use Rattle.format.specs.Numbers.{once, stands_in, parameter_count, picked, numbers_in}

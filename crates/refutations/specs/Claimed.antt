@@ -6,12 +6,13 @@ use Rattle.limits.specs.Limits.{most_rows, no_column}
 use Rattle.counting.specs.Sets.{◌∈◌, #}
 use Rattle.columns.specs.Columns.{members}
 use Rattle.columns.specs.ColumnSets.{whole, set_of}
-use Rattle.rank.specs.ListedModel.{parameter_at, listed_model}
+use Rattle.rank.specs.ListedModel.{parameter_at}
+use Rattle.listed_models.specs.ListedModel.{listed_model}
 use Rattle.rank.specs.Layered.Model.{row}
 use Rattle.rank.specs.Layered.Rank.{sum}
 use Rattle.claims.specs.Claim.{Names}
-use Rattle.claims.specs.ClaimLaws.{Named, claim_iff}
-use Rattle.claims.specs.Theorems as Theory
+use Rattle.claims.proofs.ClaimLaws.{Named, claim_iff}
+use Rattle.claims.proofs.Theorems as Theory
 use Rattle.format.specs.Refusals.{refusal}
 use Rattle.acceptance.specs.Answers.{ClaimAccepted, AcceptanceCall}
 use Rattle.acceptance.specs.declared.Claim.{Claim}

@@ -11,10 +11,10 @@ use Rattle.rank.specs.Modulus.{modulus, modulus_at}
 use Rattle.rank.specs.Independent.{is_zero}
 use Rattle.rank.specs.Layered.Model.{Model}
 use Rattle.rank.specs.Layered.Rank.{rank}
-use Rattle.rank.specs.ListedModel.{listed_model, listed_modulo}
+use Rattle.listed_models.specs.ListedModel.{listed_model, listed_modulo}
 use Rattle.mixed_models.specs.Mixed.{Mixed, mixed_at, mixed_rank}
 use Rattle.mixed_models.specs.Starred.Models.{S1, S3, S7, S9, S11}
-use Rattle.mixed_models.specs.Starred.Table.{table}
+use Rattle.mixed_models.proofs.Starred.Table.{table}
 use Rattle.determinants.specs.Determinant.{insertions, arrangements, smaller, inversions, sign, Letter, same_letters, Term, by_number, collect, product, determinant, coefficient_at, NotZero}
 use Rattle.determinants.specs.Determinant.{Each, done, both, Ascending, SquarePart, NonzeroOrder, Largest}
 use Rattle.determinants.specs.Statements.{UpToSign}

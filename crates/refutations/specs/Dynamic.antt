@@ -6,11 +6,11 @@ use Rattle.limits.specs.Limits.{most_rows, no_column}
 use Rattle.counting.specs.Sets.{◌∈◌}
 use Rattle.columns.specs.Columns.{members}
 use Rattle.columns.specs.ColumnSets.{whole, empty_set}
-use Rattle.rank.specs.ListedModel.{listed_model}
+use Rattle.listed_models.specs.ListedModel.{listed_model}
 use Rattle.rank.specs.Layered.Model.{Model, Assignment, Legal, out, constant, row, is_placed}
 use Rattle.rank.specs.Layered.Rank.{verdict}
-use Rattle.claims.specs.ClaimLaws.{constant_seat}
-use Rattle.rank.specs.ListedModelLaws.{total}
+use Rattle.claims.proofs.ClaimLaws.{constant_seat}
+use Rattle.rank.specs.Totals.{total}
 use Rattle.degrees.specs.Degrees.{Powers, AllPlaced, degree, listed_powers, power_at, weight}
 use Rattle.format.specs.Refusals.{first_refusal, refusal}
 use Rattle.format.specs.TestLaws.{model_accepted}

@@ -9,7 +9,7 @@ use Rattle.counting.specs.Sets.{all}
 use Rattle.columns.specs.Columns.{members, within_in}
 use Rattle.columns.specs.ColumnSets.{whole}
 use Rattle.rank.specs.Layered.Rank.{rank, placed}
-use Rattle.rank.specs.ListedModel.{listed_model}
+use Rattle.listed_models.specs.ListedModel.{listed_model}
 use Rattle.layered.specs.Answers.{LayeredCall}
 use Rattle.layered.specs.declared.Answer.{Answer}
 use Rattle.format.specs.Lists.{all_pass, over}

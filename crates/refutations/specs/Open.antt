@@ -17,10 +17,10 @@ use Rattle.columns.specs.Columns.{members}
 use Rattle.columns.specs.ColumnSets.{whole, set_of}
 use Rattle.columns.specs.declared.ColumnSet.{ColumnSet}
 use Rattle.rank.specs.Layered.Model.{Model, Seat, out, constant, row, Assignment, is_placed, is_constant, constants, Legal, legal}
-use Rattle.rank.specs.Layered.Meaning.{true_legal}
-use Rattle.rank.specs.ListedModel.{listed_model}
+use Rattle.rank.proofs.Layered.Meaning.{true_legal}
+use Rattle.listed_models.specs.ListedModel.{listed_model}
 use Rattle.degrees.specs.Degrees.{Powers, AllPlaced, degree, listed_powers, weight}
-use Rattle.degrees.specs.Theorems.{none_exceeds_the_degree}
+use Rattle.degrees.proofs.Theorems.{none_exceeds_the_degree}
 use Rattle.exchange.specs.Solution.{shown_row, shown, ShowsRow, Solved}
 use Rattle.limits.specs.Limits.{most_rows, set_bytes, no_column}
 use Rattle.layered.specs.Answers.{Refused, Answered, AnswerShown, RankCall, LayeredCall}

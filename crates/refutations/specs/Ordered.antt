@@ -9,7 +9,7 @@ use Rattle.limits.specs.Limits.{most_columns, no_column}
 use Rattle.counting.specs.Sets.{Set, ◌∈◌}
 use Rattle.counting.specs.Choices.{Part}
 use Rattle.columns.specs.Columns.{least}
-use Rattle.rank.specs.ListedModel.{listed_model}
+use Rattle.listed_models.specs.ListedModel.{listed_model}
 use Rattle.rank.specs.Layered.Model.{Model}
 use Rattle.rank.specs.Layered.Rank.{sum, rank}
 use Rattle.dependence.specs.Listing.{listing}

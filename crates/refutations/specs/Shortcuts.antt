@@ -11,10 +11,10 @@ use Rattle.columns.specs.Columns.{members, word_of}
 use Rattle.columns.specs.ColumnSets.{whole}
 use Rattle.columns.specs.Words.Bits.{bit_zero}
 use Rattle.rank.specs.Layered.Rank.{rank, short}
-use Rattle.rank.specs.ListedModel.{listed_model}
+use Rattle.listed_models.specs.ListedModel.{listed_model}
 use Rattle.mixed_models.specs.Mixed.{mixed, unit, layered_form}
 use Rattle.mixed_models.specs.Starred.Lists.{among}
-use Rattle.mixed_models.specs.Starred.Table.{table}
+use Rattle.mixed_models.proofs.Starred.Table.{table}
 use Rattle.format.specs.Refusals.{refusal, mixed_refusal}
 use Rattle.layered.specs.Answers.{LayeredCall}
 use Rattle.layered.specs.declared.Answer.{Answer}

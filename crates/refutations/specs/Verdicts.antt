@@ -3,9 +3,9 @@ use Rattle.std.specs.Prelude.{◌≡◌, refl, [], ◌∷◌}
 use Rattle.std.proofs.Math.Option.{none}
 use Rattle.std.proofs.Common.{arith}
 use Rattle.rank.specs.Layered.Rank.{verdict}
-use Rattle.rank.specs.ListedModel.{listed_model}
+use Rattle.listed_models.specs.ListedModel.{listed_model}
 use Rattle.mixed_models.specs.Mixed.{mixed, mixed_sum, mixed_rank, mixed_verdict, rows_in}
-use Rattle.mixed_models.specs.Starred.Table.{table}
+use Rattle.mixed_models.proofs.Starred.Table.{table}
 use Rattle.format.specs.Refusals.{refusal, mixed_refusal}
 use Rattle.layered.specs.Answers.{LayeredCall}
 use Rattle.layered.specs.declared.Answer.{Answer}

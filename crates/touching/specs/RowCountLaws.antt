@@ -10,7 +10,8 @@ use Rattle.counting.specs.Blocks.{#-plus}
 use Rattle.columns.specs.Columns.{width, upto_in, upto}
 use Rattle.columns.specs.ColumnSets.{rows_touching}
 use Rattle.columns.specs.Words.Rows.{no_row_touches}
-use Rattle.rank.specs.ListedModel.{parameter_at, listed_model}
+use Rattle.rank.specs.ListedModel.{parameter_at}
+use Rattle.listed_models.specs.ListedModel.{listed_model}
 use Rattle.rank.specs.Layered.Rank.{constant_rank, sum}
 use Rattle.touching.specs.RowCount.{touching_count}
 

@@ -13,7 +13,7 @@ use Rattle.columns.specs.Columns.{width, members, within}
 use Rattle.columns.specs.ColumnSets.{whole, Fits, row_numbers}
 use Rattle.columns.specs.Words.Sets.{whole_below}
 use Rattle.format.specs.TestLaws.{constants_accepted}
-use Rattle.claims.specs.ClaimLaws.{Named}
+use Rattle.claims.proofs.ClaimLaws.{Named}
 use Rattle.acceptance.specs.Code.{RowsServe}
 use Rattle.acceptance.proofs.HoldLaws.{not_accepted, side_inside, set_inside, rows_fit, as_many, independent, summed, accepted}
 use borrow.Author.Rules.{rules}

@@ -8,7 +8,7 @@ use Rattle.limits.specs.Limits.{most_rows, no_column}
 use Rattle.columns.specs.Columns.{members}
 use Rattle.columns.specs.ColumnSets.{whole, row_numbers}
 use Rattle.acceptance.proofs.SeatLaws.{SeatedBelow, none_seated, one_more_seated, row_unfit, all_serve, all_seated}
-use Rattle.claims.specs.ClaimLaws.{read_below}
+use Rattle.claims.proofs.ClaimLaws.{read_below}
 use Rattle.acceptance.specs.Code.{RowSeated}
 use borrow.Author.Tests.{not-true, not-false}
 use borrow.Author.Rules.{rules}

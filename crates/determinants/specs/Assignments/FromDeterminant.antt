@@ -6,7 +6,7 @@ use Rattle.std.proofs.lemmas.Bool.{false≢true}
 use Rattle.residue.specs.Fields.{Field, mul_zero}
 use Rattle.counting.specs.Counts.{#-ext}
 use Rattle.counting.specs.Sets.{Set, ◌∈◌}
-use Rattle.rank.specs.Layered.Restricting.{constant_placed}
+use Rattle.rank.proofs.Layered.Restricting.{constant_placed}
 use Rattle.rank.specs.Layered.Model.{row, Assignment, is_placed, is_constant, placing, constants}
 use Rattle.determinants.specs.Determinant.{Letter, NonzeroOrder}
 use Rattle.determinants.specs.Statements.{members, Among, rest, rows_of, columns_of, LettersOf}

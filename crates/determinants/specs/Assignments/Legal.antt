@@ -3,7 +3,7 @@ use Rattle.std.specs.Prelude.{ℕ, ◌<◌, ◌≡◌, Bool, true, ◌≢◌}
 use Rattle.residue.specs.Fields.{Field}
 use Rattle.counting.specs.Counts.{some?}
 use Rattle.counting.specs.Sets.{Set, ◌∈◌, #, Some}
-use Rattle.rank.specs.Layered.Meaning.{row?}
+use Rattle.rank.proofs.Layered.Meaning.{row?}
 use Rattle.rank.specs.Layered.Model.{row, Assignment, placing, constants}
 use Rattle.determinants.specs.Expansion.Cofactors.{IndependentOn}
 

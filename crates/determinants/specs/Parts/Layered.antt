@@ -7,7 +7,7 @@ use Rattle.residue.specs.Fields.{zero_mul}
 use Rattle.counting.specs.Beside.{beside}
 use Rattle.counting.specs.Blocks.{beside_high, beside_low, low_or_high}
 use Rattle.counting.specs.Counts.{#-ext}
-use Rattle.rank.specs.Layered.Duality.{rank_reached, size_le_rank}
+use Rattle.rank.proofs.Layered.Duality.{rank_reached, size_le_rank}
 use Rattle.rank.specs.Layered.Model.{Model, Seat, out, constant, row, Assignment, is_placed, is_constant, Legal, size}
 use Rattle.rank.specs.Layered.Rank.{rank}
 use Rattle.rank.specs.Linear.Independence.{dot}

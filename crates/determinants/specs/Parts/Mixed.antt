@@ -10,7 +10,7 @@ use Rattle.counting.specs.Bools.{and_in, and_left, and_right, not_in, not_of, no
 use Rattle.counting.specs.ChoiceLaws.{part_at, part_le}
 use Rattle.counting.specs.Choices.{Part}
 use Rattle.counting.specs.Sets.{Set, ◌∈◌}
-use Rattle.rank.specs.Layered.Duality.{rank_reached, size_le_rank}
+use Rattle.rank.proofs.Layered.Duality.{rank_reached, size_le_rank}
 use Rattle.rank.specs.Layered.Model.{Assignment, Legal, size}
 use Rattle.rank.specs.Layered.Rank.{rank}
 use Rattle.rank.specs.Linear.Independence.{dot}

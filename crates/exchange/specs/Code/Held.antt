@@ -4,7 +4,7 @@ use Rattle.std.proofs.Math.ListN as ListN
 use Rattle.counting.specs.Sets.{Set}
 use Rattle.columns.specs.Columns.{members}
 use Rattle.rank.specs.Modulus.{modulus, field_of, residue_of}
-use Rattle.rank.specs.ModelModulo.{model_modulo}
+use Rattle.listed_models.specs.ModelModulo.{model_modulo}
 use Rattle.rank.specs.Graph.States.{State}
 use Rattle.rank.specs.Layered.Model.{Model}
 use Rattle.rank.specs.Layered.Seating.{Good}

@@ -2,7 +2,7 @@
 use Rattle.std.specs.Prelude.{ℕ, ◌<◌, ◌↔◌, List}
 use Rattle.counting.specs.Sets.{Set, ◌∈◌}
 use Rattle.rank.specs.Graph.States.{Placed}
-use Rattle.rank.specs.Layered.Offers.{Offered}
+use Rattle.rank.proofs.Layered.Offers.{Offered}
 use Rattle.exchange.specs.Code.Held.{Given, model_of, Held}
 
 -- the arrays hold a state in which nothing has been offered; the set has the offered columns

@@ -3,7 +3,7 @@ use Rattle.std.specs.Prelude.{ℕ, ◌≡◌, Bool, true, false, List}
 use Rattle.rank.specs.Graph.States.{SamePlaced}
 use Rattle.rank.specs.Graph.Closed.{Closed}
 use Rattle.rank.specs.Graph.Layers.{layer}
-use Rattle.rank.specs.Layered.Augmenting.{only, OneMore}
+use Rattle.rank.proofs.Layered.Augmenting.{only, OneMore}
 use Rattle.exchange.specs.Code.Held.{Given, Held}
 
 -- what placing column j gives: it is placed besides, or the search from it ends without a terminal column

@@ -9,7 +9,7 @@ use lib.ListN.{length}
 use borrow.Author.Tests.{lt-leb}
 use borrow.Author.Rules.{rules}
 use Rattle.columns.specs.ColumnSets.{row_numbers}
-use Rattle.rank.specs.ListedModel.{listed_model}
+use Rattle.listed_models.specs.ListedModel.{listed_model}
 use Rattle.format.specs.Numbers.{lent}
 use Rattle.format.specs.Refusals.{Tests, unless, ◌then◌, first_refusal, area_short, area_test, model_tests, refusal}
 use Rattle.format.specs.RefusalLaws.{then_passed, zero_unless}

@@ -3,7 +3,7 @@ use mathlib.Core.Path.{refl, sym, ◌∙◌}
 use mathlib.Core.List.{[]}
 use borrow.Author.Rules.{rules}
 use Rattle.columns.specs.ColumnSets.{row_numbers}
-use Rattle.rank.specs.ListedModel.{listed_model}
+use Rattle.listed_models.specs.ListedModel.{listed_model}
 use Rattle.format.specs.Numbers.{lent}
 use Rattle.format.specs.Refusals.{Tests, first_refusal}
 use Rattle.host.specs.AreaCall.{WrittenOver}

@@ -5,7 +5,7 @@ use borrow.Author.Rules.{rules}
 use Rattle.columns.specs.ColumnSets.{row_numbers}
 use Rattle.format.specs.Numbers.{lent}
 use Rattle.format.specs.Refusals.{first_refusal, model_tests, refusal}
-use Rattle.rank.specs.ListedModel.{listed_model}
+use Rattle.listed_models.specs.ListedModel.{listed_model}
 use Rattle.host.specs.AnswerBytes.{answer_length, answer_bytes, AnswerWritten}
 use Rattle.host.proofs.AreaLaws.{refused_before, answer_put}
 use Rattle.harness.proofs.harness_layered.Statement.{statement}

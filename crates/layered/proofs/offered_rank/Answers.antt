@@ -13,7 +13,7 @@ use Rattle.columns.specs.ColumnSets.{whole, Fits, row_numbers}
 use Rattle.exchange.specs.Solve.{admissible, SolvedBy}
 use Rattle.exchange.specs.SolveLaws.{admissible_reads}
 use Rattle.rank.specs.Modulus.{modulus}
-use Rattle.rank.specs.ListedModel.{listed_at}
+use Rattle.listed_models.specs.ListedModel.{listed_at}
 use Rattle.format.specs.Refusals.{refusal}
 use Rattle.format.specs.TestLaws.{model_accepted}
 use Rattle.layered.specs.Beforehand.{beforehand}

@@ -11,10 +11,10 @@ use Rattle.counting.specs.Injections.{#-mono}
 use Rattle.counting.specs.Choices.{Part}
 use Rattle.rank.specs.Layered.Model.{Model, Assignment, placing, Legal, size}
 use Rattle.rank.specs.Layered.Rank.{sum, rank, short, placed}
-use Rattle.rank.specs.Layered.Meaning.{short_iff}
-use Rattle.rank.specs.Layered.Duality.{placed_in, size_lt_sum, size_le_rank}
-use Rattle.rank.specs.Layered.ColumnOrder.{placed_below, placed_legal, taken_if}
-use Rattle.rank.specs.Layered.Minimax.{rank_le_sum}
+use Rattle.rank.proofs.Layered.Meaning.{short_iff}
+use Rattle.rank.proofs.Layered.Duality.{placed_in, size_lt_sum, size_le_rank}
+use Rattle.rank.proofs.Layered.ColumnOrder.{placed_below, placed_legal, taken_if}
+use Rattle.rank.proofs.Layered.Minimax.{rank_le_sum}
 use Rattle.mixed_models.specs.Starred.Lists.{among, seats}
 use Rattle.mixed_models.specs.Starred.Pivots.{proper}
 use Rattle.mixed_models.specs.Starred.Claims.{Claim, sound, rows_left, spared, refused_by, places_all, below_all, passes}

@@ -1,7 +1,7 @@
 -- The starred bench models of document 01. A parameter row is the word of its columns: 1 is {0}, 2 is {1}, 17 is {0, 4}, 18 is {1, 4}. Definitions only; assumes nothing.
 use Rattle.std.specs.Prelude.{[], ◌∷◌}
 use Rattle.rank.specs.Layered.Model.{Model}
-use Rattle.rank.specs.ListedModel.{listed_model}
+use Rattle.listed_models.specs.ListedModel.{listed_model}
 use Rattle.mixed_models.specs.Mixed.{Mixed, mixed}
 
 -- n 1, a 0, b 0

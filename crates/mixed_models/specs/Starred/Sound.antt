@@ -15,9 +15,9 @@ use Rattle.rank.specs.Linear.Kernels.{same_sym, same_indep}
 use Rattle.rank.specs.Linear.Tableaus.{owned_indep}
 use Rattle.rank.specs.Layered.Model.{Model, Seat, out, constant, row, Assignment, is_placed, is_constant, placing, constants, Legal, size, legal}
 use Rattle.rank.specs.Layered.Rank.{constant_rank}
-use Rattle.rank.specs.Layered.Meaning.{true_legal, legal_from}
-use Rattle.rank.specs.Layered.Restricting.{constant_placed}
-use Rattle.rank.specs.Layered.RankRows.{constant_rank_rows}
+use Rattle.rank.proofs.Layered.Meaning.{true_legal, legal_from}
+use Rattle.rank.proofs.Layered.Restricting.{constant_placed}
+use Rattle.rank.proofs.Layered.RankRows.{constant_rank_rows}
 use Rattle.mixed_models.specs.Starred.Lists.{among, seats, all_below_n, seats_beyond}
 use Rattle.mixed_models.specs.Starred.Pivots.{Pivots, pivoted_tableau, owners, proper, proper_same, proper_tableau, owns, owns_owned}
 use Rattle.mixed_models.specs.Starred.Claims.{Evidence, Refusal, earlier, sits, apart, sound, rows_left, spares, spared, within_set, refuses, refused_by, below_all}

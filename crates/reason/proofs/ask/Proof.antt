@@ -4,7 +4,7 @@ use mathlib.Core.Path.{◌≡◌, sym, ◌∙◌}
 use mathlib.Core.Option.{none}
 use native.Mathlib.Omega.{arith}
 use Rattle.columns.specs.ColumnSets.{row_numbers}
-use Rattle.rank.specs.ListedModel.{listed_model}
+use Rattle.listed_models.specs.ListedModel.{listed_model}
 use Rattle.rank.specs.Layered.Model.{Model}
 use Rattle.rank.specs.Layered.Rank.{placed}
 use Rattle.exchange.specs.Solve.{SolvedBy}

@@ -2,7 +2,7 @@
 use mathlib.Core.Path.{refl}
 use native.Mathlib.Omega.{arith}
 use Rattle.columns.specs.ColumnSets.{Fits, row_numbers}
-use Rattle.rank.specs.ListedModel.{listed_model}
+use Rattle.listed_models.specs.ListedModel.{listed_model}
 use Rattle.blocking.specs.ReasonLaws.{second_call}
 use Rattle.exchange.specs.Solve.{SolvedBy}
 use Rattle.format.specs.TestLaws.{constants_accepted}

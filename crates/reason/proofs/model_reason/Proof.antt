@@ -3,7 +3,7 @@ use borrow.Author.Rules.{rules}
 use mathlib.Core.Path.{refl, sym, ◌∙◌}
 use mathlib.Core.Logic.{◌≢◌}
 use Rattle.columns.specs.ColumnSets.{row_numbers}
-use Rattle.rank.specs.ListedModel.{listed_model}
+use Rattle.listed_models.specs.ListedModel.{listed_model}
 use Rattle.format.specs.Numbers.{lent}
 use Rattle.format.specs.Refusals.{Tests, model_tests, refusal}
 use Rattle.format.specs.RefusalLaws.{then_refused, then_passed}

@@ -11,7 +11,7 @@ use Rattle.columns.specs.ColumnSets.{whole, row_numbers}
 use Rattle.rank.specs.Modulus.{field_of}
 use Rattle.rank.specs.Layered.Rank.{rank, sum}
 use Rattle.degrees.specs.Dynamics.{layered}
-use Rattle.degrees.specs.Theorems.{short_set_is_small}
+use Rattle.degrees.proofs.Theorems.{short_set_is_small}
 use Rattle.exchange.specs.Solve.{SolvedBy}
 use Rattle.exchange.specs.declared.Solution.{Solution}
 use Rattle.degree.specs.Code.{first_most, model_with, Descending, tight_part, tableau_of, ConstantsShown}

@@ -3,7 +3,7 @@ use Prim.Native.Nat.{◌+◌, ◌≤◌}
 use mathlib.Core.Path.{◌≡◌, refl}
 use native.Mathlib.Omega.{arith}
 use lib.ListN.{get_or}
-use Rattle.rank.specs.ListedModelLaws.{total}
+use Rattle.rank.specs.Totals.{total}
 use Rattle.degrees.specs.Totals.{total_below}
 use Rattle.degree.proofs.descent.found.Statement.{statement}
 use Rattle.degree.proofs.descent.found.Tie as tie

@@ -1,6 +1,6 @@
--- `calls::wundreska_check` meets its contract, by what the layered call on the file and the writing of its answer ensure. Assumes nothing.
-use Rattle.std.proofs.Common.{[]}
-use mathlib.Core.Path.{refl, sym, ◌∙◌}
+-- `calls::wundreska_check` meets its contract, by what the layered call on the file and the writing of its answer ensure.
+use Rattle.std.specs.Prelude.{[]}
+use Rattle.std.proofs.Common.{refl, sym, ◌∙◌}
 use Rattle.format.specs.Refusals.{first_refusal}
 use Rattle.format.specs.File.Piece.{closed}
 use Rattle.format.specs.File.Format.{fields, judge}
@@ -12,12 +12,12 @@ use Rattle.solvability.proofs.calls.wundreska_check.Goals as goal
 pub returns-then-r-ne0 : goal.returns-then-r-ne0
 unfolding judge
 returns-then-r-ne0 c =
-    let a = c.args in
-    refused_before (closed fields a.file.now) [] answer_length (AnswerWritten (file_model a.file.now)) a.answer.now _ c.layered_file-r.ensures.is_refusal c.if-r-ne0.true
+    let file = c.args.file.now in
+    refused_before (closed fields file) [] answer_length (AnswerWritten (file_model file)) c.args.answer.now _ c.layered_file-r.ensures.is_refusal c.if-r-ne0.true
 
 pub returns : goal.returns
 unfolding judge first_refusal
 returns c =
-    let h = c.layered_file-r.ensures in
-    let ok = sym h.is_refusal ∙ c.if-r-ne0.false in
-    answer_put answer_bytes (closed fields c.args.file.now) [] _ (h.if_accepted ok) ok refl c.put_answer.ensures
+    let told = c.layered_file-r.ensures in
+    let ok = sym told.is_refusal ∙ c.if-r-ne0.false in
+    answer_put answer_bytes (closed fields c.args.file.now) [] _ (told.if_accepted ok) ok refl c.put_answer.ensures

@@ -1,0 +1,3 @@
+-- The theorems on claims.
+pub mod ClaimLaws
+pub mod Theorems

@@ -1,0 +1,3 @@
+-- The theorems on multipliers.
+pub mod NumberLaws
+pub mod Theorems
