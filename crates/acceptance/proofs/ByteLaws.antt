@@ -8,7 +8,7 @@ use Rattle.columns.specs.Columns.{members}
 use Rattle.rank.specs.Layered.Model.{Model}
 use Rattle.claims.specs.Claim.{AcceptsClaim}
 use Rattle.acceptance.specs.declared.Claim.{Claim}
-use Rattle.acceptance.specs.declared.Acceptance.{Acceptance}
+use Rattle.acceptance.specs.Shown.{Acceptance}
 use Rattle.acceptance.specs.Answers.{ClaimAccepted, AcceptanceAnswered}
 use Rattle.acceptance.specs.Bytes.{claim_rank, claim_side, claim_rows, claim_set, ClaimShown, AcceptanceOf}
 

@@ -18,8 +18,8 @@ use Rattle.columns.specs.Words.SetLaws.{inserted_same, inserted_old, inserted_sp
 use Rattle.rank.specs.ListedModel.{parameter_at}
 use Rattle.claims.specs.Claim.{Names}
 use Rattle.claims.proofs.ClaimLaws.{Named, named_below}
-use Rattle.acceptance.specs.declared.Seats.{Seats}
-use Rattle.acceptance.specs.Code.{row_serves, RowSeated, RowsServe}
+use Rattle.columns.specs.declared.ColumnSet.{ColumnSet}
+use Rattle.acceptance.specs.Code.{row_serves, RowFits, RowsServe}
 
 -- ---- one row
 
@@ -55,24 +55,28 @@ module _ (n b : ℕ) (ws : List ℕ) (S : Set) (r x : ℕ) where
       (λ h. serves_reads.1 (record { row_below = l; column_below = m; has_no_seat = λ i. true≢false (sym i ∙ o); has_parameter = sym e ∙ h }))
       (λ h. e ∙ (serves_reads.0 h).has_parameter)
 
-module _ (n b : ℕ) (ws : List ℕ) (S : Set) (r c : ℕ) (s : Seats) where
+module _ (n b : ℕ) (ws : List ℕ) (S : Set) (r c : ℕ) (s : ColumnSet) where
   -- a row that names no column
-  pub no_row_seated : c ≡ no_column → s.fit ≡ true → members (whole s.columns) ≡ S → RowSeated n b ws S r c s
-  no_row_seated z e m = record {
-    fit_is = e ∙ sym (or_left (eqb c no_column) (row_serves n b ws S r c) (eq-eqb c no_column z));
-    columns_are = λ _ x. (λ i. inl (sym (ap (λ (T : Set). T x) m) ∙ i), λ w. elim w [ inl o ↦ ap (λ (T : Set). T x) m ∙ o | inr v ↦ absurd (v.1 (sym v.0 ∙ z)) ]);
+  pub no_row_seated : c ≡ no_column → members (whole s) ≡ S → RowFits n b ws S r c s
+  no_row_seated z m = record {
+    fits = or_left (eqb c no_column) (row_serves n b ws S r c) (eq-eqb c no_column z);
+    columns_are = λ x. (λ i. inl (sym (ap (λ (T : Set). T x) m) ∙ i), λ w. elim w [ inl o ↦ ap (λ (T : Set). T x) m ∙ o | inr v ↦ absurd (v.1 (sym v.0 ∙ z)) ]);
   }
 
   -- a row that names one
-  pub row_seated : n ≤ most_columns → c ≢ no_column → s.fit ≡ row_serves n b ws S r c → members (whole s.columns) ≡ inserted S c → RowSeated n b ws S r c s
+  pub row_seated : n ≤ most_columns → c ≢ no_column → row_serves n b ws S r c ≡ true → members (whole s) ≡ inserted S c → RowFits n b ws S r c s
   row_seated few nz e m = record {
-    fit_is = e ∙ ap (λ (t : Bool). t || row_serves n b ws S r c) (sym (ne_eqb c no_column nz));
-    columns_are = λ f x.
-        let l : c < width = omega (arith, ((serves_reads n b ws S r c).0 (sym e ∙ f)).column_below) in (
+    fits = or_right (eqb c no_column) (row_serves n b ws S r c) e;
+    columns_are = λ x.
+        let l : c < width = omega (arith, ((serves_reads n b ws S r c).0 e).column_below) in (
           λ i. elim (inserted_split S c x (sym (ap (λ (T : Set). T x) m) ∙ i)) [ inl d ↦ inr (sym d, λ z. nz (sym d ∙ z)) | inr o ↦ inl o ],
           λ w. ap (λ (T : Set). T x) m ∙ elim w [ inl o ↦ inserted_old S c x o | inr v ↦ subst (λ (y : ℕ). y ∈ inserted S c) v.0 (inserted_same S c l) ],
         );
   }
+
+-- a row that cannot serve the one that it names
+pub row_unseated : (n b : ℕ) (ws : List ℕ) (S : Set) (r c : ℕ) → c ≢ no_column → row_serves n b ws S r c ≡ false → (eqb c no_column || row_serves n b ws S r c) ≡ false
+row_unseated n b ws S r c nz e = ap (λ (t : Bool). t || row_serves n b ws S r c) (ne_eqb c no_column nz) ∙ e
 
 -- ---- the rows one after another
 
@@ -88,50 +92,50 @@ module _ (n b : ℕ) (ws : List ℕ) (side : Set) (rows : List ℕ) where
     seated = λ x. (λ i. inl (sym (e x) ∙ i), λ w. elim w [ inl o ↦ e x ∙ o | inr v ↦ absurd (omega (arith, v.1)) ]);
   }
 
-  module _ (k : ℕ) (S : Set) (h : SeatedBelow k S) (s : Seats) (t : RowSeated n b ws S k (get_or rows k no_column) s) where
+  module _ (k : ℕ) (S : Set) (h : SeatedBelow k S) where
     -- a row that names a column, and fits, can serve it
-    can : (x : ℕ) → Names rows k x → s.fit ≡ true → CanServe n b ws S k x
-    can x m e = elim (or_split (eqb (get_or rows k no_column) no_column) (row_serves n b ws S k (get_or rows k no_column)) (sym t.fit_is ∙ e)) [
+    can : (x : ℕ) → Names rows k x → (eqb (get_or rows k no_column) no_column || row_serves n b ws S k (get_or rows k no_column)) ≡ true → CanServe n b ws S k x
+    can x m e = elim (or_split (eqb (get_or rows k no_column) no_column) (row_serves n b ws S k (get_or rows k no_column)) e) [
       | inl z ↦ absurd (m.1 (sym m.0 ∙ eqb-true _ _ z))
       | inr v ↦ subst (CanServe n b ws S k) m.0 ((serves_reads n b ws S k (get_or rows k no_column)).0 v)
     ]
 
-    pub one_more_seated : s.fit ≡ true → SeatedBelow (k + 1) (members (whole s.columns))
-    one_more_seated e = record {
+    pub one_more_seated : (s : ColumnSet) → RowFits n b ws S k (get_or rows k no_column) s → SeatedBelow (k + 1) (members (whole s))
+    one_more_seated s t = record {
       serve = λ q x l m. elim (dec_lt q k) [
         | yes below ↦ h.serve q x below m
         | no nb ↦
             let at : q ≡ k = omega arith in
             let here : Names rows k x = subst (λ (j : ℕ). Names rows j x) at m in
-            let c = can x here e in
+            let c = can x here t.fits in
             rw at (c.row_below, c.column_below, c.has_parameter, (λ o. c.has_no_seat ((h.seated x).1 (inl o))), λ q' l' m'. c.has_no_seat ((h.seated x).1 (inr (q', l', m'))))
       ];
       seated = λ x. (
-        λ i. elim ((t.columns_are e x).0 i) [
+        λ i. elim ((t.columns_are x).0 i) [
           | inl old ↦ elim ((h.seated x).0 old) [ inl o ↦ inl o | inr w ↦ inr (w.0, omega (arith, w.1), w.2) ]
           | inr new ↦ inr (k, omega arith, new)
         ],
         λ w. elim w [
-          | inl o ↦ (t.columns_are e x).1 (inl ((h.seated x).1 (inl o)))
+          | inl o ↦ (t.columns_are x).1 (inl ((h.seated x).1 (inl o)))
           | inr v ↦ elim (dec_lt v.0 k) [
-            | yes below ↦ (t.columns_are e x).1 (inl ((h.seated x).1 (inr (v.0, below, v.2))))
-            | no nb ↦ let at : v.0 ≡ k = omega (arith, v.1) in (t.columns_are e x).1 (inr (subst (λ (j : ℕ). Names rows j x) at v.2))
+            | yes below ↦ (t.columns_are x).1 (inl ((h.seated x).1 (inr (v.0, below, v.2))))
+            | no nb ↦ let at : v.0 ≡ k = omega (arith, v.1) in (t.columns_are x).1 (inr (subst (λ (j : ℕ). Names rows j x) at v.2))
           ]
         ],
       );
     }
 
     -- a row that does not fit
-    pub row_unfit : s.fit ≡ false → RowsServe n b ws side rows → ⊥
+    pub row_unfit : (eqb (get_or rows k no_column) no_column || row_serves n b ws S k (get_or rows k no_column)) ≡ false → RowsServe n b ws side rows → ⊥
     row_unfit e all = let x = get_or rows k no_column in elim (ℕ_discrete (get_or rows k no_column) no_column) [
-      | yes z ↦ true≢false (sym (or_left (eqb x no_column) (row_serves n b ws S k x) (eq-eqb x no_column z)) ∙ sym t.fit_is ∙ e)
+      | yes z ↦ true≢false (sym (or_left (eqb x no_column) (row_serves n b ws S k x) (eq-eqb x no_column z)) ∙ e)
       | no nz ↦
           let v = all k x (refl, nz) in
           let unseated : x ∈ S → ⊥ = λ i. elim ((h.seated x).0 i) [
             | inl o ↦ v.not_on_side o
             | inr w ↦ omega (arith, w.1, v.no_other_row w.0 w.2)
           ] in
-          true≢false (sym (or_right (eqb x no_column) (row_serves n b ws S k x) ((serves_reads n b ws S k x).1 (record { row_below = v.row_below; column_below = v.column_below; has_no_seat = unseated; has_parameter = v.has_parameter }))) ∙ sym t.fit_is ∙ e)
+          true≢false (sym (or_right (eqb x no_column) (row_serves n b ws S k x) ((serves_reads n b ws S k x).1 (record { row_below = v.row_below; column_below = v.column_below; has_no_seat = unseated; has_parameter = v.has_parameter }))) ∙ e)
     ]
 
   -- all of them

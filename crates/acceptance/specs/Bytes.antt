@@ -9,7 +9,7 @@ use Rattle.rank.specs.Layered.Model.{Model}
 use Rattle.claims.specs.Claim.{AcceptsClaim}
 use Rattle.format.specs.Refusals.{Tests, unless, area_short, area_test}
 use Rattle.acceptance.specs.declared.Claim.{Claim}
-use Rattle.acceptance.specs.declared.Acceptance.{Acceptance}
+use Rattle.acceptance.specs.Shown.{Acceptance}
 
 -- ---- a claim
 

@@ -2,26 +2,28 @@
 // else found. And the bytes of a claim and of the answer.
 #![tactic(auto)]
 
-ghost use Rattle.std.specs.Prelude.{◌≡◌, ◌≤◌, true, [], ◌↔◌, length, take};
+ghost use Rattle.std.specs.Prelude.{◌≡◌, ◌<◌, ◌≤◌, ◌^◌, true, [], ◌↔◌, Ok};
 ghost use Rattle.std.proofs.Math.Option.{none};
-ghost use Rattle.limits.specs.Limits.{most_columns, most_rows};
-ghost use Rattle.columns.specs.Columns.{members, within};
-ghost use Rattle.columns.specs.ColumnSets.{whole, row_numbers};
+ghost use Rattle.limits.specs.Limits.{most_columns};
+ghost use Rattle.columns.specs.Columns.{width, members, within};
+ghost use Rattle.columns.specs.ColumnSets.{whole};
+ghost use Rattle.models.specs.Lent.{constants_lent, rows_lent};
 ghost use Rattle.listed_models.specs.ListedModel.{listed_model};
 ghost use Rattle.rank.specs.Layered.Rank.{constant_rank, sum};
-ghost use Rattle.format.specs.Numbers.{lent};
+ghost use Rattle.format.specs.Refused.{refusal_of};
 ghost use Rattle.format.specs.TestLaws.{Accepted};
 ghost use Rattle.host.specs.AreaCall.{PutOver};
-ghost use Rattle.acceptance.specs.Answers.{ClaimAccepted, AcceptanceRefused, AcceptanceAsked, AcceptanceCall, AcceptanceFileCall};
+ghost use Rattle.acceptance.specs.Shown.{acceptance_shown};
+ghost use Rattle.acceptance.specs.Answers.{ClaimAccepted, AcceptanceModelCall, AcceptanceFileCall};
 ghost use Rattle.acceptance.specs.Bytes.{ClaimRead, acceptance_length, acceptance_bytes};
 ghost use Rattle.acceptance.specs.Code.{row_serves, RowSeated, RowsSeated};
 
 use columns::{ColumnSet, MOST_WORDS};
 use exchange::solve;
-use format::{judge_model, refusals};
-use host::flag;
+use format::{Refusal, judge_model};
 use limits::{MOST_CONSTANTS, MOST_ROWS, NO_COLUMN, SET_BYTES};
 use loader::read_rows;
+use models::LentModel;
 use touching::touching_rows;
 
 // A claim: a rank; an assignment, which is the columns on the constant side and the column of each parameter row, or that it has none;
@@ -32,13 +34,6 @@ pub struct Claim {
     pub constants: ColumnSet,
     pub rows: [u8; MOST_ROWS],
     pub set: ColumnSet,
-}
-
-// The refusal or 0; and whether the claim is accepted.
-#[derive(Clone, Copy)]
-pub struct Acceptance {
-    pub refusal: u32,
-    pub accepted: bool,
 }
 
 // How many bytes a claim takes, and where its parts stand behind the rank.
@@ -53,227 +48,111 @@ const CLAIM_SET: usize = CLAIM_ROWS + MOST_ROWS;
 // How many bytes an answer takes.
 pub const ACCEPTANCE_LENGTH: usize = 1;
 
-fn refuse(number: u32) -> Acceptance
-    ensures { (result.refusal ≡ number) × AcceptanceRefused result }
-{
-    Acceptance {
-        refusal: number,
-        accepted: false,
-    }
-}
-
 // Whether parameter row r can serve column c, beside columns that have a seat: the model has both, and a parameter there, and the
 // column has no seat yet.
-fn can_serve(parameters: &[u64], n: usize, b: usize, seated: ColumnSet, r: usize, c: usize) -> bool
-    ensures { result ≡ row_serves n b (row_numbers parameters.now) (members (whole seated)) r c }
+fn can_serve(model: &LentModel<'_>, seated: ColumnSet, r: usize, c: usize) -> bool
+    ensures { result ≡ row_serves model.now.n model.now.b (rows_lent model.now) (members (whole seated)) r c }
 {
-    if r >= b {
-        return false;
-    }
-    if c >= n {
-        return false;
-    }
-    if columns::contains(seated, c) {
-        return false;
-    }
-    columns::contains(columns::row(parameters, r), c)
+    r < model.b
+        && c < model.n
+        && !seated.contains(c)
+        && columns::row(model.parameters, r).contains(c)
 }
 
-// Whether rows of a claim can serve the columns that they name, and all columns that then have a seat.
-#[derive(Clone, Copy)]
-struct Seats {
-    fit: bool,
-    columns: ColumnSet,
-}
-
-// The column that a row of a claim names gets its seat, beside columns that have one; where the row names none, nothing changes.
-fn seat_row(parameters: &[u64], n: usize, b: usize, seated: ColumnSet, r: usize, c: usize) -> Seats
-    requires { n ≤ most_columns }
-    ensures { RowSeated n b (row_numbers parameters.now) (members (whole seated)) r c result }
+// All columns that have a seat once the column that a row of a claim names gets its own, beside columns that have one; none where the
+// row cannot serve it. Where the row names no column, nothing changes.
+fn seat_row(model: &LentModel<'_>, seated: ColumnSet, r: usize, c: usize) -> Option<ColumnSet>
+    requires { model.now.n ≤ most_columns }
+    ensures { RowSeated model.now.n model.now.b (rows_lent model.now) (members (whole seated)) r c result }
 {
-    if c == NO_COLUMN as usize {
-        return Seats {
-            fit: true,
-            columns: seated,
-        };
+    if c == usize::from(NO_COLUMN) {
+        return Some(seated);
     }
-    let fit = can_serve(parameters, n, b, seated, r, c);
-    Seats {
-        fit,
-        columns: columns::with(seated, c),
+    if !can_serve(model, seated, r, c) {
+        return None;
     }
+    Some(seated.with(c))
 }
 
-// The columns that the rows of a claim name get their seats, beside the columns of its side.
-fn seat_rows(
-    parameters: &[u64],
-    n: usize,
-    b: usize,
-    side: ColumnSet,
-    rows: [u8; MOST_ROWS],
-) -> Seats
-    requires { (n ≤ most_columns) × (length rows ≡ most_rows) }
-    ensures { RowsSeated n b (row_numbers parameters.now) (members (whole side)) rows result }
+// All columns that have a seat once those that the rows of a claim name get theirs, beside the columns of its side; none where a row
+// cannot serve its column.
+fn seat_rows(model: &LentModel<'_>, side: ColumnSet, rows: &[u8; MOST_ROWS]) -> Option<ColumnSet>
+    requires { model.now.n ≤ most_columns }
+    ensures { RowsSeated model.now.n model.now.b (rows_lent model.now) side rows.now result }
 {
     let mut seated = side;
-    let mut r: usize = 0;
-    while r < MOST_ROWS {
-        let s = seat_row(parameters, n, b, seated, r, rows[r] as usize);
-        if !s.fit {
-            return s;
-        }
-        seated = s.columns;
-        r += 1;
+    for (r, c) in rows.iter().enumerate() {
+        seated = seat_row(model, seated, r, usize::from(*c))?;
     }
-    Seats {
-        fit: true,
-        columns: seated,
-    }
+    Some(seated)
 }
 
 // The rank of the constants in a set of columns: that of a model which has no parameter rows and is offered these columns.
-fn constant_rank(p: u32, n: usize, a: usize, constants: &[u16], set: ColumnSet) -> usize
-    requires { Accepted p n a 0 constants.now [] none × (within n (whole set) ≡ true) }
-    ensures { result ≡ constant_rank (listed_model p n a 0 constants.now []) (members (whole set)) }
+fn constant_rank(model: &LentModel<'_>, set: ColumnSet) -> usize
+    requires { Accepted model.now.p model.now.n model.now.a 0 (constants_lent model.now) [] none × (within model.now.n (whole set) ≡ true) }
+    ensures { result ≡ constant_rank (listed_model model.now.p model.now.n model.now.a 0 (constants_lent model.now) []) (members (whole set)) }
 {
-    let s = solve(p, n, a, 0, set, constants, &[]);
+    let alone = LentModel::unnumbered(model.p, model.n, model.a, 0, model.constants, &[]);
+    let Some(s) = solve(&alone, set) else {
+        unreachable!()
+    };
     s.rank
 }
 
 // The sum of a set of columns.
-fn set_sum(
-    p: u32,
-    n: usize,
-    a: usize,
-    b: usize,
-    constants: &[u16],
-    parameters: &[u64],
-    set: ColumnSet,
-) -> usize
-    requires { Accepted p n a b constants.now (row_numbers parameters.now) none × (within n (whole set) ≡ true) }
-    ensures { result ≡ sum (listed_model p n a b constants.now (row_numbers parameters.now)) (members (whole set)) }
+fn set_sum(model: &LentModel<'_>, set: ColumnSet) -> usize
+    requires { Accepted model.now.p model.now.n model.now.a model.now.b (constants_lent model.now) (rows_lent model.now) none × (within model.now.n (whole set) ≡ true) }
+    ensures { (result ≡ sum (listed_model model.now.p model.now.n model.now.a model.now.b (constants_lent model.now) (rows_lent model.now)) (members (whole set))) × (whole set < 2 ^ width) }
 {
-    let rank = constant_rank(p, n, a, constants, set);
-    let touched = touching_rows(parameters, n, b, set);
-    rank + touched + (n - columns::size(set))
+    let rank = constant_rank(model, set);
+    let touched = touching_rows(model.parameters, model.n, model.b, set);
+    rank + touched + (model.n - set.size())
 }
 
 // Whether the claim holds of a model that is judged. The cheap tests come first; the constants of the side and of the set are eliminated
 // once each; without parameter rows no column ever moves to let another in.
-fn holds(
-    p: u32,
-    n: usize,
-    a: usize,
-    b: usize,
-    constants: &[u16],
-    parameters: &[u64],
-    claim: Claim,
-) -> bool
-    requires { Accepted p n a b constants.now (row_numbers parameters.now) none }
-    ensures { (result ≡ true) ↔ ClaimAccepted (listed_model p n a b constants.now (row_numbers parameters.now)) claim }
+fn holds(model: &LentModel<'_>, claim: &Claim) -> bool
+    requires { Accepted model.now.p model.now.n model.now.a model.now.b (constants_lent model.now) (rows_lent model.now) none }
+    ensures { (result ≡ true) ↔ ClaimAccepted (listed_model model.now.p model.now.n model.now.a model.now.b (constants_lent model.now) (rows_lent model.now)) claim.now }
 {
-    let rank = claim.rank as usize;
+    let n = model.n;
+    let rank = usize::from(claim.rank);
     let side = claim.constants;
-    let rows = claim.rows;
     let set = claim.set;
-    if !columns::within(side, n) {
+    if !side.within(n) {
         return false;
     }
-    if !columns::within(set, n) {
+    if !set.within(n) {
         return false;
     }
-    let seats = seat_rows(parameters, n, b, side, rows);
-    if !seats.fit {
+    let Some(seated) = seat_rows(model, side, &claim.rows) else {
+        return false;
+    };
+    if seated.size() != rank {
         return false;
     }
-    if columns::size(seats.columns) != rank {
+    if constant_rank(model, side) != side.size() {
         return false;
     }
-    if constant_rank(p, n, a, constants, side) != columns::size(side) {
-        return false;
-    }
-    let total = set_sum(p, n, a, b, constants, parameters, set);
-    if total != rank {
-        return false;
-    }
-    true
+    set_sum(model, set) == rank
 }
 
-// The answer about a model that is judged.
-fn ask(
-    p: u32,
-    n: usize,
-    a: usize,
-    b: usize,
-    constants: &[u16],
-    parameters: &[u64],
-    claim: Claim,
-) -> Acceptance
-    requires { Accepted p n a b constants.now (row_numbers parameters.now) none }
-    ensures { AcceptanceAsked (listed_model p n a b constants.now (row_numbers parameters.now)) claim result }
+// Whether the claim is accepted, of a layered model. Numbers are judged and no more.
+pub fn model_acceptance(model: &LentModel<'_>, claim: &Claim) -> Result<bool, Refusal>
+    ensures { AcceptanceModelCall model.now claim.now (acceptance_shown result) }
 {
-    let accepted = holds(p, n, a, b, constants, parameters, claim);
-    Acceptance {
-        refusal: 0,
-        accepted,
-    }
-}
-
-// Whether the claim is accepted, of the layered model of p, n, a, b, the constants row by row, the parameter rows and, where it is
-// numbered, their numbers row by row. Numbers are judged and no more.
-pub fn model_acceptance(
-    p: u32,
-    n: usize,
-    a: usize,
-    b: usize,
-    constants: &[u16],
-    parameters: &[u64],
-    numbered: bool,
-    numbers: &[u16],
-    claim: Claim,
-) -> Acceptance
-    ensures { AcceptanceCall p n a b constants.now (row_numbers parameters.now) (lent numbered numbers.now) claim result }
-{
-    let number = judge_model(p, n, a, b, constants, parameters, numbered, numbers);
-    if number != 0 {
-        return refuse(number);
-    }
-    ask(p, n, a, b, constants, parameters, claim)
+    judge_model(model)?;
+    Ok(holds(model, claim))
 }
 
 // The same of the model in a file, or the file's refusal.
-pub fn file_acceptance(file: &[u8], claim: Claim) -> Acceptance
-    ensures { AcceptanceFileCall file.now claim result }
+pub fn file_acceptance(file: &[u8], claim: &Claim) -> Result<bool, Refusal>
+    ensures { AcceptanceFileCall file.now claim.now (acceptance_shown result) }
 {
     let mut constants = [0u16; MOST_CONSTANTS];
     let mut parameters = [0u64; MOST_WORDS];
-    let sizes = read_rows(file, &mut constants, &mut parameters);
-    if sizes.refusal != 0 {
-        return refuse(sizes.refusal);
-    }
-    ask(
-        sizes.p,
-        sizes.n,
-        sizes.a,
-        sizes.b,
-        &constants,
-        &parameters,
-        claim,
-    )
-}
-
-// The row columns of a claim, from the bytes behind its side.
-fn claimed_rows(bytes: &[u8]) -> [u8; MOST_ROWS]
-    requires { most_rows ≤ length bytes.now }
-    ensures { result ≡ take most_rows bytes.now }
-{
-    let mut rows = [NO_COLUMN; MOST_ROWS];
-    let mut r: usize = 0;
-    while r < MOST_ROWS {
-        rows[r] = bytes[r];
-        r += 1;
-    }
-    rows
+    let sizes = read_rows(file, &mut constants, &mut parameters)?;
+    Ok(holds(&sizes.model(&constants, &parameters), claim))
 }
 
 // The claim that bytes show; where they are too few, that of rank 0 which places nothing and has no column set.
@@ -283,14 +162,15 @@ pub fn read_claim(bytes: &[u8]) -> Claim
     if bytes.len() < CLAIM_LENGTH {
         return Claim {
             rank: 0,
-            constants: columns::empty(),
+            constants: ColumnSet::empty(),
             rows: [NO_COLUMN; MOST_ROWS],
-            set: columns::empty(),
+            set: ColumnSet::empty(),
         };
     }
-    let constants = columns::of_bytes(&bytes[CLAIM_SIDE..CLAIM_ROWS]);
-    let rows = claimed_rows(&bytes[CLAIM_ROWS..CLAIM_SET]);
-    let set = columns::of_bytes(&bytes[CLAIM_SET..CLAIM_LENGTH]);
+    let constants = ColumnSet::of_bytes(&bytes[CLAIM_SIDE..CLAIM_ROWS]);
+    let mut rows = [NO_COLUMN; MOST_ROWS];
+    rows.copy_from_slice(&bytes[CLAIM_ROWS..CLAIM_SET]);
+    let set = ColumnSet::of_bytes(&bytes[CLAIM_SET..CLAIM_LENGTH]);
     Claim {
         rank: bytes[0],
         constants,
@@ -300,12 +180,12 @@ pub fn read_claim(bytes: &[u8]) -> Claim
 }
 
 // The byte of an answer: 1 where the claim is accepted, 0 where it is not.
-pub fn put_acceptance(out: &mut [u8], answer: Acceptance) -> u32
-    ensures { PutOver acceptance_length (acceptance_bytes answer) out.old result out.new }
+pub fn put_acceptance(out: &mut [u8], accepted: bool) -> Result<(), Refusal>
+    ensures { PutOver acceptance_length (acceptance_bytes (acceptance_shown (Ok accepted))) out.old (refusal_of result) out.new }
 {
     if out.len() < ACCEPTANCE_LENGTH {
-        return refusals::AREA_SHORT;
+        return Err(Refusal::AreaShort);
     }
-    out[0] = flag(answer.accepted);
-    0
+    out[0] = u8::from(accepted);
+    Ok(())
 }

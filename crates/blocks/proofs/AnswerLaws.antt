@@ -21,7 +21,7 @@ use Rattle.listings.specs.Theorems.{the_blocks_are_listed, number_in_every_listi
 use Rattle.exchange.specs.ReachCall.{ReachShown}
 use Rattle.blocks.specs.Answers.{shown_number, BlocksAsked}
 use Rattle.blocks.specs.Code.{Ordered, ListedBy}
-use Rattle.blocks.specs.declared.Blocks.{Blocks}
+use Rattle.blocks.specs.Shown.{Blocks}
 
 module _ (M : Model) where
   open M use {n, E}

@@ -24,7 +24,7 @@ use Rattle.listings.specs.Blocks.{block, needs, permitted, next_block, listed, b
 use Rattle.listings.specs.Listings.Tests.{Block, block_iff, needs_iff, Permitted, permitted_iff}
 use Rattle.listings.specs.Listings.Made.{some_free, fresh, in_listed, listed_from, block_offered, count_stops}
 use Rattle.blocks.specs.Code.{Ordered, NeedsShown, Waits, Numbered, ListedBy}
-use Rattle.blocks.specs.declared.Blocks.{Blocks}
+use Rattle.blocks.specs.Shown.{Blocks}
 use Rattle.blocks.proofs.TurnLaws.{least_is}
 use Rattle.blocks.proofs.NeedLaws.{row_iff, others_needed}
 

@@ -6,11 +6,13 @@ use Rattle.listed_models.specs.ListedModel.{listed_model}
 use Rattle.rank.specs.Layered.Model.{Model}
 use Rattle.dependence.specs.Listing.{listing}
 use Rattle.listings.specs.Blocks.{block_count, block_number}
+use Rattle.models.specs.Lent.{constants_lent, rows_lent, numbers_lent}
+use Rattle.models.specs.declared.LentModel.{LentModel}
 use Rattle.format.specs.Refusals.{refusal}
 use Rattle.format.specs.File.Format.{judge}
 use Rattle.layered.specs.Answers.{RankCall}
 use Rattle.layered.specs.FileModel.{file_model}
-use Rattle.blocks.specs.declared.Blocks.{Blocks}
+use Rattle.blocks.specs.Shown.{Blocks}
 
 -- what is shown of column x, of a model whose columns are all offered: the number of its block in the listing, and 255 past the last column
 unfoldable pub shown_number : Model → ℕ → ℕ
@@ -35,6 +37,10 @@ pub record BlocksAsked (M : Model) (r : Blocks) : Type 0 where
 abbrev pub BlocksCall : (p n a b : ℕ) (cs ws : List ℕ) → Option (List ℕ) → Blocks → Type 0
 BlocksCall p n a b cs ws ns r = RankCall (refusal p n a b cs ws ns) r.refusal (BlocksRefused r) (BlocksAnswered (listed_model p n a b cs ws) r)
 
--- the same for the model in a file
+-- the same of a model that is lent,
+abbrev pub BlocksModelCall : LentModel → Blocks → Type 0
+BlocksModelCall m r = BlocksCall m.p m.n m.a m.b (constants_lent m) (rows_lent m) (numbers_lent m) r
+
+-- and for the model in a file
 abbrev pub BlocksFileCall : (file : List ℕ) → Blocks → Type 0
 BlocksFileCall file r = RankCall (judge file) r.refusal (BlocksRefused r) (BlocksAnswered (file_model file) r)

@@ -1,7 +1,7 @@
 -- The bytes of an answer about blocks, by the pattern of the calls for a host in C. Definitions only.
 use Rattle.std.specs.Prelude.{ℕ, ◌+◌, List, ◌∷◌}
 use Rattle.limits.specs.Limits.{most_columns}
-use Rattle.blocks.specs.declared.Blocks.{Blocks}
+use Rattle.blocks.specs.Shown.{Blocks}
 
 -- how many there are
 abbrev pub blocks_length : ℕ

@@ -6,7 +6,7 @@ use Rattle.columns.specs.Columns.{width}
 use Rattle.relation.specs.Relations.{row_of, HasRow}
 use Rattle.listings.specs.Offered.{offered}
 use Rattle.listings.specs.Blocks.{needs, blocks_by, block_count_by}
-use Rattle.blocks.specs.declared.Blocks.{Blocks}
+use Rattle.blocks.specs.Shown.{Blocks}
 
 -- the set has the offered columns, and the row of each has those that come before it or share its block; one test is a preorder, the other its equivalence
 pub record Ordered (n : ℕ) (E : Set) (before share : ℕ → ℕ → Bool) (all : Set) (rows : List ℕ) : Type 0 where

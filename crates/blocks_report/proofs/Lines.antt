@@ -14,7 +14,7 @@ use Rattle.counting.specs.Sets.{Set, ◌∈◌, ◌⊆◌}
 use Rattle.columns.specs.Columns.{width}
 use Rattle.text.specs.Text.{ascii, line, item, columns_from, column_items}
 use Rattle.text.specs.TextLaws.{item_length, column_items_length, line_length, verdict_line_length}
-use Rattle.blocks.specs.declared.Blocks.{Blocks}
+use Rattle.blocks.specs.Shown.{Blocks}
 use Rattle.blocks_report.specs.BlocksReport.{block_columns, block_line, block_lines, blocks_text, most_blocks, longest_blocks_report}
 
 -- ---- what they are made of

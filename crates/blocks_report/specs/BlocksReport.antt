@@ -1,15 +1,15 @@
 -- The report of document 02's E7 about a file: for each block, in solving order, its number and its columns, then the verdict and the rank, in lines as those
 -- of document 01; or the one line of a refusal. Definitions only.
-use Rattle.std.specs.Prelude.{ℕ, zero, suc, ◌+◌, ◌*◌, ◌&&◌, List, [], ◌++◌, eqb, ltb, length, get_or}
+use Rattle.std.specs.Prelude.{ℕ, zero, suc, ◌+◌, ◌*◌, ◌&&◌, List, Result, [], ◌++◌, eqb, ltb, length, get_or}
 use Rattle.counting.specs.Sets.{Set}
 use Rattle.columns.specs.Columns.{width}
 use Rattle.rank.specs.Layered.Rank.{rank, verdict}
 use Rattle.text.specs.Text.{ascii, line, item, column_items, verdict_line}
-use Rattle.text.specs.declared.Printed.{Printed}
+use Rattle.format.specs.declared.refusals.Refusal.{Refusal}
 use Rattle.format.specs.File.Format.{judge}
 use Rattle.layered.specs.FileModel.{file_model}
 use Rattle.blocks.specs.Answers.{BlocksAnswered}
-use Rattle.blocks.specs.declared.Blocks.{Blocks}
+use Rattle.blocks.specs.Shown.{Blocks}
 use Rattle.report.specs.FileReport.{Reports}
 
 -- the columns of block k: those whose number is k
@@ -39,6 +39,6 @@ abbrev pub longest_blocks_report : ℕ
 longest_blocks_report = 28 + 10 * most_blocks + 4 * width
 
 -- the report: of the file's refusal, or the lines of the blocks of its model, and of the model's verdict and rank
-abbrev pub BlocksFileReport : (file area : List ℕ) (r : Printed) (area' : List ℕ) → Type 0
+abbrev pub BlocksFileReport : (file area : List ℕ) (r : Result ℕ Refusal) (area' : List ℕ) → Type 0
 BlocksFileReport file area r area' =
     Reports (judge file) (BlocksAnswered (file_model file)) (blocks_text (verdict (file_model file)) (rank (file_model file))) area r area'

@@ -1,20 +1,23 @@
 // The report of the blocks of the model in a file, as text: a line for each block, the verdict and the rank, or a refusal's one line.
 #![tactic(auto)]
 
-ghost use Rattle.std.specs.Prelude.{◌≡◌};
+ghost use Rattle.std.specs.Prelude.{◌≡◌, Ok};
 ghost use Rattle.columns.specs.Columns.{members};
 ghost use Rattle.columns.specs.ColumnSets.{whole};
+ghost use Rattle.models.specs.Verdicts.{verdict_code};
+ghost use Rattle.layered.specs.Shown.{answer_shown};
 ghost use Rattle.text.specs.Text.{Puts};
+ghost use Rattle.blocks.specs.Shown.{blocks_shown};
 ghost use Rattle.report.specs.Report.{report_text};
 ghost use Rattle.blocks_report.specs.BlocksReport.{block_columns, block_line, block_lines, blocks_text, longest_blocks_report, BlocksFileReport};
 
 use blocks::{Blocks, file_blocks};
 use columns::{ColumnSet, WIDTH};
-use layered::layered_file;
+use format::Refusal;
+use layered::{Answer, layered_file};
 use limits::MOST_COLUMNS;
 use text::{
-    Printed, put_bytes, put_column_line, put_item, put_number_line, put_refused_line,
-    put_verdict_line,
+    put_bytes, put_column_line, put_item, put_number_line, put_refused_line, put_verdict_line,
 };
 
 // As many blocks as a byte can count.
@@ -32,65 +35,68 @@ fn longest_tied() -> usize
 
 // The report of the blocks of the model in a file, or of the file's refusal, over the front of the area; an area that this very report
 // has no room in is refused.
-pub fn report_blocks_file(file: &[u8], out: &mut [u8]) -> Printed
+pub fn report_blocks_file(file: &[u8], out: &mut [u8]) -> Result<usize, Refusal>
     ensures { BlocksFileReport file.now out.old result out.new }
 {
     let blocks = file_blocks(file);
     let answer = layered_file(file);
     let mut page = [0u8; LONGEST_BLOCKS_REPORT];
-    let length = put_report(&mut page, blocks, answer.verdict, answer.rank);
+    let length = put_report(&mut page, &blocks, &answer);
     text::print(&page[..length], out)
 }
 
-// The report of the blocks, with a verdict and a rank.
-fn put_report(out: &mut [u8], blocks: Blocks, verdict: u8, rank: u8) -> usize
-    ensures { Puts (report_text blocks.refusal (blocks_text verdict rank blocks)) out.old 0 out.new result }
+// The report of the blocks, with the verdict and the rank of an answer. Both are refused or none is.
+fn put_report(
+    out: &mut [u8],
+    blocks: &Result<Blocks, Refusal>,
+    answer: &Result<Answer, Refusal>,
+) -> usize
+    requires { (answer_shown answer.now).refusal ≡ (blocks_shown blocks.now).refusal }
+    ensures { Puts (report_text (blocks_shown blocks.now).refusal (blocks_text (answer_shown answer.now).verdict (answer_shown answer.now).rank (blocks_shown blocks.now))) out.old 0 out.new result }
 {
-    if blocks.refusal != 0 {
-        return put_refused_line(out, 0, blocks.refusal);
+    match (blocks, answer) {
+        (Ok(blocks), Ok(answer)) => put_answer(out, blocks, answer),
+        (Err(refusal), _) => put_refused_line(out, 0, u32::from(*refusal)),
+        (Ok(_), Err(_)) => unreachable!(),
     }
-    put_answer(out, blocks, verdict, rank)
 }
 
 // The lines of the blocks, the verdict and the rank.
-fn put_answer(out: &mut [u8], blocks: Blocks, verdict: u8, rank: u8) -> usize
-    ensures { Puts (blocks_text verdict rank blocks) out.old 0 out.new result }
+fn put_answer(out: &mut [u8], blocks: &Blocks, answer: &Answer) -> usize
+    ensures { Puts (blocks_text (verdict_code answer.now.verdict) answer.now.rank (blocks_shown (Ok blocks.now))) out.old 0 out.new result }
 {
-    let numbers = blocks.numbers;
-    let after_blocks = put_block_lines(out, 0, numbers, blocks.count);
-    let after_verdict = put_verdict_line(out, after_blocks, verdict);
-    put_number_line(out, after_verdict, b"rank", rank as usize)
+    let after_blocks = put_block_lines(out, 0, &blocks.numbers, blocks.count);
+    let after_verdict = put_verdict_line(out, after_blocks, u8::from(answer.verdict));
+    put_number_line(out, after_verdict, b"rank", usize::from(answer.rank))
 }
 
-fn put_block_lines(out: &mut [u8], at: usize, numbers: [u8; MOST_COLUMNS], count: u8) -> usize
-    ensures { Puts (block_lines numbers count 0) out.old at out.new result }
+fn put_block_lines(out: &mut [u8], at: usize, numbers: &[u8; MOST_COLUMNS], count: u8) -> usize
+    ensures { Puts (block_lines numbers.now count 0) out.old at out.new result }
 {
     let mut place = at;
-    let mut k = 0;
-    while k < count {
+    for k in 0..count {
         place = put_block_line(out, place, numbers, k);
-        k = k + 1;
     }
     place
 }
 
 // The number of a block and its columns.
-fn put_block_line(out: &mut [u8], at: usize, numbers: [u8; MOST_COLUMNS], k: u8) -> usize
-    ensures { Puts (block_line numbers k) out.old at out.new result }
+fn put_block_line(out: &mut [u8], at: usize, numbers: &[u8; MOST_COLUMNS], k: u8) -> usize
+    ensures { Puts (block_line numbers.now k) out.old at out.new result }
 {
     let set = columns_of_block(numbers, k);
     let after_word = put_bytes(out, at, b"block");
-    let after_number = put_item(out, after_word, k as usize);
+    let after_number = put_item(out, after_word, usize::from(k));
     put_column_line(out, after_number, b"", set)
 }
 
-fn columns_of_block(numbers: [u8; MOST_COLUMNS], k: u8) -> ColumnSet
-    ensures { members (whole result) ≡ block_columns numbers k }
+fn columns_of_block(numbers: &[u8; MOST_COLUMNS], k: u8) -> ColumnSet
+    ensures { members (whole result) ≡ block_columns numbers.now k }
 {
-    let mut set = columns::empty();
-    for x in 0..MOST_COLUMNS {
-        if numbers[x] == k {
-            set = columns::with(set, x);
+    let mut set = ColumnSet::empty();
+    for (x, number) in numbers.iter().enumerate() {
+        if *number == k {
+            set = set.with(x);
         }
     }
     set

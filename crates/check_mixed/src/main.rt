@@ -13,7 +13,6 @@ fn main(rt: HostRuntime) -> io::Result<()> {
     let mut input = [0u8; INPUT];
     let length = reading::read_full(&mut rt.stdin(), &mut input);
     let mut text = [0u8; LONGEST_MIXED_REPORT];
-    let printed = mixed_report::report_mixed_file(&input[..length], &mut text);
-    let written = printed.length;
+    let written = mixed_report::report_mixed_file(&input[..length], &mut text).unwrap_or(0);
     rt.write_all(&text[..written])
 }

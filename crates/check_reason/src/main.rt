@@ -21,7 +21,10 @@ fn main(rt: HostRuntime) -> io::Result<()> {
     let digits = rt.arg(1, &mut argument).unwrap_or(0);
     let column = text::read_number(&argument[..digits], MOST_COLUMNS as u16);
     let mut report = [0u8; LONGEST_REASON_REPORT];
-    let printed = reason_report::report_reason_file(&input[..length], column, &mut report);
-    let written = printed.length;
+    let written = reason_report::report_reason_file(
+        &input[..length],
+        column,
+        &mut report,
+    ).unwrap_or(0);
     rt.write_all(&report[..written])
 }

@@ -2,4 +2,5 @@
 pub mod Bytes
 pub mod Columns
 pub mod ColumnSets
+pub mod Turns
 pub mod Words

@@ -7,7 +7,7 @@ ghost use Rattle.std.specs.Prelude.{◌≡◌, ◌<◌, ◌≤◌, min, eqb, len
 ghost use Rattle.counting.specs.Sets.{◌∪◌, ◌∩◌, ∁, #, any};
 ghost use Rattle.columns.specs.Bytes.{bytes_of};
 ghost use Rattle.columns.specs.Columns.{width, room_bytes, members, upto, inserted, removed, moved_up, moved_down, least, last_member, within};
-ghost use Rattle.columns.specs.ColumnSets.{row_words, most_words, empty_set, whole, ReadFrom, row_numbers, rows_touching, with_row};
+ghost use Rattle.columns.specs.ColumnSets.{row_words, most_words, empty_set, whole, Fits, ReadFrom, row_numbers, rows_touching, with_row};
 
 use limits::MOST_ROWS;
 
@@ -54,207 +54,241 @@ pub struct ColumnSet {
     high: u64,
 }
 
-// The empty set.
-pub fn empty() -> ColumnSet
-    ensures { result ≡ empty_set }
-{
-    ColumnSet {
-        low: word::EMPTY,
-        high: word::EMPTY,
-    }
-}
-
-// Whether the set has no column.
-pub fn is_empty(set: ColumnSet) -> bool
-    ensures { result ≡ eqb (# width (members (whole set))) 0 }
-{
-    if word::is_empty(set.low) {
-        return word::is_empty(set.high);
-    }
-    false
-}
-
-// All columns below n.
-pub fn below(n: usize) -> ColumnSet
-    ensures { members (whole result) ≡ upto n }
-{
-    if n < word::WIDTH {
-        return ColumnSet {
-            low: word::below(n),
+impl ColumnSet {
+    // The empty set.
+    pub fn empty() -> ColumnSet
+        ensures { result ≡ empty_set }
+    {
+        ColumnSet {
+            low: word::EMPTY,
             high: word::EMPTY,
-        };
-    }
-    ColumnSet {
-        low: word::below(n),
-        high: word::below(n - word::WIDTH),
-    }
-}
-
-// Whether column x is in the set.
-pub fn contains(set: ColumnSet, x: usize) -> bool
-    ensures { result ≡ members (whole set) x }
-{
-    if x < word::WIDTH {
-        return word::contains(set.low, x);
-    }
-    word::contains(set.high, x - word::WIDTH)
-}
-
-// The set with column x.
-pub fn with(set: ColumnSet, x: usize) -> ColumnSet
-    ensures { members (whole result) ≡ inserted (members (whole set)) x }
-{
-    if x < word::WIDTH {
-        return ColumnSet {
-            low: word::with(set.low, x),
-            high: set.high,
-        };
-    }
-    ColumnSet {
-        low: set.low,
-        high: word::with(set.high, x - word::WIDTH),
-    }
-}
-
-// The set without column x.
-pub fn without(set: ColumnSet, x: usize) -> ColumnSet
-    ensures { members (whole result) ≡ removed (members (whole set)) x }
-{
-    if x < word::WIDTH {
-        return ColumnSet {
-            low: word::without(set.low, x),
-            high: set.high,
-        };
-    }
-    ColumnSet {
-        low: set.low,
-        high: word::without(set.high, x - word::WIDTH),
-    }
-}
-
-// The columns of either set.
-pub fn union(set: ColumnSet, other: ColumnSet) -> ColumnSet
-    ensures { members (whole result) ≡ members (whole set) ∪ members (whole other) }
-{
-    ColumnSet {
-        low: set.low | other.low,
-        high: set.high | other.high,
-    }
-}
-
-// The columns of both sets.
-pub fn intersection(set: ColumnSet, other: ColumnSet) -> ColumnSet
-    ensures { members (whole result) ≡ members (whole set) ∩ members (whole other) }
-{
-    ColumnSet {
-        low: set.low & other.low,
-        high: set.high & other.high,
-    }
-}
-
-// The columns of the first set that are not in the other.
-pub fn difference(set: ColumnSet, other: ColumnSet) -> ColumnSet
-    ensures { members (whole result) ≡ members (whole set) ∩ ∁ (members (whole other)) }
-{
-    ColumnSet {
-        low: set.low & !other.low,
-        high: set.high & !other.high,
-    }
-}
-
-// Whether a row has a parameter in the set: by words, not column by column.
-pub fn touches(row: ColumnSet, set: ColumnSet) -> bool
-    ensures { result ≡ any width (members (whole set) ∩ members (whole row)) }
-{
-    !is_empty(intersection(set, row))
-}
-
-// The least column of the set, or `WIDTH` where it is empty: of the first word that is not empty.
-pub fn first(set: ColumnSet) -> usize
-    ensures { result ≡ least width (members (whole set)) }
-{
-    if word::is_empty(set.low) {
-        return word::WIDTH + word::first(set.high);
-    }
-    word::first(set.low)
-}
-
-// How many columns the set has.
-pub fn size(set: ColumnSet) -> usize
-    ensures { result ≡ # width (members (whole set)) }
-{
-    word::size(set.low) + word::size(set.high)
-}
-
-// The columns of the set moved m up; those that a set has no room for are gone.
-pub fn raised(set: ColumnSet, m: usize) -> ColumnSet
-    ensures { members (whole result) ≡ moved_up (members (whole set)) m }
-{
-    if m < word::WIDTH {
-        return ColumnSet {
-            low: word::raised(set.low, m),
-            high: word::raised(set.high, m) | word::lowered(set.low, word::WIDTH - m),
-        };
-    }
-    ColumnSet {
-        low: word::EMPTY,
-        high: word::raised(set.low, m - word::WIDTH),
-    }
-}
-
-// The columns of the set from m on, moved m down.
-pub fn lowered(set: ColumnSet, m: usize) -> ColumnSet
-    ensures { members (whole result) ≡ moved_down (members (whole set)) m }
-{
-    if m < word::WIDTH {
-        return ColumnSet {
-            low: word::lowered(set.low, m) | word::raised(set.high, word::WIDTH - m),
-            high: word::lowered(set.high, m),
-        };
-    }
-    ColumnSet {
-        low: word::lowered(set.high, m - word::WIDTH),
-        high: word::EMPTY,
-    }
-}
-
-// Whether every column of the set is below n.
-pub fn within(set: ColumnSet, n: usize) -> bool
-    ensures { result ≡ within n (whole set) }
-{
-    if n < word::WIDTH {
-        if word::is_empty(set.high) {
-            return word::within(set.low, n);
         }
-        return false;
     }
-    word::within(set.high, n - word::WIDTH)
-}
 
-// The set that bytes show, the low byte first: column c is bit c mod 8 of byte c div 8. Bytes that are missing count as 0.
-pub fn of_bytes(bytes: &[u8]) -> ColumnSet
-    ensures { ReadFrom bytes.now result }
-{
-    if bytes.len() < word::BYTES {
-        return ColumnSet {
+    // Whether the set has no column.
+    pub fn is_empty(self) -> bool
+        ensures { result ≡ eqb (# width (members (whole self))) 0 }
+    {
+        word::is_empty(self.low) && word::is_empty(self.high)
+    }
+
+    // All columns below n.
+    pub fn below(n: usize) -> ColumnSet
+        ensures { members (whole result) ≡ upto n }
+    {
+        ColumnSet {
+            low: word::below(n),
+            high: word::below(n.saturating_sub(word::WIDTH)),
+        }
+    }
+
+    // Whether column x is in the set.
+    pub fn contains(self, x: usize) -> bool
+        ensures { result ≡ members (whole self) x }
+    {
+        if x < word::WIDTH {
+            word::contains(self.low, x)
+        } else {
+            word::contains(self.high, x - word::WIDTH)
+        }
+    }
+
+    // The set with column x.
+    pub fn with(self, x: usize) -> ColumnSet
+        ensures { members (whole result) ≡ inserted (members (whole self)) x }
+    {
+        if x < word::WIDTH {
+            ColumnSet {
+                low: word::with(self.low, x),
+                ..self
+            }
+        } else {
+            ColumnSet {
+                high: word::with(self.high, x - word::WIDTH),
+                ..self
+            }
+        }
+    }
+
+    // The set without column x.
+    pub fn without(self, x: usize) -> ColumnSet
+        ensures { members (whole result) ≡ removed (members (whole self)) x }
+    {
+        if x < word::WIDTH {
+            ColumnSet {
+                low: word::without(self.low, x),
+                ..self
+            }
+        } else {
+            ColumnSet {
+                high: word::without(self.high, x - word::WIDTH),
+                ..self
+            }
+        }
+    }
+
+    // The columns of either set.
+    pub fn union(self, other: ColumnSet) -> ColumnSet
+        ensures { members (whole result) ≡ members (whole self) ∪ members (whole other) }
+    {
+        ColumnSet {
+            low: self.low | other.low,
+            high: self.high | other.high,
+        }
+    }
+
+    // The columns of both sets.
+    pub fn intersection(self, other: ColumnSet) -> ColumnSet
+        ensures { members (whole result) ≡ members (whole self) ∩ members (whole other) }
+    {
+        ColumnSet {
+            low: self.low & other.low,
+            high: self.high & other.high,
+        }
+    }
+
+    // The columns of the first set that are not in the other.
+    pub fn difference(self, other: ColumnSet) -> ColumnSet
+        ensures { members (whole result) ≡ members (whole self) ∩ ∁ (members (whole other)) }
+    {
+        ColumnSet {
+            low: self.low & !other.low,
+            high: self.high & !other.high,
+        }
+    }
+
+    // Whether a row has a parameter in the set: by words, not column by column.
+    pub fn touches(self, set: ColumnSet) -> bool
+        ensures { result ≡ any width (members (whole set) ∩ members (whole self)) }
+    {
+        !set.intersection(self).is_empty()
+    }
+
+    // The least column of the set, or `WIDTH` where it is empty: of the first word that is not empty.
+    pub fn first(self) -> usize
+        ensures { result ≡ least width (members (whole self)) }
+    {
+        if word::is_empty(self.low) {
+            word::WIDTH + word::first(self.high)
+        } else {
+            word::first(self.low)
+        }
+    }
+
+    // How many columns the set has.
+    pub fn size(self) -> usize
+        ensures { result ≡ # width (members (whole self)) }
+    {
+        word::size(self.low) + word::size(self.high)
+    }
+
+    // The columns of the set moved m up; those that a set has no room for are gone.
+    pub fn raised(self, m: usize) -> ColumnSet
+        ensures { members (whole result) ≡ moved_up (members (whole self)) m }
+    {
+        if m < word::WIDTH {
+            ColumnSet {
+                low: word::raised(self.low, m),
+                high: word::raised(self.high, m) | word::lowered(self.low, word::WIDTH - m),
+            }
+        } else {
+            ColumnSet {
+                low: word::EMPTY,
+                high: word::raised(self.low, m - word::WIDTH),
+            }
+        }
+    }
+
+    // The columns of the set from m on, moved m down.
+    pub fn lowered(self, m: usize) -> ColumnSet
+        ensures { members (whole result) ≡ moved_down (members (whole self)) m }
+    {
+        if m < word::WIDTH {
+            ColumnSet {
+                low: word::lowered(self.low, m) | word::raised(self.high, word::WIDTH - m),
+                high: word::lowered(self.high, m),
+            }
+        } else {
+            ColumnSet {
+                low: word::lowered(self.high, m - word::WIDTH),
+                high: word::EMPTY,
+            }
+        }
+    }
+
+    // Whether every column of the set is below n.
+    pub fn within(self, n: usize) -> bool
+        ensures { result ≡ within n (whole self) }
+    {
+        if n < word::WIDTH {
+            word::is_empty(self.high) && word::within(self.low, n)
+        } else {
+            word::within(self.high, n - word::WIDTH)
+        }
+    }
+
+    // The set that bytes show, the low byte first: column c is bit c mod 8 of byte c div 8. Bytes that are missing count as 0.
+    pub fn of_bytes(bytes: &[u8]) -> ColumnSet
+        ensures { ReadFrom bytes.now result }
+    {
+        ColumnSet {
             low: word::of_bytes(bytes),
-            high: word::EMPTY,
-        };
+            high: word::of_bytes(bytes.get(word::BYTES..).unwrap_or(&[])),
+        }
     }
-    ColumnSet {
-        low: word::of_bytes(bytes),
-        high: word::of_bytes(&bytes[word::BYTES..]),
+
+    // Byte k of those that show the set, and 0 past the last.
+    pub fn byte(self, k: usize) -> u8
+        ensures { result ≡ get_or (bytes_of room_bytes (whole self)) k 0 }
+    {
+        if k < word::BYTES {
+            word::byte(self.low, k)
+        } else {
+            word::byte(self.high, k - word::BYTES)
+        }
     }
 }
 
-// Byte k of those that show the set, and 0 past the last.
-pub fn byte(set: ColumnSet, k: usize) -> u8
-    ensures { result ≡ get_or (bytes_of room_bytes (whole set)) k 0 }
-{
-    if k < word::BYTES {
-        return word::byte(set.low, k);
+// The columns of a set one after another, the least first.
+#[derive(Drop)]
+pub struct Members {
+    rest: ColumnSet,
+    ghost fits: { Fits rest },
+}
+
+impl Iterator for Members {
+    ghost use Rattle.std.specs.Iterator.{at_most};
+    ghost use Rattle.columns.specs.Turns.{left, GivesLeast};
+
+    type Item = usize;
+
+    ghost next_gives = { GivesLeast };
+
+    ghost remaining = { λ s. at_most (# width (left s)) };
+
+    fn next(&mut self) -> Option<usize> {
+        let rest = self.rest;
+        if rest.is_empty() {
+            return None;
+        }
+        let x = rest.first();
+        self.rest = rest.without(x);
+        Some(x)
     }
-    word::byte(set.high, k - word::BYTES)
+}
+
+impl IntoIterator for ColumnSet {
+    ghost use Rattle.columns.specs.Turns.{left};
+
+    type Item = usize;
+
+    type IntoIter = Members;
+
+    ghost into_iter_gives = { λ set it. left it ≡ members (whole set) };
+
+    fn into_iter(self) -> Members {
+        Members { rest: self }
+    }
 }
 
 // How many parameter rows an area holds.
@@ -265,28 +299,30 @@ pub fn rows(words: &[u64]) -> usize
 }
 
 // The columns of parameter row r of an area, and none where the area has no such row.
+#[tactic(auto, using(crate::specs::Words::Rows::rows_length))]
 pub fn row(words: &[u64], r: usize) -> ColumnSet
     ensures { whole result ≡ get_or (row_numbers words.now) r 0 }
 {
     if r < rows(words) {
         let at = ROW_WORDS * r;
-        return ColumnSet {
+        ColumnSet {
             low: words[at],
             high: words[at + 1],
-        };
+        }
+    } else {
+        ColumnSet::empty()
     }
-    empty()
 }
 
 // As many rows as named, or all that the area holds.
 pub fn rows_below(words: &[u64], end: usize) -> usize
     ensures { result ≡ min end (length (row_numbers words.now)) }
 {
-    let all = rows(words);
-    if end < all { end } else { all }
+    end.min(rows(words))
 }
 
 // Whether a row has a parameter in a set with no column from 64 on, which its low word is.
+#[tactic(auto, using(crate::specs::Words::Rows::rows_length))]
 fn low_touches(words: &[u64], r: usize, low: u64) -> bool
     requires { r < length (row_numbers words.now) }
     ensures { result ≡ rows_touching (row_numbers words.now) (members low) r }
@@ -298,10 +334,8 @@ fn low_touches(words: &[u64], r: usize, low: u64) -> bool
 fn last_below(words: &[u64], all: usize, set: ColumnSet, end: usize) -> usize
     ensures { result ≡ last_member end all (rows_touching (row_numbers words.now) (members (whole set))) }
 {
-    let mut r = all;
-    while r > 0 {
-        r -= 1;
-        if touches(row(words, r), set) {
+    for r in (0..all).rev() {
+        if row(words, r).touches(set) {
             return r;
         }
     }
@@ -339,12 +373,14 @@ pub fn last_touching(words: &[u64], end: usize, set: ColumnSet) -> usize
 {
     let all = rows_below(words, end);
     if set.high == word::EMPTY {
-        return last_below_low(words, all, set, end);
+        last_below_low(words, all, set, end)
+    } else {
+        last_below(words, all, set, end)
     }
-    last_below(words, all, set, end)
 }
 
 // Parameter row r of an area gets the columns of the set; nothing changes where the area has no such row.
+#[tactic(auto, using(crate::specs::Words::Rows::rows_length))]
 pub fn put_row(words: &mut [u64], r: usize, set: ColumnSet)
     ensures { words.new ≡ with_row words.old r (whole set) }
 {

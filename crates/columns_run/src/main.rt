@@ -27,25 +27,15 @@ const WORDS: [u64; 16] = [
 
 const PLACES: [usize; 14] = [0, 1, 7, 8, 11, 12, 31, 63, 64, 65, 95, 96, 127, 128];
 
-fn number(rt: &impl Print, n: u64) -> io::Result<()> {
-    print!(rt; " {n}")
-}
-
 // A set as the two words that it puts into an area.
 fn words(rt: &impl Print, set: ColumnSet) -> io::Result<()> {
     let mut area = [0u64; ROW_WORDS];
     columns::put_row(&mut area, 0, set);
-    number(rt, area[0])?;
-    number(rt, area[1])
+    print!(rt; " {} {}", area[0], area[1])
 }
 
-fn flag(rt: &impl Print, b: bool) -> io::Result<()> {
-    if b {
-        rt.write_all(b" yes")?;
-    } else {
-        rt.write_all(b" no")?;
-    }
-    Ok(())
+fn yes_no(holds: bool) -> &'static str {
+    if holds { "yes" } else { "no" }
 }
 
 fn nth(i: usize) -> ColumnSet {
@@ -56,50 +46,46 @@ fn nth(i: usize) -> ColumnSet {
 fn describe(rt: &impl Print, set: ColumnSet) -> io::Result<()> {
     rt.write_all(b"set")?;
     words(rt, set)?;
-    number(rt, columns::size(set) as u64)?;
-    number(rt, columns::first(set) as u64)?;
-    flag(rt, columns::is_empty(set))?;
-    rt.write_all(b"\n")
+    let empty = yes_no(set.is_empty());
+    println!(rt; " {} {} {empty}", set.size(), set.first())
 }
 
 // One line: the set and a column.
 fn at(rt: &impl Print, set: ColumnSet, x: usize) -> io::Result<()> {
-    rt.write_all(b"at")?;
-    number(rt, x as u64)?;
-    flag(rt, columns::contains(set, x))?;
-    flag(rt, columns::within(set, x))?;
-    words(rt, columns::with(set, x))?;
-    words(rt, columns::without(set, x))?;
-    words(rt, columns::below(x))?;
-    words(rt, columns::raised(set, x))?;
-    words(rt, columns::lowered(set, x))?;
-    number(rt, columns::byte(set, x) as u64)?;
-    rt.write_all(b"\n")
+    let contains = yes_no(set.contains(x));
+    let within = yes_no(set.within(x));
+    print!(rt; "at {x} {contains} {within}")?;
+    words(rt, set.with(x))?;
+    words(rt, set.without(x))?;
+    words(rt, ColumnSet::below(x))?;
+    words(rt, set.raised(x))?;
+    words(rt, set.lowered(x))?;
+    println!(rt; " {}", set.byte(x))
 }
 
 // One line: two sets.
 fn pair(rt: &impl Print, set: ColumnSet, other: ColumnSet) -> io::Result<()> {
     rt.write_all(b"pair")?;
-    words(rt, columns::union(set, other))?;
-    words(rt, columns::intersection(set, other))?;
-    words(rt, columns::difference(set, other))?;
-    flag(rt, columns::touches(set, other))?;
-    rt.write_all(b"\n")
+    words(rt, set.union(other))?;
+    words(rt, set.intersection(other))?;
+    words(rt, set.difference(other))?;
+    println!(rt; " {}", yes_no(set.touches(other)))
 }
 
 // One line: of the sets as rows, how many there are below each end, and which is the last to touch the set.
 fn over_rows(rt: &impl Print, set: ColumnSet) -> io::Result<()> {
     rt.write_all(b"rows")?;
     for end in 0..10 {
-        number(rt, columns::rows_below(&WORDS, end) as u64)?;
-        number(rt, columns::last_touching(&WORDS, end, set) as u64)?;
+        let below = columns::rows_below(&WORDS, end);
+        let last = columns::last_touching(&WORDS, end, set);
+        print!(rt; " {below} {last}")?;
     }
     rt.write_all(b"\n")
 }
 
 fn over_places(rt: &impl Print, set: ColumnSet) -> io::Result<()> {
-    for i in 0..14 {
-        at(rt, set, PLACES[i])?;
+    for x in PLACES {
+        at(rt, set, x)?;
     }
     Ok(())
 }
@@ -113,21 +99,23 @@ fn over_sets(rt: &impl Print, set: ColumnSet) -> io::Result<()> {
 
 // One line: the empty set, and those of few and of many bytes.
 fn read(rt: &impl Print) -> io::Result<()> {
-    words(rt, columns::empty())?;
-    words(rt, columns::of_bytes(b""))?;
-    words(rt, columns::of_bytes(b"\x02"))?;
-    words(rt, columns::of_bytes(b"\x01\x02\x03\x04\x05\x06\x07\x80"))?;
+    words(rt, ColumnSet::empty())?;
+    words(rt, ColumnSet::of_bytes(b""))?;
+    words(rt, ColumnSet::of_bytes(b"\x02"))?;
+    words(rt, ColumnSet::of_bytes(b"\x01\x02\x03\x04\x05\x06\x07\x80"))?;
     words(
         rt,
-        columns::of_bytes(b"\xff\xff\xff\xff\xff\xff\xff\xff\xff"),
+        ColumnSet::of_bytes(b"\xff\xff\xff\xff\xff\xff\xff\xff\xff"),
     )?;
     words(
         rt,
-        columns::of_bytes(b"\x00\x00\x00\x00\x00\x00\x00\x00\x01\x02\x03\x84"),
+        ColumnSet::of_bytes(b"\x00\x00\x00\x00\x00\x00\x00\x00\x01\x02\x03\x84"),
     )?;
     words(
         rt,
-        columns::of_bytes(b"\x01\x02\x03\x04\x05\x06\x07\x08\x09\x0a\x0b\x0c\x0d\x0e\x0f\x10\x11"),
+        ColumnSet::of_bytes(
+            b"\x01\x02\x03\x04\x05\x06\x07\x08\x09\x0a\x0b\x0c\x0d\x0e\x0f\x10\x11",
+        ),
     )?;
     rt.write_all(b"\n")
 }

@@ -35,7 +35,7 @@ use Rattle.format.specs.Refusals.{first_refusal, no_degree, numbers_room, number
 use Rattle.format.specs.RefusalLaws.{first_fails, first_passes, first_none}
 use Rattle.format.specs.TestLaws.{Accepted, constant_below}
 use Rattle.layered.proofs.AnswerLaws.{all_taken}
-use Rattle.degree.specs.declared.Degree.{Degree}
+use Rattle.degree.specs.Shown.{Degree}
 use Rattle.degree.specs.Answers.{most_power, powers_low, degree_question, DegreeAnswered}
 use Rattle.degree.specs.Code.{first_most, lists_low, model_with, Ready, Descending, tight_part, tableau_of}
 

@@ -17,8 +17,14 @@ use Rattle.format.specs.File.Piece.{closed}
 use Rattle.format.specs.File.Format.{RowsCall, fields, judge}
 use Rattle.layered.specs.Answers.{RankCall}
 use Rattle.layered.proofs.FileLaws.{call_as, judged, own_constants, own_parameters, own_made}
-use Rattle.degree.specs.declared.Degree.{Degree}
+use Rattle.std.specs.Prelude.{Err}
+use Rattle.format.specs.declared.refusals.Refusal.{Refusal}
+use Rattle.degree.specs.Shown.{Degree, degree_shown}
 use Rattle.degree.specs.Answers.{power_areas, degree_question, file_question, DegreeRefused, DegreeAnswered, DegreeFileCall}
+
+-- a refusal says nothing else
+pub degree_refused : (e : Refusal) → DegreeRefused (degree_shown (Err e))
+degree_refused e = record { no_degree = refl; none_on_the_side = refl; no_columns = refl }
 
 -- the call about a model of which the sizes and the areas' elements are read
 abbrev pub ReadCall : (M : Model) (rp cp pp : List ℕ) → Degree → Type 0

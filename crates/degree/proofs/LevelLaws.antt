@@ -6,7 +6,6 @@ use mathlib.Core.Bool.{Bool, false, not, ◌&&◌, cond}
 use mathlib.Core.List.{List}
 use native.Mathlib.Omega.{arith}
 use native.Mathlib.Decide.{ℕ_discrete}
-use native.Mathlib.Numerals.{add-one}
 use lib.Dec.{eqb}
 use lib.ListN.{length, get_or, length-set, replicate, get_or-replicate}
 use lib.ListN as ListN
@@ -19,7 +18,6 @@ use Rattle.columns.specs.Columns.{members, removed}
 use Rattle.columns.specs.ColumnSets.{row_numbers, with_row}
 use Rattle.columns.specs.Words.Rows.{rows_with_row}
 use Rattle.columns.specs.Words.SetLaws.{removed_old, removed_gone, removed_other}
-use Rattle.rank.specs.Totals.{total}
 use Rattle.exchange.proofs.CellLaws.{row_within}
 use Rattle.degree.specs.Code.{touches, Rise, TightRow, AtLevel, TightConstants, TightParameters, Low}
 
@@ -153,12 +151,6 @@ keeping_goes from level pp heights row rest kept x ne h = record {
     | no nd ↦ beside kept x z nd ∙ h.done z (sym (beside rest x z nd) ∙ m)
   ];
 }
-
--- ---- sums
-
-pub total_next : (n : ℕ) (f : ℕ → ℕ) → total (n + 1) f ≡ total n f + f n
-unfolding total
-total_next n f = rw (add-one n) (omega arith)
 
 -- ---- the first heights
 

@@ -1,4 +1,5 @@
 -- Laws for the proofs.
+pub mod ListLaws
 pub mod TopLaws
 pub mod LevelLaws
 pub mod TightLaws

@@ -10,12 +10,14 @@ use Rattle.rank.specs.Layered.Model.{Model, Assignment, Legal, constants}
 use Rattle.rank.specs.Layered.Rank.{verdict}
 use Rattle.degrees.specs.Degrees.{Powers, AllPlaced, degree, listed_powers, weight}
 use Rattle.exchange.specs.Solution.{ShowsRow, shown}
+use Rattle.models.specs.Lent.{constants_lent, rows_lent, numbers_lent}
+use Rattle.models.specs.declared.LentModel.{LentModel}
 use Rattle.format.specs.Refusals.{Tests, unless, ◌then◌, first_refusal, area_short, no_degree, area_test, area_tests, content_tests}
 use Rattle.format.specs.File.Piece.{closed}
 use Rattle.format.specs.File.Format.{fields, decode}
 use Rattle.layered.specs.Answers.{RankCall}
 use Rattle.layered.specs.FileModel.{file_model}
-use Rattle.degree.specs.declared.Degree.{Degree}
+use Rattle.degree.specs.Shown.{Degree}
 
 -- ---- the refusals
 
@@ -86,6 +88,10 @@ DegreeAsked M W r = RankCall (first_refusal (degree_question M W)) r.refusal (De
 abbrev pub DegreeCall : (p n a b : ℕ) (cs ws : List ℕ) → Option (List ℕ) → (rp cp pp : List ℕ) → Degree → Type 0
 DegreeCall p n a b cs ws ns rp cp pp r =
     RankCall (first_refusal (dynamic_tests p n a b cs ws ns rp cp pp)) r.refusal (DegreeRefused r) (DegreeAnswered (listed_model p n a b cs ws) (listed_powers n rp cp pp) r)
+
+-- for a model that is lent
+abbrev pub DegreeModelCall : LentModel → (rp cp pp : List ℕ) → Degree → Type 0
+DegreeModelCall m rp cp pp r = DegreeCall m.p m.n m.a m.b (constants_lent m) (rows_lent m) (numbers_lent m) rp cp pp r
 
 -- for the model in a file
 abbrev pub DegreeFileCall : (file rp cp pp : List ℕ) → Degree → Type 0

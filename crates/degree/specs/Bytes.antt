@@ -3,7 +3,7 @@ use Rattle.std.specs.Prelude.{ℕ, ◌+◌, List, ◌++◌}
 use Rattle.limits.specs.Limits.{most_rows, set_bytes}
 use Rattle.columns.specs.Bytes.{bytes_of}
 use Rattle.columns.specs.ColumnSets.{whole}
-use Rattle.degree.specs.declared.Degree.{Degree}
+use Rattle.degree.specs.Shown.{Degree}
 
 -- how many there are
 abbrev pub degree_length : ℕ

@@ -1,5 +1,7 @@
 -- What the code's arrays mean while the degree is sought. Definitions only.
-use Rattle.std.specs.Prelude.{ℕ, ◌+◌, ◌*◌, ◌≤◌, ◌<◌, ◌≡◌, ◌≢◌, Bool, true, not, ◌&&◌, ◌||◌, cond, List, eqb, leb, length, get_or}
+use Rattle.format.specs.Refused.{refusal_number}
+use Rattle.format.specs.declared.refusals.Refusal.{Refusal}
+use Rattle.std.specs.Prelude.{ℕ, ◌⊎◌, ◌+◌, ◌*◌, ◌≤◌, ◌<◌, ◌≡◌, ◌≢◌, Bool, true, not, ◌&&◌, ◌||◌, cond, List, eqb, leb, length, get_or}
 use Rattle.limits.specs.Limits.{most_columns}
 use Rattle.residue.specs.Arithmetic.{is_prime}
 use Rattle.counting.specs.Sets.{Set, Some, all, ◌∈◌}
@@ -157,3 +159,8 @@ pub record Summed (n a : ℕ) (rp levels heights : List ℕ) : Type 0 where
   pub levels_low : (q : ℕ) → q < n → get_or levels q 0 ≤ 65535
   pub heights_lent : n ≤ length heights
   pub heights_low : (x : ℕ) → x < n → get_or heights x 0 ≤ 65535
+
+-- the number k is that of the refusal, which is of p or of the sizes
+pub record FirstRefusal (e : Refusal) (k : ℕ) : Type 0 where
+  pub is_number : refusal_number e ≡ k
+  pub is_first : (k ≡ 3) ⊎ (k ≡ 4)

@@ -1,5 +1,5 @@
 // The descent: levels and heights that bound every total, lowered round by round until an assignment on the tight entries reaches them.
-ghost use Rattle.std.specs.Prelude.{ℕ, ◌+◌, ◌<◌, ◌≤◌, ◌≡◌, List, get_or};
+ghost use Rattle.std.specs.Prelude.{ℕ, Ok, ◌+◌, ◌<◌, ◌≤◌, ◌≡◌, List, get_or};
 ghost use Rattle.columns.specs.Columns.{members};
 ghost use Rattle.columns.specs.ColumnSets.{whole, row_numbers};
 ghost use Rattle.rank.specs.Modulus.{field_of};
@@ -8,6 +8,7 @@ ghost use Rattle.rank.specs.Totals.{total};
 ghost use Rattle.degrees.specs.Degrees.{listed_powers};
 ghost use Rattle.degrees.specs.Dynamics.{layered};
 ghost use Rattle.exchange.specs.Solve.{SolvedBy};
+ghost use Rattle.degree.specs.Shown.{degree_shown};
 ghost use Rattle.degree.specs.Answers.{DegreeAnswered};
 ghost use Rattle.degree.specs.Code.{model_with, Ready, Descending, tight_part, ConstantsShown, Summed};
 
@@ -15,6 +16,7 @@ use crate::{Degree, levels};
 use columns::ColumnSet;
 use exchange::{Solution, reduce, solve};
 use limits::MOST_COLUMNS;
+use models::LentModel;
 
 // The solver's answer to the tight part.
 fn solve_tight(
@@ -32,11 +34,15 @@ fn solve_tight(
     requires { (Q : ℕ → ℕ → (field_of p).F) × (rp : List ℕ) × (k : ℕ) × Descending p n a b Q (row_numbers parameters.now) rp columnpowers.now parameterpowers.now constants.now levels.now heights.now k }
     ensures { (Q : ℕ → ℕ → (field_of p).F) (rp : List ℕ) (k : ℕ) → Descending p n a b Q (row_numbers parameters.now) rp columnpowers.now parameterpowers.now constants.now levels.now heights.now k → SolvedBy (tight_part p n a b Q (row_numbers parameters.now) rp columnpowers.now parameterpowers.now constants.now levels.now heights.now) result }
 {
-    let all = columns::below(n);
+    let all = ColumnSet::below(n);
     let weights = levels::weights(all, columnpowers, heights, n);
     let tight = levels::tight_constants(constants, &weights, levels, n, a);
     let rows = levels::tight_parameters(parameters, parameterpowers, heights, levels, n, a, b);
-    solve(p, n, a, b, all, &tight, &rows)
+    let model = LentModel::unnumbered(p, n, a, b, &tight, &rows);
+    let Some(s) = solve(&model, all) else {
+        unreachable!()
+    };
+    s
 }
 
 // A round, on the short set of the tight part: the rows are reduced at its tight entries; the levels of the rows that touch it and the
@@ -86,14 +92,13 @@ fn found(
     s: Solution,
 ) -> Degree
     requires { Summed n a rowpowers.now levels.now heights.now × ((d : ℕ) × (d < 65536) × (d + total n (λ x. get_or heights.now x 0) ≡ total a (λ i. get_or rowpowers.now i 0) + total n (λ q. get_or levels.now q 0))) }
-    ensures { (result.refusal ≡ 0) × (result.constants ≡ s.constants) × (result.rows ≡ s.rows) × ((d : ℕ) → d + total n (λ x. get_or heights.now x 0) ≡ total a (λ i. get_or rowpowers.now i 0) + total n (λ q. get_or levels.now q 0) → result.degree ≡ d) }
+    ensures { (result.constants ≡ s.constants) × (result.rows ≡ s.rows) × ((d : ℕ) → d + total n (λ x. get_or heights.now x 0) ≡ total a (λ i. get_or rowpowers.now i 0) + total n (λ q. get_or levels.now q 0) → result.degree ≡ d) }
 {
     let constants = s.constants;
     let rows = s.rows;
     let most = levels::sum_powers(rowpowers, a) + levels::sum(levels, n);
     let degree = (most - levels::sum(heights, n)) as u16;
     Degree {
-        refusal: 0,
         degree,
         constants,
         rows,
@@ -112,10 +117,10 @@ pub fn descend(
     parameterpowers: &[u8],
 ) -> Degree
     requires { Ready p n a b constants.old (row_numbers parameters.now) rowpowers.now columnpowers.now parameterpowers.now × ((Q : ℕ → ℕ → (field_of p).F) × ConstantsShown p n a Q constants.old × (rank (layered (model_with p n a b Q (row_numbers parameters.now) rowpowers.now columnpowers.now parameterpowers.now)) ≡ n)) }
-    ensures { (Q : ℕ → ℕ → (field_of p).F) → ConstantsShown p n a Q constants.old → rank (layered (model_with p n a b Q (row_numbers parameters.now) rowpowers.now columnpowers.now parameterpowers.now)) ≡ n → (result.refusal ≡ 0) × DegreeAnswered (layered (model_with p n a b Q (row_numbers parameters.now) rowpowers.now columnpowers.now parameterpowers.now)) (listed_powers n rowpowers.now columnpowers.now parameterpowers.now) result }
+    ensures { (Q : ℕ → ℕ → (field_of p).F) → ConstantsShown p n a Q constants.old → rank (layered (model_with p n a b Q (row_numbers parameters.now) rowpowers.now columnpowers.now parameterpowers.now)) ≡ n → DegreeAnswered (layered (model_with p n a b Q (row_numbers parameters.now) rowpowers.now columnpowers.now parameterpowers.now)) (listed_powers n rowpowers.now columnpowers.now parameterpowers.now) (degree_shown (Ok result)) }
 {
     let mut heights = levels::first_heights(columnpowers, parameters, parameterpowers, n, b);
-    let all = columns::below(n);
+    let all = ColumnSet::below(n);
     let weights = levels::weights(all, columnpowers, &heights, n);
     let mut levels = levels::tops(
         constants,

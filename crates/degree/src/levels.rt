@@ -16,8 +16,8 @@ fn weight_at(set: ColumnSet, x: usize, power: u8, height: u16) -> u16
     requires { height ≤ 60000 }
     ensures { result ≡ cond (members (whole set) x) (power + height) 0 }
 {
-    if columns::contains(set, x) {
-        return power as u16 + height;
+    if set.contains(x) {
+        return u16::from(power) + height;
     }
     0
 }
@@ -57,13 +57,13 @@ pub fn parameter_top(row: ColumnSet, powers: &[u8], from: usize, heights: &[u16]
 {
     let mut top: u16 = 0;
     let mut rest = row;
-    while !columns::is_empty(rest) {
-        let x = columns::first(rest);
+    while !rest.is_empty() {
+        let x = rest.first();
         let w = powers[from + x] as u16 + heights[x];
         if w > top {
             top = w;
         }
-        rest = columns::without(rest, x);
+        rest = rest.without(x);
     }
     top
 }
@@ -87,7 +87,7 @@ fn line_top(
         return constant_top(constants, q * n, weights, n);
     }
     let r = q - a;
-    let row = columns::intersection(columns::row(parameters, r), set);
+    let row = columns::row(parameters, r).intersection(set);
     parameter_top(row, powers, r * n, heights, n)
 }
 
@@ -118,11 +118,8 @@ pub fn tops(
 fn room(level: u16, top: u16) -> u16
     ensures { (1 ≤ result) × (0 < top → top < level → top + result ≤ level) }
 {
-    if top == 0 {
-        return 65535;
-    }
-    if top >= level {
-        return 65535;
+    if top == 0 || top >= level {
+        return u16::MAX;
     }
     level - top
 }
@@ -132,12 +129,9 @@ pub fn rise(levels: &[u16], tops: &[u16], lines: usize) -> u16
     requires { (lines ≤ length levels.now) × (lines ≤ length tops.now) }
     ensures { Rise lines levels.now tops.now result }
 {
-    let mut least: u16 = 65535;
+    let mut least = u16::MAX;
     for q in 0..lines {
-        let r = room(levels[q], tops[q]);
-        if r < least {
-            least = r;
-        }
+        least = least.min(room(levels[q], tops[q]));
     }
     least
 }
@@ -146,10 +140,7 @@ fn raised_level(level: u16, top: u16, rise: u16) -> u16
     requires { level + rise < 65536 }
     ensures { result ≡ cond (touches level top) (level + rise) level }
 {
-    if top == 0 {
-        return level;
-    }
-    if top == level {
+    if top != 0 && top == level {
         return level + rise;
     }
     level
@@ -168,7 +159,7 @@ fn raised_height(set: ColumnSet, x: usize, height: u16, rise: u16) -> u16
     requires { height + rise < 65536 }
     ensures { result ≡ cond (members (whole set) x) (height + rise) height }
 {
-    if columns::contains(set, x) {
+    if set.contains(x) {
         return height + rise;
     }
     height
@@ -226,12 +217,12 @@ fn at_level(
 {
     let mut rest = row;
     let mut kept = row;
-    while !columns::is_empty(rest) {
-        let x = columns::first(rest);
+    while !rest.is_empty() {
+        let x = rest.first();
         if powers[from + x] as u16 + heights[x] != level {
-            kept = columns::without(kept, x);
+            kept = kept.without(x);
         }
-        rest = columns::without(rest, x);
+        rest = rest.without(x);
     }
     kept
 }
@@ -268,22 +259,14 @@ pub fn sum(numbers: &[u16], k: usize) -> u32
     requires { (k ≤ length numbers.now) × (k ≤ most_columns) × ((i : ℕ) → i < k → get_or numbers.now i 0 ≤ 65535) }
     ensures { result ≡ total k (λ i. get_or numbers.now i 0) }
 {
-    let mut all: u32 = 0;
-    for i in 0..k {
-        all = all + numbers[i] as u32;
-    }
-    all
+    numbers[..k].iter().map(|number| u32::from(*number)).sum()
 }
 
 pub fn sum_powers(powers: &[u8], k: usize) -> u32
     requires { (k ≤ length powers.now) × (k ≤ most_columns) × ((i : ℕ) → i < k → get_or powers.now i 0 ≤ 15) }
     ensures { result ≡ total k (λ i. get_or powers.now i 0) }
 {
-    let mut all: u32 = 0;
-    for i in 0..k {
-        all = all + powers[i] as u32;
-    }
-    all
+    powers[..k].iter().map(|power| u32::from(*power)).sum()
 }
 
 // The height at which a power stands at 16.
@@ -291,11 +274,7 @@ fn lower(height: u16, power: u8) -> u16
     requires { (power ≤ 15) × (1 ≤ height) × (height ≤ 16) }
     ensures { (1 ≤ result) × (result ≤ 16) }
 {
-    let h = 16 - power as u16;
-    if h < height {
-        return h;
-    }
-    height
+    height.min(16 - u16::from(power))
 }
 
 fn lower_row(heights: &mut [u16], row: ColumnSet, powers: &[u8], from: usize, n: usize)
@@ -303,10 +282,10 @@ fn lower_row(heights: &mut [u16], row: ColumnSet, powers: &[u8], from: usize, n:
     ensures { (length heights.new ≡ length heights.old) × Low n heights.new }
 {
     let mut rest = row;
-    while !columns::is_empty(rest) {
-        let x = columns::first(rest);
+    while !rest.is_empty() {
+        let x = rest.first();
         heights[x] = lower(heights[x], powers[from + x]);
-        rest = columns::without(rest, x);
+        rest = rest.without(x);
     }
 }
 
@@ -331,6 +310,6 @@ pub fn first_heights(
             n,
         );
     }
-    lower_row(&mut out, columns::below(n), columnpowers, 0, n);
+    lower_row(&mut out, ColumnSet::below(n), columnpowers, 0, n);
     out
 }

@@ -2,19 +2,20 @@
 // assignment that reaches it; and the bytes of the answer.
 #![tactic(auto)]
 
-ghost use Rattle.std.specs.Prelude.{◌≡◌, ℕ, ◌*◌, ◌<◌, ◌≤◌, ◌&&◌, leb, length, get_or};
+ghost use Rattle.std.specs.Prelude.{◌≡◌, ◌≢◌, Ok, MatchOption, ℕ, ◌*◌, ◌<◌, ◌≤◌, ◌&&◌, leb, length, get_or};
 ghost use Rattle.std.proofs.Math.Option.{none};
 ghost use Rattle.limits.specs.Limits.{most_columns, most_rows, most_constants};
 ghost use Rattle.columns.specs.ColumnSets.{row_numbers};
 ghost use Rattle.rank.specs.Modulus.{field_of};
 ghost use Rattle.degrees.specs.Degrees.{listed_powers};
 ghost use Rattle.degrees.specs.Dynamics.{layered};
-ghost use Rattle.format.specs.Numbers.{lent};
+ghost use Rattle.format.specs.Refused.{refusal_of};
 ghost use Rattle.format.specs.TestLaws.{Accepted};
 ghost use Rattle.host.specs.AreaCall.{PutOver};
-ghost use Rattle.degree.specs.Answers.{DegreeRefused, DegreeAsked, DegreeCall, DegreeFileCall};
+ghost use Rattle.degree.specs.Shown.{degree_shown};
+ghost use Rattle.degree.specs.Answers.{DegreeAsked, DegreeModelCall, DegreeFileCall};
 ghost use Rattle.degree.specs.Bytes.{degree_length, degree_bytes};
-ghost use Rattle.degree.specs.Code.{model_with, ConstantsShown};
+ghost use Rattle.degree.specs.Code.{model_with, ConstantsShown, FirstRefusal};
 
 mod descent;
 mod levels;
@@ -22,49 +23,42 @@ mod powers;
 
 use columns::{ColumnSet, MOST_WORDS};
 use exchange::solve;
-use format::{judge_model, put_set, refusals};
+use format::{Refusal, judge_model, put_set};
 use limits::{MOST_CONSTANTS, MOST_ROWS, NO_COLUMN, SET_BYTES};
 use loader::read_rows;
+use models::LentModel;
 
-// The refusal or 0; the degree; and an assignment that reaches it: the columns on the constant side, and the column of each parameter row,
+// The degree; and an assignment that reaches it: the columns on the constant side, and the column of each parameter row,
 // `NO_COLUMN` for the rows that the model does not have.
 #[derive(Drop)]
 pub struct Degree {
-    pub refusal: u32,
     pub degree: u16,
     pub constants: ColumnSet,
     pub rows: [u8; MOST_ROWS],
 }
 
-// Where the columns of the parameter rows start, behind the degree and the constant side.
-const ROWS_AT: usize = 2 + SET_BYTES;
+// Where the constant side starts, behind the degree, and behind it the columns of the parameter rows.
+const SET_AT: usize = 2;
+
+const ROWS_AT: usize = SET_AT + SET_BYTES;
 
 // How many bytes an answer takes.
 pub const DEGREE_LENGTH: usize = ROWS_AT + MOST_ROWS;
 
-fn refuse(number: u32) -> Degree
-    ensures { (result.refusal ≡ number) × DegreeRefused result }
-{
-    Degree {
-        refusal: number,
-        degree: 0,
-        constants: columns::empty(),
-        rows: [NO_COLUMN; MOST_ROWS],
-    }
+// The powers of a model's constant rows, of its columns and, row by row, of its parameters.
+#[derive(Clone, Copy)]
+pub struct ModelPowers<'a> {
+    pub rows: &'a [u8],
+    pub columns: &'a [u8],
+    pub parameters: &'a [u8],
 }
 
 // Whether the areas of powers hold what is read of them.
-fn areas_hold(n: usize, a: usize, b: usize, rows: usize, columns: usize, parameters: usize) -> bool
+fn areas_hold(n: usize, a: usize, b: usize, powers: &ModelPowers<'_>) -> bool
     requires { (n ≤ most_columns) × (b ≤ most_rows) }
-    ensures { result ≡ (leb a rows && leb n columns && leb (b * n) parameters) }
+    ensures { result ≡ (leb a (length powers.now.rows.now) && leb n (length powers.now.columns.now) && leb (b * n) (length powers.now.parameters.now)) }
 {
-    if rows < a {
-        return false;
-    }
-    if columns < n {
-        return false;
-    }
-    b * n <= parameters
+    a <= powers.rows.len() && n <= powers.columns.len() && b * n <= powers.parameters.len()
 }
 
 // The answer about a model that is judged, with areas of powers that hold them. The constants are changed.
@@ -75,43 +69,36 @@ fn ask(
     b: usize,
     constants: &mut [u16],
     parameters: &[u64],
-    rowpowers: &[u8],
-    columnpowers: &[u8],
-    parameterpowers: &[u8],
-) -> Degree
-    requires { Accepted p n a b constants.old (row_numbers parameters.now) none × (a ≤ length rowpowers.now) × (n ≤ length columnpowers.now) × (b * n ≤ length parameterpowers.now) }
-    ensures { (Q : ℕ → ℕ → (field_of p).F) → ConstantsShown p n a Q constants.old → DegreeAsked (layered (model_with p n a b Q (row_numbers parameters.now) rowpowers.now columnpowers.now parameterpowers.now)) (listed_powers n rowpowers.now columnpowers.now parameterpowers.now) result }
+    powers: &ModelPowers<'_>,
+) -> Result<Degree, Refusal>
+    requires { Accepted p n a b constants.old (row_numbers parameters.now) none × (a ≤ length powers.now.rows.now) × (n ≤ length powers.now.columns.now) × (b * n ≤ length powers.now.parameters.now) }
+    ensures { (Q : ℕ → ℕ → (field_of p).F) → ConstantsShown p n a Q constants.old → DegreeAsked (layered (model_with p n a b Q (row_numbers parameters.now) powers.now.rows.now powers.now.columns.now powers.now.parameters.now)) (listed_powers n powers.now.rows.now powers.now.columns.now powers.now.parameters.now) (degree_shown result) }
 {
     if a + b != n {
-        return refuse(refusals::NO_DEGREE);
+        return Err(Refusal::NoDegree);
     }
-    if !powers::are_low(
-        parameters,
-        rowpowers,
-        columnpowers,
-        parameterpowers,
-        n,
-        a,
-        b,
-    ) {
-        return refuse(refusals::NO_DEGREE);
+    if !powers::are_low(parameters, powers, n, a, b) {
+        return Err(Refusal::NoDegree);
     }
-    let all = columns::below(n);
-    let s = solve(p, n, a, b, all, constants, parameters);
+    let all = ColumnSet::below(n);
+    let model = LentModel::unnumbered(p, n, a, b, constants, parameters);
+    let Some(s) = solve(&model, all) else {
+        unreachable!()
+    };
     if s.rank != n {
-        return refuse(refusals::NO_DEGREE);
+        return Err(Refusal::NoDegree);
     }
-    descent::descend(
+    Ok(descent::descend(
         p,
         n,
         a,
         b,
         constants,
         parameters,
-        rowpowers,
-        columnpowers,
-        parameterpowers,
-    )
+        powers.rows,
+        powers.columns,
+        powers.parameters,
+    ))
 }
 
 // The first k constants.
@@ -120,87 +107,57 @@ fn copied(constants: &[u16], k: usize) -> [u16; MOST_CONSTANTS]
     ensures { (i : ℕ) → i < k → get_or result i 0 ≡ get_or constants.now i 0 }
 {
     let mut copy = [0u16; MOST_CONSTANTS];
-    for i in 0..k {
-        copy[i] = constants[i];
-    }
+    copy[..k].copy_from_slice(&constants[..k]);
     copy
 }
 
-// The degree of the layered model of p, n, a, b, the constants row by row, the parameter rows and, where it is numbered, their numbers row
-// by row, by the powers of its constant rows, its columns and, row by row, its parameters. Numbers are judged and no more.
-pub fn model_degree(
-    p: u32,
-    n: usize,
-    a: usize,
-    b: usize,
-    constants: &[u16],
-    parameters: &[u64],
-    numbered: bool,
-    numbers: &[u16],
-    rowpowers: &[u8],
-    columnpowers: &[u8],
-    parameterpowers: &[u8],
-) -> Degree
-    ensures { DegreeCall p n a b constants.now (row_numbers parameters.now) (lent numbered numbers.now) rowpowers.now columnpowers.now parameterpowers.now result }
+// The refusal of p or of the sizes, which comes before the areas of powers.
+fn refused_first(judged: Result<(), Refusal>) -> Option<Refusal>
+    ensures { MatchOption result ((refusal_of judged ≢ 3) × (refusal_of judged ≢ 4)) (λ e. FirstRefusal e (refusal_of judged)) }
 {
-    let number = judge_model(p, n, a, b, constants, parameters, numbered, numbers);
-    if number == refusals::NOT_PRIME {
-        return refuse(number);
+    let Err(refusal) = judged else {
+        return None;
+    };
+    match refusal {
+        Refusal::NotPrime => Some(refusal),
+        Refusal::SizesBeyond => Some(refusal),
+        _ => None,
     }
-    if number == refusals::SIZES_BEYOND {
-        return refuse(number);
+}
+
+// The degree of a layered model. Numbers are judged and no more.
+pub fn model_degree(model: &LentModel<'_>, powers: &ModelPowers<'_>) -> Result<Degree, Refusal>
+    ensures { DegreeModelCall model.now powers.now.rows.now powers.now.columns.now powers.now.parameters.now (degree_shown result) }
+{
+    let judged = judge_model(model);
+    if let Some(refusal) = refused_first(judged) {
+        return Err(refusal);
     }
-    if !areas_hold(
-        n,
-        a,
-        b,
-        rowpowers.len(),
-        columnpowers.len(),
-        parameterpowers.len(),
-    ) {
-        return refuse(refusals::AREA_SHORT);
+    if !areas_hold(model.n, model.a, model.b, powers) {
+        return Err(Refusal::AreaShort);
     }
-    if number != 0 {
-        return refuse(number);
-    }
-    let mut rows = copied(constants, a * n);
+    judged?;
+    let mut constants = copied(model.constants, model.a * model.n);
     ask(
-        p,
-        n,
-        a,
-        b,
-        &mut rows,
-        parameters,
-        rowpowers,
-        columnpowers,
-        parameterpowers,
+        model.p,
+        model.n,
+        model.a,
+        model.b,
+        &mut constants,
+        model.parameters,
+        powers,
     )
 }
 
 // The same of the model in a file, or the file's refusal.
-pub fn file_degree(
-    file: &[u8],
-    rowpowers: &[u8],
-    columnpowers: &[u8],
-    parameterpowers: &[u8],
-) -> Degree
-    ensures { DegreeFileCall file.now rowpowers.now columnpowers.now parameterpowers.now result }
+pub fn file_degree(file: &[u8], powers: &ModelPowers<'_>) -> Result<Degree, Refusal>
+    ensures { DegreeFileCall file.now powers.now.rows.now powers.now.columns.now powers.now.parameters.now (degree_shown result) }
 {
     let mut constants = [0u16; MOST_CONSTANTS];
     let mut parameters = [0u64; MOST_WORDS];
-    let sizes = read_rows(file, &mut constants, &mut parameters);
-    if sizes.refusal != 0 {
-        return refuse(sizes.refusal);
-    }
-    if !areas_hold(
-        sizes.n,
-        sizes.a,
-        sizes.b,
-        rowpowers.len(),
-        columnpowers.len(),
-        parameterpowers.len(),
-    ) {
-        return refuse(refusals::AREA_SHORT);
+    let sizes = read_rows(file, &mut constants, &mut parameters)?;
+    if !areas_hold(sizes.n, sizes.a, sizes.b, powers) {
+        return Err(Refusal::AreaShort);
     }
     ask(
         sizes.p,
@@ -209,27 +166,19 @@ pub fn file_degree(
         sizes.b,
         &mut constants,
         &parameters,
-        rowpowers,
-        columnpowers,
-        parameterpowers,
+        powers,
     )
 }
 
 // The bytes of an answer: the degree in two, the constant side, and the column of each parameter row.
-pub fn put_degree(out: &mut [u8], answer: Degree) -> u32
-    ensures { PutOver degree_length (degree_bytes answer) out.old result out.new }
+pub fn put_degree(out: &mut [u8], answer: &Degree) -> Result<(), Refusal>
+    ensures { PutOver degree_length (degree_bytes (degree_shown (Ok answer.now))) out.old (refusal_of result) out.new }
 {
     if out.len() < DEGREE_LENGTH {
-        return refusals::AREA_SHORT;
+        return Err(Refusal::AreaShort);
     }
-    let rows = answer.rows;
-    out[0] = (answer.degree % 256) as u8;
-    out[1] = (answer.degree / 256) as u8;
-    put_set(&mut out[2..], answer.constants);
-    let mut at = 0;
-    while at < MOST_ROWS {
-        out[ROWS_AT + at] = rows[at];
-        at = at + 1;
-    }
-    0
+    out[..SET_AT].copy_from_slice(&answer.degree.to_le_bytes());
+    put_set(&mut out[SET_AT..], answer.constants);
+    out[ROWS_AT..DEGREE_LENGTH].copy_from_slice(&answer.rows);
+    Ok(())
 }

@@ -8,6 +8,7 @@ ghost use Rattle.rank.specs.ListedModel.{parameter_at};
 ghost use Rattle.degree.specs.Answers.{most_power};
 ghost use Rattle.degree.specs.Code.{lists_low};
 
+use crate::ModelPowers;
 use crate::levels::parameter_top;
 use columns::ColumnSet;
 use limits::MOST_COLUMNS;
@@ -20,12 +21,7 @@ fn first_low(powers: &[u8], k: usize) -> bool
     requires { k ≤ length powers.now }
     ensures { result ≡ all k (λ i. leb (get_or powers.now i 0) most_power) }
 {
-    for i in 0..k {
-        if powers[i] > MOST_POWER {
-            return false;
-        }
-    }
-    true
+    powers[..k].iter().all(|power| *power <= MOST_POWER)
 }
 
 // Whether no parameter has a power above the largest; where there is none, the power is not read.
@@ -43,23 +39,15 @@ fn parameters_low(parameters: &[u64], powers: &[u8], n: usize, b: usize) -> bool
     true
 }
 
-pub fn are_low(
-    parameters: &[u64],
-    rowpowers: &[u8],
-    columnpowers: &[u8],
-    parameterpowers: &[u8],
-    n: usize,
-    a: usize,
-    b: usize,
-) -> bool
-    requires { (a ≤ length rowpowers.now) × (n ≤ length columnpowers.now) × (n ≤ most_columns) × (b * n ≤ length parameterpowers.now) × ((r : ℕ) → r < b → within n (get_or (row_numbers parameters.now) r 0) ≡ true) }
-    ensures { result ≡ lists_low n a b (row_numbers parameters.now) rowpowers.now columnpowers.now parameterpowers.now }
+pub fn are_low(parameters: &[u64], powers: &ModelPowers<'_>, n: usize, a: usize, b: usize) -> bool
+    requires { (a ≤ length powers.now.rows.now) × (n ≤ length powers.now.columns.now) × (n ≤ most_columns) × (b * n ≤ length powers.now.parameters.now) × ((r : ℕ) → r < b → within n (get_or (row_numbers parameters.now) r 0) ≡ true) }
+    ensures { result ≡ lists_low n a b (row_numbers parameters.now) powers.now.rows.now powers.now.columns.now powers.now.parameters.now }
 {
-    if !first_low(rowpowers, a) {
+    if !first_low(powers.rows, a) {
         return false;
     }
-    if !first_low(columnpowers, n) {
+    if !first_low(powers.columns, n) {
         return false;
     }
-    parameters_low(parameters, parameterpowers, n, b)
+    parameters_low(parameters, powers.parameters, n, b)
 }

@@ -22,7 +22,7 @@ use Rattle.format.specs.File.Piece.{closed}
 use Rattle.format.specs.File.Format.{decode, no_model, read_model, RowsCall}
 use Rattle.format.specs.File.Unnumbered.{unnumbered_fields, unnumbered_judge}
 use Rattle.format.specs.File.UnnumberedLaws.{unnumbered_iff}
-use Rattle.layered.specs.declared.Answer.{Answer}
+use Rattle.layered.specs.Shown.{Answer}
 use Rattle.layered.specs.Answers.{Refused, Answered, offered_refusal, OfferedCall}
 use Rattle.layered.proofs.FileLaws.{own_constants, own_parameters, own_refusal, judged, own_accepted, own_sizes, own_made, call_refused, call_as}
 use Rattle.open_models.specs.Open.{present_test}

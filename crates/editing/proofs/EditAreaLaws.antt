@@ -9,39 +9,30 @@ use Rattle.limits.specs.Limits.{most_columns, most_rows, set_bytes}
 use Rattle.columns.specs.Bytes.{number}
 use Rattle.columns.specs.Columns.{room_bytes}
 use Rattle.columns.specs.Words.Bytes.{AreBytes}
-use Rattle.format.specs.declared.header.Header.{Header}
 use Rattle.format.specs.Refusals.{first_refusal}
 use Rattle.format.specs.RefusalLaws.{then_refused, then_passed, then_zero, accepted_value}
 use Rattle.format.specs.File.Piece.{closed}
 use Rattle.format.specs.File.Format.{decode}
-use Rattle.format.specs.File.Unnumbered.{unnumbered_fields, unnumbered_judge, unnumbered_header}
-use Rattle.format.proofs.Unnumbered.{unnumbered_header_refusal, unnumbered_header_accepted}
+use Rattle.format.specs.File.Unnumbered.{unnumbered_fields, unnumbered_judge}
 use Rattle.open_models.specs.Open.{take_off, row_tests, own_tests}
-use Rattle.editing.specs.declared.edit.NamedEdit.{NamedEdit}
+use Rattle.editing.specs.Shown.{NamedEdit}
 use Rattle.editing.specs.Edits.{meant, own_refusal, byte_tests, edit_of, EditRead}
 use Rattle.editing.specs.Areas.{area_file, area_open, edit_area_tests, EditAreaCall, bytes_done, EditRoom}
 use Rattle.editing.proofs.EditLaws.{own_same}
 use Rattle.editing.proofs.AreaLaws.{part_shown, held_valid, edit_held, edit_inside}
 
--- h is what the header of the area's file says
-module _ (area : List ℕ) (bs : List ℕ) {h : Header} (said : h ≡ unnumbered_header (area_file area)) where
+-- an edit of the model in an area, by these bytes
+module _ (area : List ℕ) (bs : List ℕ) where
   refused : (r : ℕ) → r ≡ first_refusal (edit_area_tests area bs) → r ≢ 0 → EditAreaCall area bs r area
   refused r e z = record { is_number = e; if_refused = λ _. refl; if_accepted = λ y. absurd (z (e ∙ y)) }
 
-  judged : h.refusal ≡ unnumbered_judge (area_file area)
-  judged = ap (λ (x : Header). x.refusal) said ∙ unnumbered_header_refusal (area_file area)
-
-  pub refused_file : h.refusal ≢ 0 → EditAreaCall area bs h.refusal area
+  -- the file's own refusal
+  pub refused_file : (k : ℕ) → k ≡ unnumbered_judge (area_file area) → k ≢ 0 → EditAreaCall area bs k area
   unfolding unnumbered_judge
-  refused_file z = refused h.refusal (then_refused (closed unnumbered_fields (area_file area)) _ h.refusal judged z) z
+  refused_file k e z = refused k (then_refused (closed unnumbered_fields (area_file area)) _ k e z) z
 
-  module _ (ok : h.refusal ≡ 0) where
-    pub file_accepted : unnumbered_judge (area_file area) ≡ 0
-    file_accepted = sym judged ∙ ok
-
-    all_said : h ≡ record { refusal = 0; p = (decode (area_file area)).p; n = (decode (area_file area)).n; a = (decode (area_file area)).a; b = (decode (area_file area)).b }
-    all_said = said ∙ unnumbered_header_accepted (area_file area) file_accepted
-
+  -- n, a and b are what the header of the area's file says
+  module _ (file_accepted : unnumbered_judge (area_file area) ≡ 0) {n a b : ℕ} (n_is : n ≡ (decode (area_file area)).n) (a_is : a ≡ (decode (area_file area)).a) (b_is : b ≡ (decode (area_file area)).b) where
     -- r is the edit that the bytes name
     module _ {r : NamedEdit} (named : EditRead bs r) where
       pub refused_bytes : r.refusal ≢ 0 → EditAreaCall area bs r.refusal area
@@ -54,7 +45,7 @@ module _ (area : List ℕ) (bs : List ℕ) {h : Header} (said : h ≡ unnumbered
         is_named = named.is_edit ∙ accepted_value r.refusal named.is_refusal good (edit_of bs) (take_off 0)
 
         -- w is the number of the columns present, and k what the edit's own tests say
-        module _ {w k : ℕ} (shown : w ≡ number (take room_bytes (take set_bytes area))) (own : k ≡ own_refusal h.n h.b w (meant r.edit)) where
+        module _ {w k : ℕ} (shown : w ≡ number (take room_bytes (take set_bytes area))) (own : k ≡ own_refusal n b w (meant r.edit)) where
           is_shown : w ≡ number (take set_bytes area)
           is_shown = shown ∙ part_shown set_bytes area (omega arith)
 
@@ -62,7 +53,8 @@ module _ (area : List ℕ) (bs : List ℕ) {h : Header} (said : h ≡ unnumbered
           unfolding area_open
           own_is =
               own
-              ∙ ap₂ (λ (x : Header) (v : ℕ). own_refusal x.n x.b v (meant r.edit)) all_said is_shown
+              ∙ ap₂ (λ (x y : ℕ). own_refusal x y w (meant r.edit)) n_is b_is
+              ∙ ap (λ (v : ℕ). own_refusal (decode (area_file area)).n (decode (area_file area)).b v (meant r.edit)) is_shown
               ∙ ap (own_refusal (decode (area_file area)).n (decode (area_file area)).b (number (take set_bytes area))) is_named
               ∙ own_same (area_open area) (number (take set_bytes area)) refl (edit_of bs)
 
@@ -81,14 +73,14 @@ module _ (area : List ℕ) (bs : List ℕ) {h : Header} (said : h ≡ unnumbered
             row_passed = (then_zero (row_tests (area_open area) (edit_of bs)) _ (sym own_is ∙ passed)).0
 
             -- there is room for what it changes
-            pub edit_room : (h.n ≤ most_columns) × (h.a ≤ most_rows) × EditRoom h.n h.a area (meant r.edit)
+            pub edit_room : (n ≤ most_columns) × (a ≤ most_rows) × EditRoom n a area (meant r.edit)
             edit_room =
                 let v = held_valid area bytes file_accepted in
                 let inside = edit_inside area bytes file_accepted (edit_of bs) row_passed in
-                rw (all_said, is_named) (v.n_most, v.a_most, inside)
+                rw (n_is, a_is, is_named) (v.n_most, v.a_most, inside)
 
             -- and it gives the bytes of what is held after it
-            pub edit_made : {area' : List ℕ} → area' ≡ bytes_done h.n h.a w area (meant r.edit) → EditAreaCall area bs 0 area'
+            pub edit_made : {area' : List ℕ} → area' ≡ bytes_done n a w area (meant r.edit) → EditAreaCall area bs 0 area'
             edit_made e =
                 let z = sym after_file ∙ passed in
                 record {
@@ -96,7 +88,8 @@ module _ (area : List ℕ) (bs : List ℕ) {h : Header} (said : h ≡ unnumbered
                   if_refused = λ y. absurd (y z);
                   if_accepted = λ _.
                       e
-                      ∙ ap₂ (λ (x : Header) (v : ℕ). bytes_done x.n x.a v area (meant r.edit)) all_said is_shown
+                      ∙ ap₂ (λ (x y : ℕ). bytes_done x y w area (meant r.edit)) n_is a_is
+                      ∙ ap (λ (v : ℕ). bytes_done (decode (area_file area)).n (decode (area_file area)).a v area (meant r.edit)) is_shown
                       ∙ ap (bytes_done (decode (area_file area)).n (decode (area_file area)).a (number (take set_bytes area)) area) is_named
                       ∙ edit_held area bytes file_accepted (edit_of bs) row_passed;
                 }

@@ -10,7 +10,7 @@ use Rattle.format.specs.Refusals.{Tests, unless, ◌then◌, first_refusal, colu
 use Rattle.format.specs.File.Piece.{closed}
 use Rattle.format.specs.File.Format.{FileModel, parameter_size, fields, decode, encode, handed_over}
 use Rattle.format.specs.File.Unnumbered.{unnumbered_fields, row_start}
-use Rattle.layered.specs.declared.Answer.{Answer}
+use Rattle.layered.specs.Shown.{Answer}
 use Rattle.layered.specs.Answers.{RankCall, Refused, Answered}
 use Rattle.host.specs.AreaCall.{AreaCall}
 use Rattle.open_models.specs.Open.{Open, opened, Edit, take_off, put_back, set_place, clear_place, present_test, own_tests, done, open_model}

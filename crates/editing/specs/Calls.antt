@@ -5,12 +5,14 @@ use Rattle.counting.specs.Sets.{Set}
 use Rattle.columns.specs.Columns.{width, members, word_of}
 use Rattle.columns.specs.ColumnSets.{whole, empty_set, row_numbers}
 use Rattle.columns.specs.declared.ColumnSet.{ColumnSet}
+use Rattle.models.specs.Lent.{constants_lent, rows_lent, numbers_lent}
+use Rattle.models.specs.declared.LentModel.{LentModel}
 use Rattle.format.specs.Refusals.{where_accepted, refusal}
-use Rattle.layered.specs.declared.Answer.{Answer}
+use Rattle.layered.specs.Shown.{Answer}
 use Rattle.layered.specs.Answers.{RankCall, Refused, Answered}
 use Rattle.open_models.specs.Open.{Open, opened, edit_refusal, answer_refusal, after, open_model}
 use Rattle.editing.specs.Edits.{meant, words_done}
-use Rattle.editing.specs.declared.Held.{Held}
+use Rattle.editing.specs.Shown.{Held}
 use Rattle.editing.specs.declared.edit.Edit.{Edit}
 
 -- what is held, with the columns of a set present
@@ -36,3 +38,10 @@ pub record EditCall (p n a b : ℕ) (cs words : List ℕ) (s : ColumnSet) (e : E
 -- the answer: that of the model over the columns present
 abbrev pub AnswerCall : (p n a b : ℕ) (cs ws : List ℕ) → ColumnSet → Answer → Type 0
 AnswerCall p n a b cs ws s r = RankCall (answer_refusal (held p n a b cs ws s)) r.refusal (Refused r) (Answered (open_model (held p n a b cs ws s)) r)
+
+-- opening and the answer, of a model that is lent
+abbrev pub OpenModelCall : LentModel → Held → Type 0
+OpenModelCall m r = OpenCall m.p m.n m.a m.b (constants_lent m) (rows_lent m) (numbers_lent m) r
+
+abbrev pub AnswerModelCall : LentModel → ColumnSet → Answer → Type 0
+AnswerModelCall m s r = AnswerCall m.p m.n m.a m.b (constants_lent m) (rows_lent m) s r

@@ -8,7 +8,7 @@ use Rattle.open_models.specs.Open as Open
 use Rattle.open_models.specs.Open.{take_off, put_back, set_place, clear_place, row_tests, presence_tests, own_tests, present_done}
 use Rattle.editing.specs.declared.edit.Edit.{Edit}
 use Rattle.editing.specs.declared.edit.Edit.TheVariants.{TakeOff, PutBack, SetPlace, ClearPlace}
-use Rattle.editing.specs.declared.edit.NamedEdit.{NamedEdit}
+use Rattle.editing.specs.Shown.{NamedEdit}
 
 -- what each of the code's edits means
 abbrev pub meant : Edit → Open.Edit

@@ -3,7 +3,9 @@
 ghost use Rattle.std.specs.Prelude.{◌≡◌, ◌+◌, ◌≤◌, length};
 ghost use Rattle.limits.specs.Limits.{most_columns, most_rows, set_bytes};
 ghost use Rattle.columns.specs.ColumnSets.{whole};
+ghost use Rattle.format.specs.Refused.{refusal_of};
 ghost use Rattle.format.specs.File.Unnumbered.{unnumbered_judge, row_start};
+ghost use Rattle.layered.specs.Shown.{answer_shown};
 ghost use Rattle.editing.specs.Edits.{meant, place_done};
 ghost use Rattle.editing.specs.Areas.{area_file, row_done, bytes_done, EditRoom, OpenAreaCall, EditAreaCall, AnswerAreaCall};
 
@@ -11,8 +13,8 @@ use crate::edit;
 use crate::edit::Edit;
 use columns::{ColumnSet, MOST_WORDS};
 use format::fields::{HEAD_BYTES, PRIME_BYTES, SIZES_BYTES, parameter_size};
-use format::{put_set, put_set_front, read_unnumbered_header, refusals};
-use layered::{Answer, offered_rank, refuse};
+use format::{Refusal, put_set, put_set_front, read_unnumbered_header};
+use layered::{Answer, offered_rank};
 use limits::{MOST_CONSTANTS, SET_BYTES};
 use loader::read_rows;
 use writer::write_file;
@@ -28,42 +30,29 @@ fn file_in(area: &[u8]) -> &[u8]
     &area[SET_BYTES..]
 }
 
-// The refusal of the file in an area, or 0.
-pub fn judge_area(area: &[u8]) -> u32
-    ensures { result ≡ unnumbered_judge (area_file area.now) }
+// Why the file in an area is refused, if it is.
+pub fn judge_area(area: &[u8]) -> Result<(), Refusal>
+    ensures { refusal_of result ≡ unnumbered_judge (area_file area.now) }
 {
-    read_unnumbered_header(file_in(area)).refusal
+    read_unnumbered_header(file_in(area))?;
+    Ok(())
 }
 
 // The model of a file, opened in an area.
-pub fn open_area(file: &[u8], area: &mut [u8]) -> u32
-    ensures { OpenAreaCall file.now area.old result area.new }
+pub fn open_area(file: &[u8], area: &mut [u8]) -> Result<(), Refusal>
+    ensures { OpenAreaCall file.now area.old (refusal_of result) area.new }
 {
     let mut constants = [0u16; MOST_CONSTANTS];
     let mut parameters = [0u64; MOST_WORDS];
-    let sizes = read_rows(file, &mut constants, &mut parameters);
-    if sizes.refusal != 0 {
-        return sizes.refusal;
-    }
+    let sizes = read_rows(file, &mut constants, &mut parameters)?;
     if area.len() < SET_BYTES {
-        return refusals::AREA_SHORT;
+        return Err(Refusal::AreaShort);
     }
     // from here on the model has no numbers
-    let written = write_file(
-        sizes.p,
-        sizes.n,
-        sizes.a,
-        sizes.b,
-        &constants,
-        &parameters,
-        false,
-        &[],
-        &mut area[SET_BYTES..],
-    );
-    if written.refusal != 0 {
-        return written.refusal;
-    }
-    put_set(area, columns::below(sizes.n))
+    let model = sizes.model(&constants, &parameters);
+    write_file(&model, &mut area[SET_BYTES..])?;
+    put_set(area, ColumnSet::below(sizes.n));
+    Ok(())
 }
 
 // The set with or without a column.
@@ -71,9 +60,9 @@ fn changed(set: ColumnSet, c: usize, value: bool) -> ColumnSet
     ensures { whole result ≡ place_done (whole set) c value }
 {
     if value {
-        return columns::with(set, c);
+        return set.with(c);
     }
-    columns::without(set, c)
+    set.without(c)
 }
 
 // Where in the area the body of parameter row r starts.
@@ -91,7 +80,7 @@ fn change_place(area: &mut [u8], at: usize, size: usize, c: usize, value: bool)
     ensures { area.new ≡ row_done at size area.old c value }
 {
     let end = at + size;
-    let row = columns::of_bytes(&area[at..end]);
+    let row = ColumnSet::of_bytes(&area[at..end]);
     put_set_front(&mut area[at..], changed(row, c, value), size);
 }
 
@@ -117,50 +106,32 @@ fn change_bytes(area: &mut [u8], n: usize, a: usize, present: ColumnSet, edit: E
 }
 
 // An edit, in bytes, of the model in an area.
-pub fn edit_area(area: &mut [u8], bytes: &[u8]) -> u32
-    ensures { EditAreaCall area.old bytes.now result area.new }
+pub fn edit_area(area: &mut [u8], bytes: &[u8]) -> Result<(), Refusal>
+    ensures { EditAreaCall area.old bytes.now (refusal_of result) area.new }
 {
-    let header = read_unnumbered_header(file_in(area));
-    if header.refusal != 0 {
-        return header.refusal;
-    }
-    let named = edit::read_edit(bytes);
-    if named.refusal != 0 {
-        return named.refusal;
-    }
-    let made = named.edit;
-    let n = header.n as usize;
-    let present = columns::of_bytes(&area[..SET_BYTES]);
-    let own = edit::judge_edit(n, header.b as usize, present, made);
-    if own != 0 {
-        return own;
-    }
-    change_bytes(area, n, header.a as usize, present, made);
-    0
+    let header = read_unnumbered_header(file_in(area))?;
+    let made = edit::read_edit(bytes)?;
+    let n = usize::from(header.n);
+    let present = ColumnSet::of_bytes(&area[..SET_BYTES]);
+    edit::judge_edit(n, usize::from(header.b), present, made)?;
+    change_bytes(area, n, usize::from(header.a), present, made);
+    Ok(())
 }
 
 // The answer to the model in an area, over the columns present.
-pub fn answer_area(area: &[u8]) -> Answer
-    ensures { AnswerAreaCall area.now result }
+pub fn answer_area(area: &[u8]) -> Result<Answer, Refusal>
+    ensures { AnswerAreaCall area.now (answer_shown result) }
 {
     let file = file_in(area);
     let mut constants = [0u16; MOST_CONSTANTS];
     let mut parameters = [0u64; MOST_WORDS];
-    let sizes = read_rows(file, &mut constants, &mut parameters);
-    if sizes.refusal != 0 {
-        return refuse(read_unnumbered_header(file).refusal);
+    if let Ok(sizes) = read_rows(file, &mut constants, &mut parameters) {
+        if !sizes.numbered {
+            let present = ColumnSet::of_bytes(&area[..SET_BYTES]);
+            return offered_rank(&sizes.model(&constants, &parameters), present);
+        }
     }
-    if sizes.numbered {
-        return refuse(read_unnumbered_header(file).refusal);
-    }
-    let present = columns::of_bytes(&area[..SET_BYTES]);
-    offered_rank(
-        sizes.p,
-        sizes.n,
-        sizes.a,
-        sizes.b,
-        present,
-        &constants,
-        &parameters,
-    )
+    // a field of numbers is not due here
+    read_unnumbered_header(file)?;
+    unreachable!()
 }

@@ -1,12 +1,14 @@
 // Edits of an open model: what each names, how it is judged, and what it changes.
 ghost use Rattle.std.specs.Prelude.{◌≡◌};
 ghost use Rattle.columns.specs.ColumnSets.{whole};
+ghost use Rattle.format.specs.Refused.{refusal_of};
 ghost use Rattle.format.specs.Refusals.{unless, first_refusal, row_beyond, already_so, row_test};
 ghost use Rattle.open_models.specs.Open.{column_of};
+ghost use Rattle.editing.specs.Shown.{edit_shown};
 ghost use Rattle.editing.specs.Edits.{meant, own_refusal, row_refusal, presence_refusal, words_done, columns_done, EditNamed, EditRead};
 
 use columns::ColumnSet;
-use format::refusals;
+use format::Refusal;
 
 // A column is taken off or put back; a place, by its row and its column, is set or cleared.
 #[derive(Clone, Copy)]
@@ -15,13 +17,6 @@ pub enum Edit {
     PutBack(usize),
     SetPlace(usize, usize),
     ClearPlace(usize, usize),
-}
-
-// The refusal or 0, and an edit.
-#[derive(Clone, Copy)]
-pub struct NamedEdit {
-    pub refusal: u32,
-    pub edit: Edit,
 }
 
 // The kinds of edits, by number.
@@ -48,63 +43,58 @@ fn named_column(edit: Edit) -> usize
     }
 }
 
-// 9 where row i is not one of b.
-fn judge_row(i: usize, b: usize) -> u32
-    ensures { result ≡ first_refusal (unless (row_test i b) row_beyond) }
+// Whether row i is one of b.
+fn judge_row(i: usize, b: usize) -> Result<(), Refusal>
+    ensures { refusal_of result ≡ first_refusal (unless (row_test i b) row_beyond) }
 {
     if i < b {
-        return 0;
+        Ok(())
+    } else {
+        Err(Refusal::RowBeyond)
     }
-    refusals::ROW_BEYOND
 }
 
-// 9 where an edit names a row that is not one of b.
-fn judge_named_row(b: usize, edit: Edit) -> u32
-    ensures { result ≡ row_refusal b (meant edit) }
+// Whether the row that an edit names is one of b.
+fn judge_named_row(b: usize, edit: Edit) -> Result<(), Refusal>
+    ensures { refusal_of result ≡ row_refusal b (meant edit) }
 {
     match edit {
         Edit::SetPlace(r, _) => judge_row(r, b),
         Edit::ClearPlace(r, _) => judge_row(r, b),
-        Edit::TakeOff(_) => 0,
-        Edit::PutBack(_) => 0,
+        Edit::TakeOff(_) => Ok(()),
+        Edit::PutBack(_) => Ok(()),
     }
 }
 
-// 14 where a column is taken off that is out, or put back that is in.
-fn judge_presence(present: ColumnSet, edit: Edit) -> u32
-    ensures { result ≡ presence_refusal (whole present) (meant edit) }
+// Whether a column that is taken off is in, and one that is put back out.
+fn judge_presence(present: ColumnSet, edit: Edit) -> Result<(), Refusal>
+    ensures { refusal_of result ≡ presence_refusal (whole present) (meant edit) }
 {
     match edit {
-        Edit::TakeOff(c) => judge_is(columns::contains(present, c)),
-        Edit::PutBack(c) => judge_is(!columns::contains(present, c)),
-        Edit::SetPlace(_, _) => 0,
-        Edit::ClearPlace(_, _) => 0,
+        Edit::TakeOff(c) => judge_is(present.contains(c)),
+        Edit::PutBack(c) => judge_is(!present.contains(c)),
+        Edit::SetPlace(_, _) => Ok(()),
+        Edit::ClearPlace(_, _) => Ok(()),
     }
 }
 
-// 14 unless it is so.
-fn judge_is(so: bool) -> u32
-    ensures { result ≡ first_refusal (unless so already_so) }
+// Whether it is so.
+fn judge_is(so: bool) -> Result<(), Refusal>
+    ensures { refusal_of result ≡ first_refusal (unless so already_so) }
 {
-    if so {
-        return 0;
-    }
-    refusals::ALREADY_SO
+    if so { Ok(()) } else { Err(Refusal::AlreadySo) }
 }
 
-// The refusal of an edit of a model that is judged, or 0.
-pub fn judge_edit(n: usize, b: usize, present: ColumnSet, edit: Edit) -> u32
-    ensures { result ≡ own_refusal n b (whole present) (meant edit) }
+// Why an edit of a model that is judged is refused, if it is.
+pub fn judge_edit(n: usize, b: usize, present: ColumnSet, edit: Edit) -> Result<(), Refusal>
+    ensures { refusal_of result ≡ own_refusal n b (whole present) (meant edit) }
 {
-    let row = judge_named_row(b, edit);
-    if row != 0 {
-        return row;
-    }
+    judge_named_row(b, edit)?;
     if named_column(edit) >= n {
-        return refusals::COLUMN_BEYOND;
+        return Err(Refusal::ColumnBeyond);
     }
-    if !columns::within(present, n) {
-        return refusals::COLUMN_BEYOND;
+    if !present.within(n) {
+        return Err(Refusal::ColumnBeyond);
     }
     judge_presence(present, edit)
 }
@@ -114,8 +104,8 @@ pub fn changed_columns(present: ColumnSet, edit: Edit) -> ColumnSet
     ensures { whole result ≡ columns_done (whole present) (meant edit) }
 {
     match edit {
-        Edit::TakeOff(c) => columns::without(present, c),
-        Edit::PutBack(c) => columns::with(present, c),
+        Edit::TakeOff(c) => present.without(c),
+        Edit::PutBack(c) => present.with(c),
         Edit::SetPlace(_, _) => present,
         Edit::ClearPlace(_, _) => present,
     }
@@ -127,11 +117,11 @@ pub fn change_rows(words: &mut [u64], edit: Edit)
 {
     match edit {
         Edit::SetPlace(r, c) => {
-            let row = columns::with(columns::row(words, r), c);
+            let row = columns::row(words, r).with(c);
             columns::put_row(words, r, row);
         }
         Edit::ClearPlace(r, c) => {
-            let row = columns::without(columns::row(words, r), c);
+            let row = columns::row(words, r).without(c);
             columns::put_row(words, r, row);
         }
         Edit::TakeOff(_) => {}
@@ -139,44 +129,25 @@ pub fn change_rows(words: &mut [u64], edit: Edit)
     }
 }
 
-// An edit that is not refused.
-fn accept(edit: Edit) -> NamedEdit
-    ensures { (result.refusal ≡ 0) × (result.edit ≡ edit) }
+// The edit of a kind, a row and a column.
+pub fn name_edit(kind: u8, row: usize, column: usize) -> Result<Edit, Refusal>
+    ensures { EditNamed kind row column (edit_shown result) }
 {
-    NamedEdit { refusal: 0, edit }
-}
-
-// The edit of a kind, a row and a column, or 2 where there is no such kind.
-pub fn name_edit(kind: u8, row: usize, column: usize) -> NamedEdit
-    ensures { EditNamed kind row column result }
-{
-    if kind == TAKE_OFF {
-        return accept(Edit::TakeOff(column));
-    }
-    if kind == PUT_BACK {
-        return accept(Edit::PutBack(column));
-    }
-    if kind == SET_PLACE {
-        return accept(Edit::SetPlace(row, column));
-    }
-    if kind == CLEAR_PLACE {
-        return accept(Edit::ClearPlace(row, column));
-    }
-    NamedEdit {
-        refusal: refusals::UNEXPECTED,
-        edit: Edit::TakeOff(0),
+    match kind {
+        TAKE_OFF => Ok(Edit::TakeOff(column)),
+        PUT_BACK => Ok(Edit::PutBack(column)),
+        SET_PLACE => Ok(Edit::SetPlace(row, column)),
+        CLEAR_PLACE => Ok(Edit::ClearPlace(row, column)),
+        _ => Err(Refusal::Unexpected),
     }
 }
 
-// The edit in bytes: 1 where they are too few, 2 where there is no such kind. Bytes behind it are not read.
-pub fn read_edit(bytes: &[u8]) -> NamedEdit
-    ensures { EditRead bytes.now result }
+// The edit in bytes. Bytes behind it are not read.
+pub fn read_edit(bytes: &[u8]) -> Result<Edit, Refusal>
+    ensures { EditRead bytes.now (edit_shown result) }
 {
     if bytes.len() < EDIT_BYTES {
-        return NamedEdit {
-            refusal: refusals::TRUNCATED,
-            edit: Edit::TakeOff(0),
-        };
+        return Err(Refusal::Truncated);
     }
-    name_edit(bytes[0], bytes[1] as usize, bytes[2] as usize)
+    name_edit(bytes[0], usize::from(bytes[1]), usize::from(bytes[2]))
 }

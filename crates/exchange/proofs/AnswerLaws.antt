@@ -26,7 +26,7 @@ use Rattle.rank.proofs.Layered.ColumnOrder.{placed_below}
 use Rattle.rank.proofs.Layered.Offers.{finished, StateAnswers, state_answers}
 use Rattle.exchange.specs.Solution.{shown_row, shown, ShowsRow, Solved}
 use Rattle.exchange.specs.Code.Scanning.{owner_at}
-use Rattle.exchange.specs.Code.Searching.{Ended, Final, Searched}
+use Rattle.exchange.specs.Code.Searching.{Ended, Final}
 use Rattle.exchange.proofs.SearchingLaws.{in_last}
 use Rattle.exchange.specs.Code.Held.{Given, model_of}
 use Rattle.exchange.specs.Code.Offering.{Offered-all}
@@ -111,20 +111,15 @@ module _ (p n a b : ℕ) (ws : List ℕ) (G : Given p n b ws) (t o : List ℕ) (
         and_in ((m x).1 (l, w.1)) (not_of (in_set x) (λ k. (unplaced_iff s x).0 w.0 ((d.are_placed x).0 k).1))
 
     -- the last search finds no free row
-    search_final : (column q depth : ℕ) (reached : Set) → Searched s missing column q depth reached → Final s missing reached
-    search_final column q depth reached f = elim (dec_lt q (a + b)) [
-      | no nl ↦ f.1 (omega arith)
-      | yes l ↦
-          let e : Ended s missing column q depth = f.0 l in
-          let k : column ∈ layer s (open_columns M s d.held.good) n = in_last s (open_columns M s d.held.good) depth column (layer_within s missing (open_columns M s d.held.good) missing_open depth column e.below e.inside) in
-          absurd ((finished M d.held.s d.held.good d.all_offered).no_terminal column e.below
-          ((reach_iff M s d.held.good column).0 (reach_open M s d.held.good column e.below ∙ k)).1
-          (q, e.is_row, (e.is_free, e.touches)))
-    ]
+    pub no_free_row : (column q depth : ℕ) → Ended s missing column q depth → ⊥
+    no_free_row column q depth e =
+        let k : column ∈ layer s (open_columns M s d.held.good) n = in_last s (open_columns M s d.held.good) depth column (layer_within s missing (open_columns M s d.held.good) missing_open depth column e.below e.inside) in
+        (finished M d.held.s d.held.good d.all_offered).no_terminal column e.below
+        ((reach_iff M s d.held.good column).0 (reach_open M s d.held.good column e.below ∙ k)).1
+        (q, e.is_row, (e.is_free, e.touches))
 
-    short_is : (column q depth : ℕ) (reached : Set) → Searched s missing column q depth reached → (x : ℕ) → reached x ≡ short M x
-    short_is column q depth reached f x =
-        let v : Final s missing reached = search_final column q depth reached f in
+    short_is : (reached : Set) → Final s missing reached → (x : ℕ) → reached x ≡ short M x
+    short_is reached v x =
         iff_eq (reached x) (short M x)
         (λ e.
         let k : x ∈ layer s missing n = (v.same x).0 e in
@@ -216,12 +211,11 @@ module _ (p n a b : ℕ) (ws : List ℕ) (G : Given p n b ws) (t o : List ℕ) (
         )
       ]
 
-      pub solved : (column q depth : ℕ) (reached : Set) → Searched s missing column q depth reached
-          → Solved M (# width in_set) in_set side reached rows
-      solved column q depth reached f = record {
+      pub solved : (reached : Set) → Final s missing reached → Solved M (# width in_set) in_set side reached rows
+      solved reached f = record {
         is_rank = rank_is hn;
         is_placed = placed_is;
-        is_short = short_is column q depth reached f;
+        is_short = short_is reached f;
         is_legal = rw shown_is the_answer.is_legal;
         places_it = λ x. rw shown_is (elim (dec_lt x n) [
           | yes l ↦ the_answer.places_it x l

@@ -11,3 +11,4 @@ pub mod ArcLaws
 pub mod ReachLaws
 pub mod ReadingLaws
 pub mod ReductionLaws
+mod StateLaws

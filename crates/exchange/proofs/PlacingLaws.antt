@@ -2,25 +2,31 @@
 use Prim.Native.Nat.{ℕ, suc, ◌+◌, ◌-◌, ◌≤◌, ◌<◌}
 use mathlib.Core.Path.{◌≡◌, sym, ◌∙◌, fun_ext}
 use mathlib.Core.Logic.{inl, inr}
-use mathlib.Core.Bool.{false≢true}
+use mathlib.Core.Bool.{true, false, true≢false, false≢true}
 use mathlib.Core.List.{List}
 use native.Mathlib.Omega.{arith}
-use native.Mathlib.Decide.{dec_lt, dec_le}
+use native.Mathlib.Decide.{dec_le}
 use Rattle.counting.specs.Bools.{iff_eq}
 use Rattle.counting.specs.Sets.{Set, ◌∈◌}
-use Rattle.columns.specs.Columns.{width, members, none, inserted}
-use Rattle.columns.specs.ColumnSets.{whole}
+use Rattle.columns.specs.Columns.{width, none, inserted}
 use Rattle.columns.specs.Words.SetLaws.{inserted_same, inserted_split}
 use Rattle.rank.specs.Graph.States.{State, Placed, Terminal, SamePlaced, moved_placed}
 use Rattle.rank.specs.Graph.Layers.{layer_start, layer_placed}
 use Rattle.rank.specs.Graph.Search.{Hit, fall}
 use Rattle.rank.proofs.Layered.Augmenting.{only, only_iff, OneMore, entered_more}
+use Rattle.columns.specs.declared.ColumnSet.{ColumnSet}
 use Rattle.exchange.specs.declared.search.Found.{Found}
+use Rattle.exchange.specs.declared.search.Found.TheVariants.{Free, Reached}
 use Rattle.exchange.specs.Code.Scanning.{Arrays, touched, owner_at}
 use Rattle.exchange.specs.Code.Searching.{Shows, Ended, Searched}
-use Rattle.exchange.proofs.SearchingLaws.{in_last}
+use Rattle.exchange.specs.Code.Placing.{Placing}
 use Rattle.exchange.specs.Code.Held.{Given, Held, Vacated, Taken, Sat}
 use Rattle.exchange.proofs.HeldLaws.{vacated_other, held_shows, Seated, seat_held}
+
+-- how many turns are left where a search has ended so
+abbrev pub steps : Found → ℕ
+steps (Free column row depth) = suc depth
+steps (Reached reached) = 0
 
 -- the set of column j alone, as the code makes it
 pub only_inserted : (j : ℕ) → j < width → inserted none j ≡ only j
@@ -35,11 +41,9 @@ pub same_placed_trans : {n N : ℕ} (s r u : State n N) → SamePlaced s r → S
 same_placed_trans s r u e f z l = (λ w. (f z l).0 ((e z l).0 w), λ w. (e z l).1 ((f z l).1 w))
 
 -- after a move there is a terminal one layer nearer, so the next search ends there or before
-pub nearer : {n N : ℕ} (s : State n N) (S : Set) (i column row depth : ℕ) (reached : Set) → Hit s S i → Searched s S column row depth reached → (row < N) × (depth ≤ i)
-nearer {n} {N} s S i column row depth reached t f = elim (dec_lt row N) [
-  | yes l ↦ (l, elim (dec_le depth i) [ yes d ↦ d | no nd ↦ absurd ((f.0 l).no_earlier i (omega arith) t) ])
-  | no nl ↦ absurd ((f.1 (omega arith)).is_closed.no_terminal t.0 t.1 (in_last s S i t.0 t.2.0) t.2.1)
-]
+pub nearer : {n N : ℕ} (s : State n N) (S : Set) (i : ℕ) (f : Found) → Hit s S i → Searched s S f → steps f ≤ suc i
+nearer s S i (Free column row depth) t d = elim (dec_le depth i) [ yes l ↦ omega arith | no nl ↦ absurd (d.no_earlier i (omega arith) t) ]
+nearer s S i (Reached reached) t d = omega arith
 
 module _ (p n a b : ℕ) (ws : List ℕ) (G : Given p n b ws) (S : Set) (t o t' o' : List ℕ) (w : Arrays p n a b t o) (h : Held p n a b ws G t o) where
   -- a column found in a later layer moves
@@ -81,24 +85,16 @@ first_is s j x q depth l d =
 
 -- what a search from j says of every state that the arrays show
 pub record Seeks (n a b : ℕ) (ws : List ℕ) (j : ℕ) (t o : List ℕ) (f : Found) : Type 0 where
-  pub says : (E : Set) (s : State n (a + b)) → Shows E s (touched a t ws) (owner_at o) → j ∈ E → Searched s (only j) f.column f.row f.depth (members (whole f.reached))
+  pub says : (E : Set) (s : State n (a + b)) → Shows E s (touched a t ws) (owner_at o) → j ∈ E → Searched s (only j) f
 
 pub seeks : {n a b : ℕ} {ws : List ℕ} {j : ℕ} {t o : List ℕ} (f : Found) (start : Set) → j < n → n ≤ width → start ≡ inserted none j
-    → ((E : Set) (s : State n (a + b)) → Shows E s (touched a t ws) (owner_at o) → ((y : ℕ) → y ∈ start → (y < n) × (y ∈ E)) → Searched s start f.column f.row f.depth (members (whole f.reached)))
+    → ((E : Set) (s : State n (a + b)) → Shows E s (touched a t ws) (owner_at o) → ((y : ℕ) → y ∈ start → (y < n) × (y ∈ E)) → Searched s start f)
     → Seeks n a b ws j t o f
 seeks {j = j} f start l w e found = record {
   says = λ E s h i.
       let same : start ≡ only j = e ∙ only_inserted j (omega arith) in
       rw same at (found E s h (λ y m. let d : y ≡ j = (only_iff j y).0 (rw same at m) in rw d (l, i)));
 }
-
--- it has found a column with a free row
-pub record Finds (n a b : ℕ) (ws : List ℕ) (j : ℕ) (t o : List ℕ) (f : Found) : Type 0 where
-  pub at_row : f.row < a + b
-  pub ended : (E : Set) (s : State n (a + b)) → Shows E s (touched a t ws) (owner_at o) → j ∈ E → Ended s (only j) f.column f.row f.depth
-
-pub finds : {n a b : ℕ} {ws : List ℕ} {j : ℕ} {t o : List ℕ} {f : Found} → f.row < a + b → Seeks n a b ws j t o f → Finds n a b ws j t o f
-finds l R = record { at_row = l; ended = λ E s h e. (R.says E s h e).0 l }
 
 -- the arrays t and o hold a state that places what the first did
 pub record Holds (p n a b : ℕ) (ws : List ℕ) (j : ℕ) (t₀ o₀ t o : List ℕ) : Type 0 where
@@ -107,28 +103,34 @@ pub record Holds (p n a b : ℕ) (ws : List ℕ) (j : ℕ) (t₀ o₀ t o : List
 pub holds_first : {p n a b : ℕ} {ws : List ℕ} {j : ℕ} {t o : List ℕ} → Holds p n a b ws j t o t o
 holds_first = record { now_held = λ G h e. (h, same_placed_refl h.s) }
 
-module _ {p n a b : ℕ} {ws : List ℕ} {j : ℕ} {t₀ o₀ t o : List ℕ} {f : Found} (w : Arrays p n a b t o) (F : Finds n a b ws j t o f) (H : Holds p n a b ws j t₀ o₀ t o) where
-  found_at : (G : Given p n b ws) (h : Held p n a b ws G t₀ o₀) (e : j ∈ G.E) → Ended (H.now_held G h e).0.s (only j) f.column f.row f.depth
-  found_at G h e = F.ended G.E (H.now_held G h e).0.s (held_shows p n a b ws G t o w (H.now_held G h e).0) e
+module _ {p n a b : ℕ} {ws : List ℕ} {j : ℕ} {t₀ o₀ t o : List ℕ} (w : Arrays p n a b t o) (H : Holds p n a b ws j t₀ o₀ t o) where
+  -- what the search found, of the state that is held
+  says_held : {f : Found} → Seeks n a b ws j t o f → (G : Given p n b ws) (h : Held p n a b ws G t₀ o₀) (e : j ∈ G.E) → Searched (H.now_held G h e).0.s (only j) f
+  says_held R G h e = R.says G.E (H.now_held G h e).0.s (held_shows p n a b ws G t o w (H.now_held G h e).0) e
 
-  pub found_below : (G : Given p n b ws) → Held p n a b ws G t₀ o₀ → j ∈ G.E → f.column < n
-  found_below G h e = (found_at G h e).below
+  -- nothing that is reached has a free row
+  pub blocked : {reached : ColumnSet} → Seeks n a b ws j t o (Reached reached) → (G : Given p n b ws) (h : Held p n a b ws G t₀ o₀) → j ∈ G.E → Placing p n a b ws G t₀ o₀ t o j false h
+  blocked R G h e = ((H.now_held G h e).0, (λ d. absurd (false≢true d)), λ d. ((H.now_held G h e).1, (says_held R G h e).is_closed))
 
-  -- one turn: the column found is seated, and the next search from j ends nearer
-  module _ {t' o' : List ℕ} {f' : Found} (w' : Arrays p n a b t' o') (pos : 0 < f.depth) (d : Sat p n a (a + b) f.column f.row t o t' o') (R : Seeks n a b ws j t' o' f') where
-    turned : (G : Given p n b ws) (h : Held p n a b ws G t₀ o₀) (e : j ∈ G.E) → (h' : Held p n a b ws G t' o') × SamePlaced (H.now_held G h e).0.s h'.s × Hit h'.s (only j) (f.depth - 1)
-    turned G h e = moves_nearer p n a b ws G (only j) t o t' o' w (H.now_held G h e).0 f.column f.row f.depth pos (found_at G h e) d
+  module _ {x q depth : ℕ} (R : Seeks n a b ws j t o (Free x q depth)) where
+    pub found_below : (G : Given p n b ws) → Held p n a b ws G t₀ o₀ → j ∈ G.E → (x < n) × (q < a + b)
+    found_below G h e = let d = says_held R G h e in (d.below, d.is_row)
 
-    pub turn_holds : Holds p n a b ws j t₀ o₀ t' o'
-    turn_holds = record { now_held = λ G h e. let v = turned G h e in (v.0, same_placed_trans h.s (H.now_held G h e).0.s v.0.s (H.now_held G h e).1 v.1) }
+    -- one turn: the column found is seated, and the next search from j ends nearer
+    module _ {t' o' : List ℕ} (pos : 0 < depth) (d : Sat p n a (a + b) x q t o t' o') where
+      turned : (G : Given p n b ws) (h : Held p n a b ws G t₀ o₀) (e : j ∈ G.E) → (h' : Held p n a b ws G t' o') × SamePlaced (H.now_held G h e).0.s h'.s × Hit h'.s (only j) (depth - 1)
+      turned G h e = moves_nearer p n a b ws G (only j) t o t' o' w (H.now_held G h e).0 x q depth pos (says_held R G h e) d
 
-    pub turn_nearer : (G : Given p n b ws) → Held p n a b ws G t₀ o₀ → j ∈ G.E → (f'.row < a + b) × (f'.depth < f.depth)
-    turn_nearer G h e =
-        let v = turned G h e in
-        let m : (f'.row < a + b) × (f'.depth ≤ f.depth - 1) = nearer v.0.s (only j) (f.depth - 1) f'.column f'.row f'.depth _ v.2 (R.says G.E v.0.s (held_shows p n a b ws G t' o' w' v.0) e) in
-        (m.0, omega arith)
+      pub turn_holds : Holds p n a b ws j t₀ o₀ t' o'
+      turn_holds = record { now_held = λ G h e. let v = turned G h e in (v.0, same_placed_trans h.s (H.now_held G h e).0.s v.0.s (H.now_held G h e).1 v.1) }
 
-  -- at the end j itself takes the row
-  pub last_turn : (t' o' : List ℕ) → f.depth ≤ 0 → Taken p n a j f.row t o t' o' → (G : Given p n b ws) (h : Held p n a b ws G t₀ o₀) → j ∈ G.E → (Placed h.s j → ⊥)
-      → (h' : Held p n a b ws G t' o') × OneMore h.s h'.s j
-  last_turn t' o' l d G h e new = enters p n a b ws G (only j) t o t' o' w (H.now_held G h e).0 h.s j f.row (H.now_held G h e).1 new (first_is (H.now_held G h e).0.s j f.column f.row f.depth l (found_at G h e)) d
+      pub turn_nearer : {f' : Found} → Arrays p n a b t' o' → Seeks n a b ws j t' o' f' → (G : Given p n b ws) → Held p n a b ws G t₀ o₀ → j ∈ G.E → steps f' ≤ depth
+      turn_nearer {f'} w' R' G h e =
+          let v = turned G h e in
+          omega (arith, nearer v.0.s (only j) (depth - 1) f' v.2 (R'.says G.E v.0.s (held_shows p n a b ws G t' o' w' v.0) e))
+
+    -- at the end j itself takes the row
+    pub last_turn : (t' o' : List ℕ) → depth ≡ 0 → Taken p n a j q t o t' o' → (G : Given p n b ws) (h : Held p n a b ws G t₀ o₀) → j ∈ G.E → (Placed h.s j → ⊥) → Placing p n a b ws G t₀ o₀ t' o' j true h
+    last_turn t' o' l d G h e new =
+        let w = enters p n a b ws G (only j) t o t' o' w (H.now_held G h e).0 h.s j q (H.now_held G h e).1 new (first_is (H.now_held G h e).0.s j x q depth (omega arith) (says_held R G h e)) d in
+        (w.0, (λ z. w.1), λ z. absurd (true≢false z))

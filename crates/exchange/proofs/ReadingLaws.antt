@@ -6,9 +6,8 @@ use mathlib.Core.Bool.{true, false, not}
 use mathlib.Core.List.{List}
 use native.Mathlib.Omega.{arith}
 use native.Mathlib.Nat.{mod-eq_of_lt}
-use native.Mathlib.Decide.{ℕ_discrete, dec_lt}
-use lib.ListN.{get_or, set, replicate, get_or-replicate, length-replicate, length-set, get_or-eq_default}
-use lib.Seq.{get_or-set_same, get_or-set_other}
+use native.Mathlib.Decide.{dec_lt}
+use lib.ListN.{get_or, replicate, get_or-replicate, length-replicate, get_or-eq_default}
 use Rattle.limits.specs.Limits.{most_columns}
 use Rattle.residue.specs.Arithmetic.{Prime, is_prime}
 use Rattle.residue.specs.Residues.{num_of, num_of_res}
@@ -25,21 +24,20 @@ use Rattle.rank.specs.Graph.States.{State, Placed, placed_of, placed_iff}
 use Rattle.rank.specs.Layered.Model.{Model}
 use Rattle.rank.proofs.Layered.Assignments.{offered_owner}
 use Rattle.rank.proofs.Layered.Offers.{state_answers}
-use Rattle.dependence.specs.Multipliers.{depends, multiplier, outcome, given}
+use Rattle.dependence.specs.Multipliers.{depends, multiplier, given}
 use Rattle.dependence.specs.TableauLaws.{owned_columns_independent, state_owns}
 use Rattle.dependence.proofs.NumberLaws.{multiplier_not_held, multiplier_none, outcome_dependent, none_given, outcome_depends, outcome_independent, multiplier_given}
 use Rattle.dependence.specs.ListingLaws.{listed, zeros_listed}
 use Rattle.dependence.proofs.Theorems.{held_all_placed, state_shows_multipliers, state_shows_independence}
 use Rattle.exchange.specs.Sizes.{stride}
-use Rattle.exchange.specs.DependenceCall.{NoMultipliers, DependenceShown}
+use Rattle.exchange.specs.DependenceCall.{DependenceShown}
 use Rattle.exchange.specs.Code.Cells.{cell, Below}
 use Rattle.exchange.specs.Code.Scanning.{owner_at}
 use Rattle.exchange.specs.Code.Held.{Given, model_of}
 use Rattle.exchange.specs.Code.Offering.{Offered-all}
 use Rattle.exchange.specs.Code.Reading.{FreeZero, Entry, EntriesByOwner}
-use Rattle.exchange.specs.declared.Dependence.{Dependence}
 
--- ---- the entries, row by row
+-- ---- the entries of no row
 
 module _ (n x : ℕ) (t o : List ℕ) where
   zeros_at : (k j : ℕ) → get_or {A = ℕ} (replicate k 0) j 0 ≡ 0
@@ -47,26 +45,6 @@ module _ (n x : ℕ) (t o : List ℕ) where
 
   pub entries_none : EntriesByOwner n 0 x t o (replicate most_columns 0)
   entries_none = record { full = length-replicate {A = ℕ} most_columns 0; each = λ j. inr (zeros_at most_columns j, λ q l. absurd (omega arith)) }
-
-  module _ (k : ℕ) (entries : List ℕ) (h : EntriesByOwner n k x t o entries) where
-    -- the entry of a column that does not own row k
-    kept : (j v : ℕ) → (owner_at o k < n → owner_at o k ≢ j) → Entry n k x t o j v → Entry n (k + 1) x t o j v
-    kept j v apart e = elim e [
-      | inl w ↦ inl (w.0, omega (arith, w.1), w.2)
-      | inr w ↦ inr (w.0, λ q l lo. elim (ℕ_discrete q k) [ yes z ↦ rw z (apart (rw z at lo)) | no nz ↦ w.1 q (omega arith) lo ])
-    ]
-
-    pub entries_more : (y : ℕ) → y ≡ owner_at o k → n ≤ most_columns → y < n → EntriesByOwner n (k + 1) x t o (set entries y (cell t k x))
-    entries_more y ey hn l = record {
-      full = length-set entries y (cell t k x) ∙ h.full;
-      each = λ j. elim (ℕ_discrete j y) [
-        | yes z ↦ inl (k, omega arith, (rw (sym ey) l, sym ey ∙ sym z, rw z (get_or-set_same entries y (cell t k x) 0 (omega (arith, h.full)))))
-        | no nz ↦ rw (get_or-set_other entries y j (cell t k x) 0 nz) (kept j (get_or entries j 0) (λ lo z. nz (sym z ∙ sym ey)) (h.each j))
-      ];
-    }
-
-    pub entries_skip : n ≤ owner_at o k → EntriesByOwner n (k + 1) x t o entries
-    entries_skip l = record { full = h.full; each = λ j. kept j (get_or entries j 0) (λ lo z. omega arith) (h.each j) }
 
 -- ---- held columns that are not among the placed ones
 
@@ -112,12 +90,12 @@ module _ (p n a : ℕ) (prime : is_prime p ≡ true) (ws t o : List ℕ) (G : Gi
             ∙ held_all_placed M G.E below ((independent_iff q P a n G.Q G.E).0 i) y l ∙ e),
       )))
 
-  pub held_columns_dependent : (y : ℕ) → y ∈ G.E → (y ∈ in_set → ⊥) → (r : Dependence) → NoMultipliers 2 r → DependenceShown p n a G.Q G.E x r.outcome r.multipliers
-  held_columns_dependent y e out r w =
+  pub held_columns_dependent : (y : ℕ) → y ∈ G.E → (y ∈ in_set → ⊥) → DependenceShown p n a G.Q G.E x 2 (replicate most_columns 0)
+  held_columns_dependent y e out =
       let i = held_dependent y e out in
       record {
-        outcome_is = w.outcome_is ∙ sym (outcome_dependent q P a n G.Q G.E x i);
-        multipliers_are = w.none_given ∙ zeros_listed most_columns _ (λ j l. none_given q P a n G.Q G.E x i j);
+        outcome_is = sym (outcome_dependent q P a n G.Q G.E x i);
+        multipliers_are = zeros_listed most_columns _ (λ j l. none_given q P a n G.Q G.E x i j);
       }
 
   -- all held columns are placed
@@ -135,15 +113,15 @@ module _ (p n a : ℕ) (prime : is_prime p ≡ true) (ws t o : List ℕ) (G : Gi
         (owned_columns_independent G.Q d.held.good.P s.owner d.held.good.kernel d.held.good.tableau G.E owns)
 
     -- the column is not zero in a free row
-    pub column_independent : Some a (λ h. (n ≤ owner_at o h) × (cell t h x ≢ 0)) → (r : Dependence) → NoMultipliers 0 r → DependenceShown p n a G.Q G.E x r.outcome r.multipliers
-    column_independent f r w =
+    pub column_independent : Some a (λ h. (n ≤ owner_at o h) × (cell t h x ≢ 0)) → DependenceShown p n a G.Q G.E x 0 (replicate most_columns 0)
+    column_independent f =
         let h : ℕ = f.0 in
         let no_dependence : depends q P a n G.Q G.E x ≡ false
         = state_shows_independence q P n a G.Q G.T G.E below s d.held.good places x lx h f.1 (omega (arith, owner_is h f.1, f.2.0))
         (λ z. f.2.1 ((residue_zero p prime (cell t h x) (bt _)).0 (d.held.cells h x f.1 lx ∙ z))) in
         record {
-          outcome_is = w.outcome_is ∙ sym (outcome_independent q P a n G.Q G.E x held_independent no_dependence);
-          multipliers_are = w.none_given ∙ zeros_listed most_columns _
+          outcome_is = sym (outcome_independent q P a n G.Q G.E x held_independent no_dependence);
+          multipliers_are = zeros_listed most_columns _
               (λ j l. multiplier_given q P a n G.Q G.E x held_independent j ∙ multiplier_none q P a n G.Q G.E x no_dependence j);
         }
 

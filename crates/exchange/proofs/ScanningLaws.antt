@@ -14,9 +14,9 @@ use Rattle.counting.specs.Sets.{Set, ◌∈◌, ◌∪◌, ◌⊆◌}
 use Rattle.counting.specs.Counts.{touching_iff}
 use Rattle.columns.specs.Columns.{width, members, none, inserted}
 use Rattle.columns.specs.ColumnSets.{rows_touching}
-use Rattle.columns.specs.Words.SetLaws.{inserted_split}
+use Rattle.columns.specs.Words.SetLaws.{inserted_same, inserted_old, inserted_split}
 use Rattle.exchange.specs.Code.Cells.{cell}
-use Rattle.exchange.specs.Code.Scanning.{touched, RowRead, RowsRead, Owners, Scanned}
+use Rattle.exchange.specs.Code.Scanning.{touched, RowRead, RowsRead, Owners, AllOwned}
 
 pub touched_constant : (a : ℕ) (t ws : List ℕ) (q x : ℕ) → q < a → touched a t ws q x ≡ not (eqb (cell t q x) 0)
 unfolding touched
@@ -66,14 +66,32 @@ module _ (n N : ℕ) (tch : ℕ → ℕ → Bool) (own : ℕ → ℕ) where
     | inr m ↦ h y m
   ]
 
-  -- what two readings say together, the first of which met no free row
-  pub scanned_both : (front : Set) (a c q d r : ℕ) (more next : Set) → N ≤ q → Scanned n N tch own front a N c q more → Scanned n N tch own front 0 a d r next
-      → Scanned n N tch own front 0 N d r (more ∪ next)
-  scanned_both front a c q d r more next none-met h k = record {
-    at_end = k.at_end;
-    all_read = λ l x e i li mi t. elim (dec_lt i a) [
-      | yes low ↦ let w : (own i < n) × (own i ∈ next) = k.all_read l x e i li low t in (w.0, or_right (more (own i)) (next (own i)) w.1)
-      | no high ↦ let w : (own i < n) × (own i ∈ more) = h.all_read none-met x e i (omega arith) mi t in (w.0, or_left (more (own i)) (next (own i)) w.1)
+  -- what two readings say together
+  pub owned_both : (front : Set) (a : ℕ) (more next : Set) → AllOwned n N tch own front a N more → AllOwned n N tch own front 0 a next → AllOwned n N tch own front 0 N (more ∪ next)
+  owned_both front a more next h k = record {
+    rows = λ x e i li mi t. elim (dec_lt i a) [
+      | yes low ↦ let w : (own i < n) × (own i ∈ next) = k.rows x e i li low t in (w.0, or_right (more (own i)) (next (own i)) w.1)
+      | no high ↦ let w : (own i < n) × (own i ∈ more) = h.rows x e i (omega arith) mi t in (w.0, or_left (more (own i)) (next (own i)) w.1)
     ];
     from = λ y e. elim (or_split (more y) (next y) e) [ inl o ↦ h.from y o | inr f ↦ k.from y f ];
+  }
+
+  -- nothing has been read
+  pub owned_start : (front : Set) (m : ℕ) (next : Set) → next ≡ none → AllOwned n N tch own front m m next
+  owned_start front m next e = record { rows = λ x i k l h. absurd (omega arith); from = rw e (owners_none front) }
+
+  -- row l has been read besides, which touches no column of front and so do those up to k
+  pub owned_past : (front next : Set) (l k m : ℕ) → ((i x : ℕ) → l ≤ i → i < k → x ∈ front → tch i x ≡ true → ⊥) → AllOwned n N tch own front k m next → AllOwned n N tch own front l m next
+  owned_past front next l k m apart h = record {
+    rows = λ x e i li mi t. elim (dec_lt i k) [ yes lk ↦ absurd (apart i x li lk e t) | no nk ↦ h.rows x e i (omega arith) mi t ];
+    from = h.from;
+  }
+
+  -- or touches x in front, and is owned
+  pub owned_more : (front next : Set) (x q m : ℕ) → n ≤ width → x ∈ front → q < N → tch q x ≡ true → own q < n → AllOwned n N tch own front (q + 1) m next
+      → AllOwned n N tch own front q m (inserted next (own q))
+  owned_more front next x q m hn i l e o h = record {
+    rows = λ z f. rows_down (inserted next (own q)) z q m (λ t. (o, inserted_same next (own q) (omega arith)))
+        (rows_kept next (inserted next (own q)) z (q + 1) m (inserted_old next (own q)) (h.rows z f));
+    from = owners_more front next x q h.from i l e o;
   }

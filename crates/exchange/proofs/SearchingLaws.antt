@@ -14,7 +14,7 @@ use Rattle.columns.specs.Words.SetLaws.{nothing_in}
 use Rattle.rank.specs.Graph.States.{State, Terminal, Arc}
 use Rattle.rank.specs.Graph.Layers.{ArcClosed, layer, layer_start, layer_next, grow, grow_old, grow_arc, grow_split, stable}
 use Rattle.rank.specs.Graph.Search.{Hit}
-use Rattle.exchange.specs.Code.Scanning.{Owner, Scanned}
+use Rattle.exchange.specs.Code.Scanning.{Owner, FreeRow, AllOwned}
 use Rattle.exchange.specs.Code.Searching.{Shows, Ended, Final}
 
 module _ {n N : ℕ} (s : State n N) (S : Set) where
@@ -66,25 +66,23 @@ module _ {n N : ℕ} (s : State n N) (S : Set) where
       no_earlier = λ k l. absurd (omega arith);
     }
 
-    module _ {tch : ℕ → ℕ → Bool} {own : ℕ → ℕ} (h : Shows E s tch own) (reached front : Set) (depth column row : ℕ) (next : Set) (r : Reaching reached front depth)
-        (d : Scanned n N tch own front 0 N column row next) where
-      pub ended : row < N → Ended s S column row depth
-      ended l =
-          let w : (column ∈ front) × (tch row column ≡ true) × (n ≤ own row) = d.at_end l in
-          let b : (column < n) × (column ∈ E) = r.below column (r.ahead column w.0) in
+    module _ {tch : ℕ → ℕ → Bool} {own : ℕ → ℕ} (h : Shows E s tch own) {reached front : Set} {depth : ℕ} (r : Reaching reached front depth) where
+      pub ended : (column row : ℕ) → FreeRow n N tch own front column row → Ended s S column row depth
+      ended column row w =
+          let b : (column < n) × (column ∈ E) = r.below column (r.ahead column w.inside) in
           record {
             below = b.0;
-            is_row = l;
-            inside = (r.same column).0 (r.ahead column w.0);
-            is_free = omega (arith, h.owner row l);
-            touches = sym (h.touch row column l b.0 b.1) ∙ w.1;
+            is_row = w.below;
+            inside = (r.same column).0 (r.ahead column w.inside);
+            is_free = omega (arith, h.owner row w.below, w.is_free);
+            touches = sym (h.touch row column w.below b.0 b.1) ∙ w.touches;
             no_earlier = r.no_earlier;
           }
 
-      module _ (free-of-ends : N ≤ row) where
+      module _ {next : Set} (d : AllOwned n N tch own front 0 N next) where
         -- what has been read of a column in front
         read_rows : (x q : ℕ) → x ∈ front → q < N → s.touch q x ≡ true → (own q < n) × (own q ∈ next)
-        read_rows x q e l t = let b : (x < n) × (x ∈ E) = r.below x (r.ahead x e) in d.all_read free-of-ends x e q (omega arith) l (h.touch q x l b.0 b.1 ∙ t)
+        read_rows x q e l t = let b : (x < n) × (x ∈ E) = r.below x (r.ahead x e) in d.rows x e q (omega arith) l (h.touch q x l b.0 b.1 ∙ t)
 
         no_terminal : (x : ℕ) → x ∈ front → Terminal s x → ⊥
         no_terminal x e t = omega (arith, (read_rows x t.0 e t.1 t.2.1).0, h.owner t.0 t.1)

@@ -4,6 +4,7 @@ pub mod Cells
 pub mod Scanning
 pub mod Searching
 pub mod Held
+pub mod State
 pub mod Placing
 pub mod Offering
 pub mod Answer

@@ -4,19 +4,18 @@
 // an entry that stands at its level. Code outside sees four calls.
 #![tactic(auto)]
 
-ghost use Rattle.std.specs.Prelude.{◌≡◌, ◌↔◌, true, false, ℕ, ◌<◌, ◌≤◌, replicate};
-ghost use Rattle.limits.specs.Limits.{most_columns, most_rows};
-ghost use Rattle.residue.specs.Arithmetic.{is_prime, InverseTable};
+ghost use Rattle.std.specs.Prelude.{◌≡◌, ◌↔◌, true, ℕ, ◌<◌};
+ghost use Rattle.residue.specs.Arithmetic.{InverseTable};
 ghost use Rattle.rank.specs.Modulus.{field_of};
 ghost use Rattle.counting.specs.Sets.{◌∈◌};
 ghost use Rattle.columns.specs.Columns.{members, within};
-ghost use Rattle.columns.specs.ColumnSets.{most_words, whole, row_numbers};
-ghost use Rattle.exchange.specs.Solve.{Nothing, SolvedBy, Solves};
-ghost use Rattle.exchange.specs.DependenceCall.{NoMultipliers, DependenceShown, DependenceCall};
+ghost use Rattle.columns.specs.ColumnSets.{whole};
+ghost use Rattle.exchange.specs.Solve.{SolvedBy, Solves};
+ghost use Rattle.exchange.specs.DependenceCall.{outcome_of, multipliers_of, DependenceShown, DependenceCall};
 ghost use Rattle.exchange.specs.ReachCall.{ReachShown, ReachCall};
 ghost use Rattle.exchange.specs.Reduction.{ReduceCall};
-ghost use Rattle.exchange.specs.Code.Cells.{TableauArray};
-ghost use Rattle.exchange.specs.Code.Held.{Given, model_of, ShowsRows, ShowsConstants};
+ghost use Rattle.exchange.specs.Code.Held.{model_of, ShowsRows, ShowsConstants};
+ghost use Rattle.exchange.specs.Code.State.{rows_of, Fresh, Completed};
 
 mod admission;
 mod arcs;
@@ -26,18 +25,20 @@ mod reduction;
 mod search;
 mod seating;
 mod sizes;
+mod state;
 mod tableau;
 
 use columns::{ColumnSet, MOST_WORDS};
-use limits::{MOST_COLUMNS, MOST_ROWS, NO_COLUMN};
-use residue::LISTED_PRIME;
+use limits::{MOST_COLUMNS, MOST_ROWS};
+use models::LentModel;
+use search::Found;
 use sizes::{CELLS, LINES};
+use state::{Admitted, State};
 
 // The answer to a layered model: its rank, the placed columns, those of them on the constant side, the short set, and the column
-// of each parameter row (`NO_COLUMN` for none). Where the model is not valid, nothing.
+// of each parameter row (`NO_COLUMN` for none).
 #[derive(Drop)]
 pub struct Solution {
-    pub valid: bool,
     pub rank: usize,
     pub placed: ColumnSet,
     pub constants: ColumnSet,
@@ -45,43 +46,20 @@ pub struct Solution {
     pub rows: [u8; MOST_ROWS],
 }
 
-fn nothing() -> Solution
-    ensures { (result.valid ≡ false) × Nothing result }
+// The answer over a state in which nothing has been offered.
+fn answer(state: &mut State, model: &Admitted, offered: ColumnSet) -> Solution
+    requires { Fresh model.now state.old × (within model.now.n (whole offered) ≡ true) }
+    ensures { (G : Completed model.now) → ShowsConstants model.now.p model.now.n model.now.a model.now.b (rows_of model.now) G state.old.cells → ((x : ℕ) → (x ∈ members (whole offered)) ↔ ((x < model.now.n) × (x ∈ G.E))) → SolvedBy (model_of model.now.p model.now.n model.now.a model.now.b (rows_of model.now) G) result }
 {
+    let placed = offering::offer_all(state, model, offered);
+    let missing = offered.difference(placed);
+    let Found::Reached(short) = search::search(state, model, missing) else {
+        unreachable!()
+    };
+    let rank = placed.size();
+    let side = offering::constant_side(state, model);
+    let rows = offering::row_columns(state, model);
     Solution {
-        valid: false,
-        rank: 0,
-        placed: columns::empty(),
-        constants: columns::empty(),
-        short: columns::empty(),
-        rows: [NO_COLUMN; MOST_ROWS],
-    }
-}
-
-// The answer over a filled tableau and parameter rows, with a table of inverses, which may be empty.
-fn answer(
-    t: &mut [u16; CELLS],
-    parameters: &[u64],
-    inverses: &[u16],
-    p: u16,
-    n: usize,
-    a: usize,
-    b: usize,
-    offered: ColumnSet,
-) -> Solution
-    requires { TableauArray p t.old × InverseTable p inverses.now × (n ≤ most_columns) × (a ≤ most_rows) × (b ≤ most_rows) × (within n (whole offered) ≡ true) × (is_prime p ≡ true) }
-    ensures { (result.valid ≡ true) × ((G : Given p n b (row_numbers parameters.now)) → ShowsConstants p n a b (row_numbers parameters.now) G t.old → ((x : ℕ) → (x ∈ members (whole offered)) ↔ ((x < n) × (x ∈ G.E))) → SolvedBy (model_of p n a b (row_numbers parameters.now) G) result) }
-{
-    let mut owner = [n as u8; LINES];
-    let placed = offering::offer_all(t, &mut owner, parameters, inverses, p, n, a, b, offered);
-    let missing = columns::difference(offered, placed);
-    let f = search::search(t, &owner, parameters, n, a, a + b, missing);
-    let rank = columns::size(placed);
-    let side = offering::constant_side(&owner, n, a);
-    let rows = offering::row_columns(&owner, n, a, b);
-    let short = f.reached;
-    Solution {
-        valid: true,
         rank,
         placed,
         constants: side,
@@ -90,175 +68,142 @@ fn answer(
     }
 }
 
-// The answer to the model of p, n, a, b, the constants row by row and the parameter rows, with the columns of a set offered.
-pub fn solve(
-    p: u32,
-    n: usize,
-    a: usize,
-    b: usize,
-    offered: ColumnSet,
-    constants: &[u16],
-    parameters: &[u64],
-) -> Solution
-    ensures { Solves p n a b offered constants.now (row_numbers parameters.now) result }
+// The answer to a model, with the columns of a set offered; none where the model is not admissible.
+pub fn solve(model: &LentModel, offered: ColumnSet) -> Option<Solution>
+    ensures { Solves model.now offered result }
 {
-    if !admission::is_admissible(p, n, a, b, offered, constants, parameters) {
-        return nothing();
+    if !admission::is_admissible(model, offered) {
+        return None;
     }
-    let mut t = [0u16; CELLS];
-    tableau::fill(&mut t, constants, n, a);
-    if p == LISTED_PRIME {
-        let inverses = residue::listed_inverses();
-        return answer(&mut t, parameters, &inverses, p as u16, n, a, b, offered);
-    }
-    answer(&mut t, parameters, &[], p as u16, n, a, b, offered)
+    let admitted = Admitted {
+        p: model.p as u16,
+        n: model.n,
+        a: model.a,
+        b: model.b,
+        parameters: model.parameters,
+        inverses: residue::inverses_of(model.p),
+    };
+    let mut state = State {
+        cells: [0; CELLS],
+        owner: [model.n as u8; LINES],
+    };
+    tableau::fill(&mut state.cells, model.constants, model.n, model.a);
+    Some(answer(&mut state, &admitted, offered))
 }
 
-// How a column depends on held columns: 2, these are dependent themselves, whatever the column; 1, the column depends on them; 0, it
-// does not. And the multiplier of each column, 0 where none is given. Where the call is not taken, the outcome is 0 and so is each
-// multiplier.
+// How a column depends on held columns: it does not; it does, with a multiplier for each column, 0 where it is not held; or they are
+// dependent themselves, whatever the column.
 #[derive(Drop)]
-pub struct Dependence {
-    pub valid: bool,
-    pub outcome: u8,
-    pub multipliers: [u16; MOST_COLUMNS],
+pub enum Dependence {
+    Independent,
+    DependsOn([u16; MOST_COLUMNS]),
+    HeldDependent,
 }
 
-// An outcome that gives no multipliers.
-fn without_multipliers(valid: bool, outcome: u8) -> Dependence
-    ensures { (result.valid ≡ valid) × NoMultipliers outcome result }
+impl Dependence {
+    // The number of the outcome: 2 where the held columns are dependent, 1 where the column depends on them, 0 where it does not.
+    pub fn outcome(&self) -> u8
+        ensures { result ≡ outcome_of self.now }
+    {
+        match self {
+            Dependence::Independent => 0,
+            Dependence::DependsOn(_) => 1,
+            Dependence::HeldDependent => 2,
+        }
+    }
+
+    // The multiplier of each column, 0 where none is given.
+    pub fn multipliers(&self) -> [u16; MOST_COLUMNS]
+        ensures { result ≡ multipliers_of self.now }
+    {
+        match self {
+            Dependence::DependsOn(multipliers) => *multipliers,
+            _ => [0; MOST_COLUMNS],
+        }
+    }
+}
+
+// How the column x depends on the held columns, over a state in which nothing has been offered and a model without parameter rows:
+// these columns are placed, and what the tableau then has in the column is read off.
+fn read_column(state: &mut State, model: &Admitted, held: ColumnSet, x: usize) -> Dependence
+    requires { Fresh model.now state.old × (model.now.b ≡ 0) × (within model.now.n (whole held) ≡ true) × (x < model.now.n) }
+    ensures { (Q : ℕ → ℕ → (field_of model.now.p).F) → ShowsRows model.now.p model.now.n model.now.a Q state.old.cells → DependenceShown model.now.p model.now.n model.now.a Q (members (whole held)) x (outcome_of result) (multipliers_of result) }
 {
-    Dependence {
-        valid,
-        outcome,
-        multipliers: [0; MOST_COLUMNS],
+    let placed = offering::offer_all(state, model, held);
+    let missing = held.difference(placed);
+    if !missing.is_empty() {
+        return Dependence::HeldDependent;
     }
+    if !reading::is_zero_where_free(state, model, x) {
+        return Dependence::Independent;
+    }
+    Dependence::DependsOn(reading::entries_by_owner(state, model, x))
 }
 
-// How the column x depends on the held columns, over a filled tableau, with a table of inverses, which may be empty: these columns are
-// placed on the constant rows alone, and what the tableau then has in the column is read off.
-fn read_column(
-    t: &mut [u16; CELLS],
-    inverses: &[u16],
-    p: u16,
-    n: usize,
-    a: usize,
-    held: ColumnSet,
-    x: usize,
-) -> Dependence
-    requires { TableauArray p t.old × InverseTable p inverses.now × (n ≤ most_columns) × (a ≤ most_rows) × (within n (whole held) ≡ true) × (is_prime p ≡ true) × (x < n) }
-    ensures { (result.valid ≡ true) × ((Q : ℕ → ℕ → (field_of p).F) → ShowsRows p n a Q t.old → DependenceShown p n a Q (members (whole held)) x result.outcome result.multipliers) }
+// How the column x depends on the held columns, over the constants of a model, whose parameter rows play no part; none where the
+// constants are not admissible, or the column is not below n.
+pub fn column_dependence(model: &LentModel, held: ColumnSet, x: usize) -> Option<Dependence>
+    ensures { DependenceCall model.now held x result }
 {
-    let mut owner = [n as u8; LINES];
-    let placed = offering::offer_all(t, &mut owner, &[], inverses, p, n, a, 0, held);
-    let missing = columns::difference(held, placed);
-    if !columns::is_empty(missing) {
-        return without_multipliers(true, 2);
+    if !admission::is_askable(model, held, x) {
+        return None;
     }
-    if !reading::is_zero_where_free(t, &owner, n, a, x) {
-        return without_multipliers(true, 0);
-    }
-    let multipliers = reading::entries_by_owner(t, &owner, n, a, x);
-    Dependence {
-        valid: true,
-        outcome: 1,
-        multipliers,
-    }
+    let admitted = Admitted {
+        p: model.p as u16,
+        n: model.n,
+        a: model.a,
+        b: 0,
+        parameters: &[],
+        inverses: residue::inverses_of(model.p),
+    };
+    let mut state = State {
+        cells: [0; CELLS],
+        owner: [model.n as u8; LINES],
+    };
+    tableau::fill(&mut state.cells, model.constants, model.n, model.a);
+    Some(read_column(&mut state, &admitted, held, x))
 }
 
-// How the column x depends on the held columns, by p, n, a and the constants row by row.
-pub fn column_dependence(
-    p: u32,
-    n: usize,
-    a: usize,
-    held: ColumnSet,
-    x: usize,
-    constants: &[u16],
-) -> Dependence
-    ensures { DependenceCall p n a held x constants.now result }
+// What reaches each column, over a state in which nothing has been offered. A column that touches a free row is put before all, and
+// every column before those that are not placed.
+fn reach_rows(state: &mut State, model: &Admitted, offered: ColumnSet) -> [u64; MOST_WORDS]
+    requires { Fresh model.now state.old × (within model.now.n (whole offered) ≡ true) }
+    ensures { (G : Completed model.now) → ShowsConstants model.now.p model.now.n model.now.a model.now.b (rows_of model.now) G state.old.cells → ((x : ℕ) → (x ∈ members (whole offered)) ↔ ((x < model.now.n) × (x ∈ G.E))) → ReachShown (model_of model.now.p model.now.n model.now.a model.now.b (rows_of model.now) G) result }
 {
-    if !admission::is_admissible(p, n, a, 0, held, constants, &[]) {
-        return without_multipliers(false, 0);
-    }
-    if x >= n {
-        return without_multipliers(false, 0);
-    }
-    let mut t = [0u16; CELLS];
-    tableau::fill(&mut t, constants, n, a);
-    if p == LISTED_PRIME {
-        let inverses = residue::listed_inverses();
-        return read_column(&mut t, &inverses, p as u16, n, a, held, x);
-    }
-    read_column(&mut t, &[], p as u16, n, a, held, x)
-}
-
-// What reaches each column in the final state. Row x of the area, of an offered column: x itself, every column from which arcs lead to
-// x, every column from which they lead to a free row and, where arcs lead to x from an unplaced column, every offered one. These are the
-// columns that share the block of x or must come before it. The other rows are empty, and all are where the call is not taken.
-#[derive(Drop)]
-pub struct Reach {
-    pub valid: bool,
-    pub rows: [u64; MOST_WORDS],
-}
-
-fn no_reach() -> Reach
-    ensures { (result.valid ≡ false) × (result.rows ≡ replicate most_words 0) }
-{
-    Reach {
-        valid: false,
-        rows: [0; MOST_WORDS],
-    }
-}
-
-// What reaches each column, over a filled tableau and parameter rows, with a table of inverses, which may be empty. A column that
-// touches a free row is put before all, and every column before those that are not placed.
-fn reach_rows(
-    t: &mut [u16; CELLS],
-    parameters: &[u64],
-    inverses: &[u16],
-    p: u16,
-    n: usize,
-    a: usize,
-    b: usize,
-    offered: ColumnSet,
-) -> Reach
-    requires { TableauArray p t.old × InverseTable p inverses.now × (n ≤ most_columns) × (a ≤ most_rows) × (b ≤ most_rows) × (within n (whole offered) ≡ true) × (is_prime p ≡ true) }
-    ensures { (result.valid ≡ true) × ((G : Given p n b (row_numbers parameters.now)) → ShowsConstants p n a b (row_numbers parameters.now) G t.old → ((x : ℕ) → (x ∈ members (whole offered)) ↔ ((x < n) × (x ∈ G.E))) → ReachShown (model_of p n a b (row_numbers parameters.now) G) result.rows) }
-{
-    let mut owner = [n as u8; LINES];
-    let placed = offering::offer_all(t, &mut owner, parameters, inverses, p, n, a, b, offered);
-    let missing = columns::difference(offered, placed);
+    let placed = offering::offer_all(state, model, offered);
+    let missing = offered.difference(placed);
     let mut rows = [0u64; MOST_WORDS];
     relation::join(&mut rows, missing, offered);
-    let ends = arcs::link(t, &owner, parameters, n, a, a + b, offered, &mut rows);
+    let ends = arcs::link(state, model, offered, &mut rows);
     relation::join(&mut rows, offered, ends);
     relation::close(&mut rows, offered);
-    Reach { valid: true, rows }
+    rows
 }
 
-// What reaches each column of the model of p, n, a, b, the constants row by row and the parameter rows, with the columns of a set
-// offered.
-pub fn column_reach(
-    p: u32,
-    n: usize,
-    a: usize,
-    b: usize,
-    offered: ColumnSet,
-    constants: &[u16],
-    parameters: &[u64],
-) -> Reach
-    ensures { ReachCall p n a b offered constants.now (row_numbers parameters.now) result }
+// What reaches each column of a model in the final state, with the columns of a set offered; none where the model is not admissible.
+// Row x of the area, of an offered column: x itself, every column from which arcs lead to x, every column from which they lead to a
+// free row and, where arcs lead to x from an unplaced column, every offered one. These are the columns that share the block of x or
+// must come before it. The other rows are empty.
+pub fn column_reach(model: &LentModel, offered: ColumnSet) -> Option<[u64; MOST_WORDS]>
+    ensures { ReachCall model.now offered result }
 {
-    if !admission::is_admissible(p, n, a, b, offered, constants, parameters) {
-        return no_reach();
+    if !admission::is_admissible(model, offered) {
+        return None;
     }
-    let mut t = [0u16; CELLS];
-    tableau::fill(&mut t, constants, n, a);
-    if p == LISTED_PRIME {
-        let inverses = residue::listed_inverses();
-        return reach_rows(&mut t, parameters, &inverses, p as u16, n, a, b, offered);
-    }
-    reach_rows(&mut t, parameters, &[], p as u16, n, a, b, offered)
+    let admitted = Admitted {
+        p: model.p as u16,
+        n: model.n,
+        a: model.a,
+        b: model.b,
+        parameters: model.parameters,
+        inverses: residue::inverses_of(model.p),
+    };
+    let mut state = State {
+        cells: [0; CELLS],
+        owner: [model.n as u8; LINES],
+    };
+    tableau::fill(&mut state.cells, model.constants, model.n, model.a);
+    Some(reach_rows(&mut state, &admitted, offered))
 }
 
 // The constants, row by row, after each row has been reduced at its first entry that stands at its level: where a column's weight is
@@ -278,12 +223,15 @@ pub fn reduce(
     }
     let mut t = [0u16; CELLS];
     tableau::fill(&mut t, constants, n, a);
-    if p == LISTED_PRIME {
-        let inverses = residue::listed_inverses();
-        reduction::reduce_rows(&mut t, &inverses, weights, levels, p as u16, n, a);
-    } else {
-        reduction::reduce_rows(&mut t, &[], weights, levels, p as u16, n, a);
-    }
+    let admitted = Admitted {
+        p: p as u16,
+        n,
+        a,
+        b: 0,
+        parameters: &[],
+        inverses: residue::inverses_of(p),
+    };
+    reduction::reduce_rows(&mut t, &admitted, weights, levels);
     tableau::copy_back(&t, constants, n, a);
     true
 }

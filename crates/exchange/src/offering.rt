@@ -1,81 +1,66 @@
 // Offers columns from the least upward, and reads the answer off the seats that they end with.
 ghost use Rattle.std.specs.Prelude.{◌≡◌, ◌≤◌, length};
-ghost use Rattle.limits.specs.Limits.{most_columns, most_rows};
+ghost use Rattle.limits.specs.Limits.{most_rows};
 ghost use Rattle.residue.specs.Arithmetic.{InverseTable};
 ghost use Rattle.columns.specs.Columns.{members};
-ghost use Rattle.columns.specs.ColumnSets.{whole, row_numbers};
-ghost use Rattle.exchange.specs.Sizes.{lines};
-ghost use Rattle.exchange.specs.Code.Scanning.{Arrays};
-ghost use Rattle.exchange.specs.Code.Held.{Given};
+ghost use Rattle.columns.specs.ColumnSets.{whole};
+ghost use Rattle.exchange.specs.Code.State.{rows_of, Roomy, Ready, Completed};
 ghost use Rattle.exchange.specs.Code.Offering.{Offers, Offered-all};
 ghost use Rattle.exchange.specs.Code.Answer.{Side, shown_column, RowsShown};
 
-use crate::sizes::{CELLS, LINES};
-use crate::{search, seating};
+use crate::seating;
+use crate::state::{Admitted, State};
 use columns::ColumnSet;
 use limits::{MOST_ROWS, NO_COLUMN};
 
 // The columns of the set that are placed when all are offered.
-pub fn offer_all(
-    t: &mut [u16; CELLS],
-    owner: &mut [u8; LINES],
-    parameters: &[u64],
-    inverses: &[u16],
-    p: u16,
-    n: usize,
-    a: usize,
-    b: usize,
-    offered: ColumnSet,
-) -> ColumnSet
-    requires { Arrays p n a b t.old owner.old × InverseTable p inverses.now × ((G : Given p n b (row_numbers parameters.now)) × Offers p n a b (row_numbers parameters.now) (members (whole offered)) t.old owner.old G) }
-    ensures { Arrays p n a b t.new owner.new × ((G : Given p n b (row_numbers parameters.now)) → Offers p n a b (row_numbers parameters.now) (members (whole offered)) t.old owner.old G → Offered-all p n a b (row_numbers parameters.now) G t.new owner.new (members (whole result))) }
+pub fn offer_all(state: &mut State, model: &Admitted, offered: ColumnSet) -> ColumnSet
+    requires { Ready model.now state.old × InverseTable model.now.p model.now.inverses.now × ((G : Completed model.now) × Offers model.now.p model.now.n model.now.a model.now.b (rows_of model.now) (members (whole offered)) state.old.cells state.old.owner G) }
+    ensures { Ready model.now state.new × ((G : Completed model.now) → Offers model.now.p model.now.n model.now.a model.now.b (rows_of model.now) (members (whole offered)) state.old.cells state.old.owner G → Offered-all model.now.p model.now.n model.now.a model.now.b (rows_of model.now) G state.new.cells state.new.owner (members (whole result))) }
 {
     let mut rest = offered;
-    let mut placed = columns::empty();
-    while !columns::is_empty(rest) {
-        let j = columns::first(rest);
-        rest = columns::without(rest, j);
-        if seating::place(t, owner, parameters, inverses, p, n, a, b, j) {
-            placed = columns::with(placed, j);
+    let mut placed = ColumnSet::empty();
+    while !rest.is_empty() {
+        let j = rest.first();
+        rest = rest.without(j);
+        if seating::place(state, model, j) {
+            placed = placed.with(j);
         }
     }
     placed
 }
 
 // The columns that own constant rows.
-pub fn constant_side(owner: &[u8; LINES], n: usize, a: usize) -> ColumnSet
-    requires { (length owner.now ≡ lines) × (n ≤ most_columns) × (a ≤ most_rows) }
-    ensures { Side n a owner.now (members (whole result)) }
+pub fn constant_side(state: &State, model: &Admitted) -> ColumnSet
+    requires { Roomy model.now state.now }
+    ensures { Side model.now.n model.now.a state.now.owner (members (whole result)) }
 {
-    let mut side = columns::empty();
-    for q in 0..a {
-        let y = search::widened(owner[q]);
-        if y < n {
-            side = columns::with(side, y);
+    let mut side = ColumnSet::empty();
+    for y in &state.owner[..model.a] {
+        let y = usize::from(*y);
+        if y < model.n {
+            side = side.with(y);
         }
     }
     side
 }
 
 // The column y, or `NO_COLUMN`.
+#[tactic(auto, unfolding(crate::specs::Code::Answer::shown_column))]
 fn column_shown(y: u8, n: usize) -> u8
     ensures { result ≡ shown_column n y }
 {
-    if search::widened(y) < n {
-        return y;
-    }
-    NO_COLUMN
+    if usize::from(y) < n { y } else { NO_COLUMN }
 }
 
 // The column of each parameter row, or `NO_COLUMN`.
-pub fn row_columns(owner: &[u8; LINES], n: usize, a: usize, b: usize) -> [u8; MOST_ROWS]
-    requires { (length owner.now ≡ lines) × (a ≤ most_rows) × (b ≤ most_rows) }
-    ensures { (length result ≡ most_rows) × RowsShown n a b owner.now result }
+pub fn row_columns(state: &State, model: &Admitted) -> [u8; MOST_ROWS]
+    requires { Roomy model.now state.now × (model.now.b ≤ most_rows) }
+    ensures { (length result ≡ most_rows) × RowsShown model.now.n model.now.a model.now.b state.now.owner result }
 {
     let mut rows = [NO_COLUMN; MOST_ROWS];
-    for r in 0..b {
-        let q = a + r;
-        rows[r] = column_shown(owner[q], n);
+    for r in 0..model.b {
+        rows[r] = column_shown(state.owner[model.a + r], model.n);
     }
     rows
 }

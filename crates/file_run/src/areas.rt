@@ -1,6 +1,11 @@
 // Areas that are short by one, just long enough, and longer: what the calls give, and what the areas then hold.
-use crate::{said, sample};
+ghost use Rattle.std.specs.Prelude.{◌≤◌};
+
+use crate::{document_model, said, sample};
+use loader::read_file;
+use models::LentModel;
 use std::io;
+use writer::write_file;
 
 // The document's file has two constants and one parameter row, which an area holds in two words.
 pub fn short(rt: &impl Print) -> io::Result<()> {
@@ -12,14 +17,8 @@ pub fn short(rt: &impl Print) -> io::Result<()> {
     said::label(rt, b"parameters short")?;
     read_into(rt, &file, &mut constants, 2, &mut parameters, 1)?;
     said::label(rt, b"file refused")?;
-    read_into(
-        rt,
-        said::front(&file, 31),
-        &mut constants,
-        3,
-        &mut parameters,
-        4,
-    )
+    let part = said::front(&file, 31);
+    read_into(rt, part, &mut constants, 3, &mut parameters, 4)
 }
 
 pub fn long_enough(rt: &impl Print) -> io::Result<()> {
@@ -39,27 +38,17 @@ pub fn long_enough(rt: &impl Print) -> io::Result<()> {
 fn read_into(
     rt: &impl Print,
     file: &[u8],
-    constants: &mut [u16],
+    constants: &mut [u16; 3],
     k: usize,
-    parameters: &mut [u64],
+    parameters: &mut [u64; 4],
     j: usize,
-) -> io::Result<()> {
-    if constants.len() < k {
-        return Ok(());
-    }
-    if parameters.len() < j {
-        return Ok(());
-    }
-    let mut numbers = [7u16; 1];
-    let r = loader::read_file(
-        file,
-        &mut constants[..k],
-        &mut parameters[..j],
-        &mut numbers[..0],
-    );
-    said::sizes(rt, r)?;
-    said::constants(rt, constants)?;
-    said::parameters(rt, parameters)?;
+) -> io::Result<()>
+    requires { (k ≤ 3) × (j ≤ 4) }
+{
+    let read = read_file(file, &mut constants[..k], &mut parameters[..j], &mut []);
+    said::sizes(rt, read)?;
+    said::numbers(rt, &constants[..])?;
+    said::numbers(rt, &parameters[..])?;
     said::end_line(rt)
 }
 
@@ -77,26 +66,14 @@ pub fn written(rt: &impl Print) -> io::Result<()> {
 }
 
 // The document's model, with p, is written into the first k bytes; the area is printed whole.
-fn write_into(rt: &impl Print, out: &mut [u8], k: usize, p: u32) -> io::Result<()> {
-    if out.len() < k {
-        return Ok(());
-    }
-    let constants = [1u16, 0];
-    let parameters = [2u64, 0];
-    let numbers = [0u16; 1];
-    let w = writer::write_file(
+fn write_into(rt: &impl Print, out: &mut [u8; 33], k: usize, p: u32) -> io::Result<()>
+    requires { k ≤ 33 }
+{
+    let model = LentModel {
         p,
-        2,
-        1,
-        1,
-        &constants,
-        &parameters,
-        false,
-        &numbers[..0],
-        &mut out[..k],
-    );
-    said::number(rt, w.refusal as u64)?;
-    said::number(rt, w.length as u64)?;
-    said::bytes(rt, out)?;
+        ..document_model()
+    };
+    said::length(rt, write_file(&model, &mut out[..k]))?;
+    said::numbers(rt, &out[..])?;
     said::end_line(rt)
 }

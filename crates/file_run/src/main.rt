@@ -2,15 +2,20 @@
 // is computed apart from this program.
 #![tactic(auto)]
 
+ghost use Rattle.std.specs.Prelude.{◌≤◌};
+
 mod areas;
+mod handed;
 mod longest;
-mod models;
 mod numbered;
 mod rows;
 mod said;
 
-use said::{end_line, front, label, number};
+use format::judge_file;
+use models::LentModel;
+use said::{end_line, label, refusal};
 use std::io;
+use writer::write_file;
 
 // The file of document 01: p 1,021, n 2, one constant row 1 0, one parameter row {1}.
 pub fn sample() -> [u8; 32] {
@@ -21,13 +26,20 @@ pub fn sample() -> [u8; 32] {
     ]
 }
 
+static CONSTANTS: [u16; 2] = [1, 0];
+
+static PARAMETERS: [u64; 2] = [2, 0];
+
+// The model of that file.
+pub fn document_model() -> LentModel<'static> {
+    LentModel::unnumbered(1021, 2, 1, 1, &CONSTANTS, &PARAMETERS)
+}
+
 // The refusals of every part that starts the file.
 pub fn prefixes(rt: &impl Print, file: &[u8]) -> io::Result<()> {
     label(rt, b"prefixes")?;
-    let mut k = 0;
-    while k < file.len() {
-        number(rt, format::judge_file(&file[..k]) as u64)?;
-        k = k + 1;
+    for k in 0..file.len() {
+        refusal(rt, judge_file(&file[..k]))?;
     }
     end_line(rt)
 }
@@ -35,116 +47,79 @@ pub fn prefixes(rt: &impl Print, file: &[u8]) -> io::Result<()> {
 // The refusals of the file with one more at each byte in turn, modulo 256.
 pub fn changed(rt: &impl Print, file: &mut [u8]) -> io::Result<()> {
     label(rt, b"changed")?;
-    let mut i = 0;
-    while i < file.len() {
+    for i in 0..file.len() {
         let old = file[i];
-        file[i] = more(old);
-        number(rt, format::judge_file(file) as u64)?;
+        file[i] = old.wrapping_add(1);
+        refusal(rt, judge_file(file))?;
         file[i] = old;
-        i = i + 1;
     }
     end_line(rt)
 }
 
-fn more(x: u8) -> u8 {
-    if x == 255 {
-        return 0;
-    }
-    x + 1
-}
-
-pub fn set_two(file: &mut [u8], at: usize, lo: u8, hi: u8) {
-    if file.len() < 2 {
-        return;
-    }
-    if at <= file.len() - 2 {
-        file[at] = lo;
-        file[at + 1] = hi;
-    }
-}
-
 // The refusal of the document's file with two bytes changed.
-fn with_bytes(rt: &impl Print, at: usize, lo: u8, hi: u8) -> io::Result<()> {
+fn with_bytes(rt: &impl Print, at: usize, pair: [u8; 2]) -> io::Result<()>
+    requires { at ≤ 30 }
+{
     let mut file = sample();
-    set_two(&mut file, at, lo, hi);
-    number(rt, format::judge_file(&file) as u64)
+    file[at..at + 2].copy_from_slice(&pair);
+    refusal(rt, judge_file(&file))
 }
 
 fn primes(rt: &impl Print) -> io::Result<()> {
     label(rt, b"p 1 65535 4 2 65521")?;
-    with_bytes(rt, 3, 1, 0)?;
-    with_bytes(rt, 3, 255, 255)?;
-    with_bytes(rt, 3, 4, 0)?;
-    with_bytes(rt, 3, 2, 0)?;
-    with_bytes(rt, 3, 0xF1, 0xFF)?;
+    for p in [1u16, 65535, 4, 2, 65521] {
+        with_bytes(rt, 3, p.to_le_bytes())?;
+    }
     end_line(rt)
 }
 
 fn sizes(rt: &impl Print) -> io::Result<()> {
     label(rt, b"n 0 97, a 97, b 97")?;
-    with_bytes(rt, 8, 0, 1)?;
-    with_bytes(rt, 8, 97, 1)?;
-    with_bytes(rt, 9, 97, 1)?;
-    with_bytes(rt, 10, 97, 3)?;
+    with_bytes(rt, 8, [0, 1])?;
+    with_bytes(rt, 8, [97, 1])?;
+    with_bytes(rt, 9, [97, 1])?;
+    with_bytes(rt, 10, [97, 3])?;
     end_line(rt)
 }
 
 fn contents(rt: &impl Print) -> io::Result<()> {
     label(rt, b"constant 1020 1021")?;
-    with_bytes(rt, 14, 0xFC, 0x03)?;
-    with_bytes(rt, 14, 0xFD, 0x03)?;
+    with_bytes(rt, 14, [0xFC, 0x03])?;
+    with_bytes(rt, 14, [0xFD, 0x03])?;
     end_line(rt)?;
     label(rt, b"parameter at column n")?;
-    with_bytes(rt, 21, 4, 0)?;
+    with_bytes(rt, 21, [4, 0])?;
     end_line(rt)
 }
 
 // The document's model, written into an area with a byte more than it needs: the bytes before the last are the document's file.
 fn one_byte_more(rt: &impl Print) -> io::Result<()> {
-    let constants = [1u16, 0];
-    let parameters = [2u64, 0];
-    let mut out = [0u8; 33];
-    let numbers = [0u16; 1];
-    let w = writer::write_file(
-        1021,
-        2,
-        1,
-        1,
-        &constants,
-        &parameters,
-        false,
-        &numbers[..0],
-        &mut out,
-    );
-    label(rt, b"written")?;
-    number(rt, w.refusal as u64)?;
-    number(rt, w.length as u64)?;
-    end_line(rt)?;
-    longer_file(rt, &out)
-}
-
-fn longer_file(rt: &impl Print, out: &[u8]) -> io::Result<()> {
     let file = sample();
-    label(rt, b"same bytes")?;
-    number(rt, check::same(&file, front(out, 32)) as u64)?;
+    let mut out = [0u8; 33];
+    let written = write_file(&document_model(), &mut out);
+    label(rt, b"written")?;
+    said::length(rt, written)?;
     end_line(rt)?;
+    println!(rt;
+        "same bytes: {}",
+        check::same(&file, said::front(&out, 32)) as u8
+    )?;
     label(rt, b"one byte more")?;
-    number(rt, format::judge_file(out) as u64)?;
+    refusal(rt, judge_file(&out))?;
     end_line(rt)?;
     label(rt, b"empty")?;
-    number(rt, format::judge_file(front(out, 0)) as u64)?;
+    refusal(rt, judge_file(&[]))?;
     end_line(rt)
 }
 
 // The document's file, its prefixes, and one byte changed in it at a time.
 fn document_file(rt: &impl Print) -> io::Result<()> {
-    let file = sample();
+    let mut file = sample();
     label(rt, b"file")?;
-    number(rt, format::judge_file(&file) as u64)?;
+    refusal(rt, judge_file(&file))?;
     end_line(rt)?;
     prefixes(rt, &file)?;
-    let mut other = sample();
-    changed(rt, &mut other)
+    changed(rt, &mut file)
 }
 
 fn rows_of_document(rt: &impl Print) -> io::Result<()> {
@@ -163,7 +138,7 @@ fn main(rt: HostRuntime) -> io::Result<()> {
     areas::long_enough(&rt)?;
     areas::written(&rt)?;
     rows_of_document(&rt)?;
-    models::handed_over(&rt)?;
+    handed::handed_over(&rt)?;
     numbered::small(&rt)?;
     longest::unnumbered(&rt)?;
     longest::numbered(&rt)

@@ -1,9 +1,12 @@
 -- The entries of a row's body one by one, as loops read, test and write them. Assumes nothing.
 use Prim.Native.Nat.{ℕ, zero, suc, ◌+◌, ◌*◌, ◌/◌, ◌%◌, ◌≤◌, ◌<◌}
-use mathlib.Core.Path.{◌≡◌, refl, ap}
+use mathlib.Core.Path.{◌≡◌, refl, ap, ◌∙◌}
 use mathlib.Core.List.{List, [], ◌∷◌, ◌++◌}
 use native.Mathlib.Omega.{arith}
-use lib.ListN.{length, get_or, take, drop}
+use lib.ListN.{length, get_or, drop}
+use Rattle.std.specs.Slice.Iter.{chunks_exact_rest, chunks_exact_size, chunks_exact_steps}
+use Rattle.std.proofs.lemmas.Iterator.{YieldsList}
+use Rattle.std.proofs.lemmas.Iterator.Splits.{YieldsList-from_shown_while}
 use Rattle.format.specs.File.Format.{entries, entry_bytes}
 
 -- ---- read
@@ -19,21 +22,6 @@ unfolding entries
 entries_done [] h = refl
 entries_done (x ∷ []) h = refl
 entries_done (x ∷ y ∷ s) h = absurd (omega arith)
-
--- four of them, and the others behind
-pub entries_four : (s : List ℕ) → 8 ≤ length s
-    → (entries (take 8 s) ≡ (get_or s 0 0 + 256 * get_or s 1 0) ∷ (get_or s 2 0 + 256 * get_or s 3 0) ∷ (get_or s 4 0 + 256 * get_or s 5 0) ∷ (get_or s 6 0 + 256 * get_or s 7 0) ∷ [])
-    × (entries s ≡ entries (take 8 s) ++ entries (drop 8 s))
-unfolding entries
-entries_four [] h = absurd (omega arith)
-entries_four (x ∷ []) h = absurd (omega arith)
-entries_four (x ∷ x₁ ∷ []) h = absurd (omega arith)
-entries_four (x ∷ x₁ ∷ x₂ ∷ []) h = absurd (omega arith)
-entries_four (x ∷ x₁ ∷ x₂ ∷ x₃ ∷ []) h = absurd (omega arith)
-entries_four (x ∷ x₁ ∷ x₂ ∷ x₃ ∷ x₄ ∷ []) h = absurd (omega arith)
-entries_four (x ∷ x₁ ∷ x₂ ∷ x₃ ∷ x₄ ∷ x₅ ∷ []) h = absurd (omega arith)
-entries_four (x ∷ x₁ ∷ x₂ ∷ x₃ ∷ x₄ ∷ x₅ ∷ x₆ ∷ []) h = absurd (omega arith)
-entries_four (x ∷ x₁ ∷ x₂ ∷ x₃ ∷ x₄ ∷ x₅ ∷ x₆ ∷ x₇ ∷ s) h = (refl, refl)
 
 -- by their places
 pub entry_there : (i : ℕ) (s : List ℕ) → 2 * i + 1 < length s → get_or (entries s) i 0 ≡ get_or s (2 * i) 0 + 256 * get_or s (2 * i + 1) 0
@@ -77,3 +65,18 @@ pub entry_bytes_append : (xs ys : List ℕ) → entry_bytes (xs ++ ys) ≡ entry
 unfolding entry_bytes
 entry_bytes_append [] ys = refl
 entry_bytes_append (x ∷ xs) ys = ap (λ (t : List ℕ). x % 256 ∷ x / 256 ∷ t) (entry_bytes_append xs ys)
+
+-- ---- in pairs, as a slice is cut into chunks
+
+pub entries_pair : (x s : List ℕ) → length x ≡ 2 → entries (x ++ s) ≡ (get_or x 0 0 + 256 * get_or x 1 0) ∷ entries s
+unfolding entries
+entries_pair [] s h = absurd (omega arith)
+entries_pair (a ∷ []) s h = absurd (omega arith)
+entries_pair (a ∷ b ∷ []) s h = refl
+entries_pair (a ∷ b ∷ d ∷ x) s h = absurd (omega arith)
+
+pub pairs : (s : _) → chunks_exact_size s ≡ 2 → YieldsList (chunks_exact_steps {A = ℕ}) (λ x. get_or x.now 0 0 + 256 * get_or x.now 1 0) s (entries (chunks_exact_rest s))
+pairs s h =
+    YieldsList-from_shown_while (chunks_exact_steps {A = ℕ}) (λ x. get_or x.now 0 0 + 256 * get_or x.now 1 0) (λ t. entries (chunks_exact_rest t)) (λ t. chunks_exact_size t ≡ 2)
+    (λ t u p e. ap length (entries_done (chunks_exact_rest t) (omega (arith, e.1.0))))
+    (λ t x u p e. (e.0 ∙ p, ap entries e.1.0 ∙ entries_pair x.now (chunks_exact_rest u) (e.1.1 ∙ p))) s h

@@ -1,68 +1,44 @@
 -- The judgement of a file step by step, as the code makes it: a field's head, a repetition, and one piece after another. Assumes nothing.
-use Prim.Native.Nat.{ℕ, zero, suc, ◌-◌, ◌≤◌, ◌<◌}
+use Prim.Native.Nat.{ℕ, zero, suc, ◌+◌, ◌-◌, ◌≤◌, ◌<◌}
 use mathlib.Core.Path.{◌≡◌, refl, sym, ap, ◌∙◌}
 use mathlib.Core.Logic.{◌≢◌}
 use mathlib.Core.Bool.{true, false}
-use mathlib.Core.List.{List, append_assoc}
+use mathlib.Core.List.{List, [], append_assoc}
 use native.Mathlib.Omega.{arith}
-use lib.ListN.{length, take, drop, length-drop}
-use lib.Seq.{length-take-le}
+use Rattle.std.specs.Prelude.{Result, Ok, Err, IsErrAnd}
+use Rattle.std.proofs.lemmas.Result.{err_from_is_err_and}
+use denote.Ref.{Bor}
+use lib.ListN.{length, take, drop}
 use borrow.Author.Tests.{le-leb, lt-leb}
-use Rattle.format.specs.declared.judge.Judged.{Judged}
-use Rattle.format.specs.Refusals.{truncated, unexpected, number_of, Tests, ◌then◌, head_bytes, first_refusal, where_accepted, head_test, due_test, body_test}
-use Rattle.format.specs.RefusalLaws.{first_fails, first_passes, first_none, then_refused, then_passed, zero_then, where_refused, accepted_value}
-use Rattle.format.specs.File.Piece.{Body, Piece, field, head_tests, many_tests, many_rest, chain_tests, chain_rest, seq, closed, Judgement, said_body, said_rest}
+use Rattle.format.specs.declared.refusals.Refusal.{Refusal}
+use Rattle.format.specs.Refused.{cause_of, refusal_number, refusal_of}
+use Rattle.format.specs.Refusals.{truncated, unexpected, number_of, Tests, ◌then◌, head_bytes, first_refusal, head_test, due_test, body_test}
+use Rattle.format.specs.RefusalLaws.{number_pos, first_fails, first_passes, first_none, then_refused, then_passed, zero_then}
+use Rattle.format.specs.File.Piece.{Body, Piece, field, head_tests, many_tests, many_rest, chain_tests, chain_rest, seq, closed, Judgement, PieceJudged, FieldParts, said_body, said_rest, many}
 use Rattle.format.specs.File.PieceLaws.{head_good}
-use Rattle.format.proofs.Parts.{Ends, ends_within, left_part}
 
--- ---- a judgement: refused with nothing left, or accepted with what follows
+-- ---- a judgement: refused, or something is given
 
-abbrev pub refused : ℕ → Judged
-refused k = record { refusal = k; left = 0 }
+pub refused_some : (e : Refusal) → refusal_number e ≢ 0
+refused_some e z = let l = number_pos (cause_of e) in omega arith
 
-module _ {ts : Tests} {rest : List ℕ} {r : Judged} where
-  pub refuses : r.refusal ≡ first_refusal ts → r.refusal ≢ 0 → r.left ≡ 0 → Judgement ts rest r
-  refuses e h l = record { refusal_is = e; left_is = l ∙ sym (where_refused r.refusal e h (length rest) 0) }
+module _ {A : Type 0} {ts : Tests} {Is : A → Type 0} where
+  pub refuses : {e : Refusal} → refusal_number e ≡ first_refusal ts → Judgement ts Is (Err e)
+  refuses q = record { refusal_is = q; given = tt }
 
-  pub accepts : r.refusal ≡ 0 → first_refusal ts ≡ 0 → r.left ≡ length rest → Judgement ts rest r
-  accepts z e l = record { refusal_is = z ∙ sym e; left_is = l ∙ sym (accepted_value r.refusal (z ∙ sym e) z (length rest) 0) }
+  pub gives : {x : A} → first_refusal ts ≡ 0 → Is x → Judgement ts Is (Ok x)
+  gives q i = record { refusal_is = sym q; given = i }
 
-  module _ (j : Judgement ts rest r) where
-    pub refused_left : r.refusal ≢ 0 → r.left ≡ 0
-    refused_left h = j.left_is ∙ where_refused r.refusal j.refusal_is h (length rest) 0
+-- the exit of a `?` hands the refusal on
+pub handed_number : {A : Type 0} {k : ℕ} (r : Result A Refusal) (e : Refusal) → IsErrAnd r (λ d. d ≡ e) → refusal_number e ≡ k → refusal_of r ≡ k
+handed_number r e h q = let p = err_from_is_err_and r h in rw p.1 (ap refusal_number p.2 ∙ q)
 
-    module _ (z : r.refusal ≡ 0) where
-      pub accepted : first_refusal ts ≡ 0
-      accepted = sym j.refusal_is ∙ z
+pub handed : {A : Type 0} {ts : Tests} {Is : A → Type 0} {r : Result A Refusal} (e : Refusal) → IsErrAnd r (λ d. d ≡ e) → refusal_number e ≡ first_refusal ts → Judgement ts Is r
+handed {r = r} e h q = let p = err_from_is_err_and r h in rw p.1 (refuses (ap refusal_number p.2 ∙ q))
 
-      pub accepted_left : r.left ≡ length rest
-      accepted_left = j.left_is ∙ accepted_value r.refusal j.refusal_is z (length rest) 0
-
-      -- the part that a caller goes on with
-      pub left_within : {s : List ℕ} → Ends rest s → r.left ≤ length s
-      left_within f = let l = accepted_left in let w = ends_within f in omega arith
-
-      pub next_part : {s : List ℕ} → Ends rest s → take (length s - (length s - r.left)) (drop (length s - r.left) s) ≡ rest
-      next_part f = left_part f accepted_left
-
--- tests after those that passed
-pub after_passed : (ts : Tests) {us : Tests} {rest : List ℕ} {r : Judged} → first_refusal ts ≡ 0 → Judgement us rest r → Judgement (ts then us) rest r
-after_passed ts {us} {rest} {r} e j =
-    record {
-      refusal_is = then_passed ts us r.refusal e j.refusal_is;
-      left_is = j.left_is ∙ ap (λ (k : ℕ). where_accepted k (length rest) 0) (then_passed ts us (first_refusal us) e refl);
-    }
-
--- more tests after those that passed, and after those of which one failed
-module _ {ts : Tests} {rest : List ℕ} {r : Judged} (us : Tests) (j : Judgement ts rest r) where
-  pub more_passed : r.refusal ≡ 0 → first_refusal us ≡ 0 → Judgement (ts then us) rest r
-  more_passed z e = accepts z (zero_then ts us (accepted j z) e) (accepted_left j z)
-
-  pub more_refused : r.refusal ≡ 0 → (k : ℕ) → k ≡ first_refusal us → k ≢ 0 → Judgement (ts then us) rest (refused k)
-  more_refused z k e h = refuses (then_passed ts us k (accepted j z) e) h refl
-
-  pub handed_on : {next : List ℕ} → r.refusal ≢ 0 → Judgement (ts then us) next r
-  handed_on h = refuses (then_refused ts us r.refusal j.refusal_is h) h (refused_left j h)
+-- a refusal is handed on, whatever else would be tested
+pub refused_then : (ts us : Tests) (e : Refusal) → refusal_number e ≡ first_refusal ts → refusal_number e ≡ first_refusal (ts then us)
+refused_then ts us e q = then_refused ts us (refusal_number e) q (refused_some e)
 
 -- ---- a field's head, from the tests that a reader makes
 
@@ -95,20 +71,17 @@ module _ (tag size : ℕ) (s : List ℕ) where
     unfolding said_rest
     rest_due = ap (λ (k : ℕ). drop k (drop head_bytes s)) (head_good tag size s e).2
 
--- a field whose head is not refused, by the tests of its body, which is in hand
-module _ {A : Type 0} (tag : ℕ) (B : Body A) (s : List ℕ) {r : Judged} {b : List ℕ} (head : Judgement (head_tests tag B.size s) ((field tag B).rest s) r) (z : r.refusal ≡ 0) (body : b ≡ said_body s) where
-  pub body_is : b ≡ take B.size (drop head_bytes s)
-  body_is = body ∙ body_due tag B.size s (accepted head z)
+-- tests after those that passed
+pub after_passed : (ts : Tests) {A : Type 0} {us : Tests} {Is : A → Type 0} {r : Result A Refusal} → first_refusal ts ≡ 0 → Judgement us Is r → Judgement (ts then us) Is r
+after_passed ts {us = us} {r = r} e j = record { refusal_is = then_passed ts us (refusal_of r) e j.refusal_is; given = j.given }
 
-  pub content_refused : (k : ℕ) → k ≡ first_refusal (B.tests b) → k ≢ 0 → Judgement ((field tag B).tests s) ((field tag B).rest s) (refused k)
-  content_refused k e h = more_refused _ head z k (e ∙ ap (λ (t : List ℕ). first_refusal (B.tests t)) body_is) h
+-- a field whose head passed, by the tests of its body
+module _ {A : Type 0} (tag : ℕ) (B : Body A) {s b next : Bor (List ℕ)} (j : Judgement (head_tests tag B.size s.now) (FieldParts B.size s) (Ok (b, next))) where
+  pub content_refused : (k : ℕ) → k ≡ first_refusal (B.tests b.now) → k ≡ first_refusal ((field tag B).tests s.now)
+  content_refused k q = then_passed _ _ k (sym j.refusal_is) (q ∙ ap (λ (t : List ℕ). first_refusal (B.tests t)) j.given.body_is)
 
-  pub content_passed : first_refusal (B.tests b) ≡ 0 → Judgement ((field tag B).tests s) ((field tag B).rest s) r
-  content_passed e = more_passed _ head z (ap (λ (t : List ℕ). first_refusal (B.tests t)) (sym body_is) ∙ e)
-
-  -- and of that length
-  pub body_length : length b ≡ B.size
-  body_length = ap length body_is ∙ length-take-le B.size (drop head_bytes s) (rw length-drop (head_good tag B.size s (accepted head z)).3)
+  pub content_passed : first_refusal (B.tests b.now) ≡ 0 → first_refusal ((field tag B).tests s.now) ≡ 0
+  content_passed q = zero_then _ _ (sym j.refusal_is) (ap (λ (t : List ℕ). first_refusal (B.tests t)) (sym j.given.body_is) ∙ q)
 
 -- ---- a repetition, as a loop judges it: its refusal and what follows it are those of the pieces still to judge, in the unread rest
 
@@ -116,11 +89,8 @@ pub record Todo {A : Type 0} (P : Piece A) (k : ℕ) (s : List ℕ) (todo : ℕ)
   pub same_refusal : first_refusal (many_tests P k s) ≡ first_refusal (many_tests P todo rest)
   pub same_rest : many_rest P k s ≡ many_rest P todo rest
 
-pub todo_all : {A : Type 0} {P : Piece A} {k : ℕ} {s : List ℕ} → Todo P k s k s
-todo_all = record { same_refusal = refl; same_rest = refl }
-
 module _ {A : Type 0} {P : Piece A} {k todo : ℕ} {s rest : List ℕ} (t : Todo P k s todo rest) where
-  pub todo_next : 0 < todo → (next : List ℕ) → first_refusal (P.tests rest) ≡ 0 → next ≡ P.rest rest → Todo P k s (todo - 1) next
+  todo_next : 0 < todo → (next : List ℕ) → first_refusal (P.tests rest) ≡ 0 → next ≡ P.rest rest → Todo P k s (todo - 1) next
   todo_next l next e q = step todo l t
     where
       step : (j : ℕ) → 0 < j → Todo P k s j rest → Todo P k s (j - 1) next
@@ -129,15 +99,15 @@ module _ {A : Type 0} {P : Piece A} {k todo : ℕ} {s rest : List ℕ} (t : Todo
           let m : suc j - 1 ≡ j = omega arith in
           rw (m, q) (record { same_refusal = t.same_refusal ∙ sym (then_passed (P.tests rest) _ _ e refl); same_rest = t.same_rest })
 
-  pub todo_refused : 0 < todo → {r : Judged} → Judgement (P.tests rest) (P.rest rest) r → r.refusal ≢ 0 → Judgement (many_tests P k s) (many_rest P k s) r
-  todo_refused l {r} j h = refuses (first todo l ∙ sym t.same_refusal) h (refused_left j h)
+  todo_refused : 0 < todo → (e : Refusal) → refusal_number e ≡ first_refusal (P.tests rest) → refusal_number e ≡ first_refusal (many_tests P k s)
+  todo_refused l e q = first todo l ∙ sym t.same_refusal
     where
-      first : (i : ℕ) → 0 < i → r.refusal ≡ first_refusal (many_tests P i rest)
+      first : (i : ℕ) → 0 < i → refusal_number e ≡ first_refusal (many_tests P i rest)
       first zero l = absurd (omega arith)
-      first (suc i) l = then_refused (P.tests rest) _ r.refusal j.refusal_is h
+      first (suc i) l = refused_then (P.tests rest) _ e q
 
-  pub todo_done : todo ≤ 0 → {r : Judged} → r.refusal ≡ 0 → r.left ≡ length rest → Judgement (many_tests P k s) (many_rest P k s) r
-  todo_done l z e = accepts z (t.same_refusal ∙ none todo l) (e ∙ ap length (sym (t.same_rest ∙ over todo l)))
+  todo_done : todo ≤ 0 → (first_refusal (many_tests P k s) ≡ 0) × (many_rest P k s ≡ rest)
+  todo_done l = (t.same_refusal ∙ none todo l, t.same_rest ∙ over todo l)
     where
       none : (i : ℕ) → i ≤ 0 → first_refusal (many_tests P i rest) ≡ 0
       none zero l = sym first_none
@@ -147,16 +117,43 @@ module _ {A : Type 0} {P : Piece A} {k todo : ℕ} {s rest : List ℕ} (t : Todo
       over zero l = refl
       over (suc i) l = absurd (omega arith)
 
+-- i of k pieces are judged, and the rest is what follows these
+module _ {A : Type 0} {P : Piece A} {k i : ℕ} {s rest : List ℕ} (t : Todo P k s (k - i) rest) where
+  pub rows_next : {next : List ℕ} → i < k → first_refusal (P.tests rest) ≡ 0 → next ≡ P.rest rest → Todo P k s (k - (i + 1)) next
+  rows_next {next} l e q = let m : k - (i + 1) ≡ k - i - 1 = omega arith in rw m (todo_next t (omega arith) next e q)
+
+  pub rows_refused : (e : Refusal) → i < k → refusal_number e ≡ first_refusal (P.tests rest) → refusal_number e ≡ first_refusal (many_tests P k s)
+  rows_refused e l q = todo_refused t (omega arith) e q
+
+  pub rows_done : k ≤ i → (first_refusal (many_tests P k s) ≡ 0) × (many_rest P k s ≡ rest)
+  rows_done l = todo_done t (omega arith)
+
+pub rows_all : {A : Type 0} {P : Piece A} {k : ℕ} {s : List ℕ} → Todo P k s (k - 0) s
+rows_all {k = k} = let q : k - 0 ≡ k = omega arith in rw q (record { same_refusal = refl; same_rest = refl })
+
+-- a piece without its value, by which a repetition is judged
+abbrev pub bare : {A : Type 0} → Piece A → Piece (Unit {0})
+bare P = record { tests = P.tests; dec = λ s. tt; rest = P.rest; enc = λ x. [] }
+
+module _ {A : Type 0} (P : Piece A) where
+  bare_tests : (k : ℕ) (s : List ℕ) → many_tests (bare P) k s ≡ many_tests P k s
+  bare_tests zero s = refl
+  bare_tests (suc k) s = ap (λ (ts : Tests). P.tests s then ts) (bare_tests k (P.rest s))
+
+  bare_rest : (k : ℕ) (s : List ℕ) → many_rest (bare P) k s ≡ many_rest P k s
+  bare_rest zero s = refl
+  bare_rest (suc k) s = bare_rest k (P.rest s)
+
+  pub bare_judged : (k : ℕ) (s : List ℕ) {r : Result (Bor (List ℕ)) Refusal} → PieceJudged (many k (bare P)) s r → PieceJudged (many k P) s r
+  bare_judged k s j = rw (bare_tests k s, bare_rest k s) at j
+
 -- the same of pieces that go by those before
 pub record ChainTodo {S A : Type 0} (P : S → Piece A) (step : S → A → S) (k : ℕ) (x₀ : S) (s : List ℕ) (todo : ℕ) (x : S) (rest : List ℕ) : Type 0 where
   pub same_refusal : first_refusal (chain_tests P step k x₀ s) ≡ first_refusal (chain_tests P step todo x rest)
   pub same_rest : chain_rest P step k x₀ s ≡ chain_rest P step todo x rest
 
-pub chain_all : {S A : Type 0} {P : S → Piece A} {step : S → A → S} {k : ℕ} {x : S} {s : List ℕ} → ChainTodo P step k x s k x s
-chain_all = record { same_refusal = refl; same_rest = refl }
-
 module _ {S A : Type 0} {P : S → Piece A} {step : S → A → S} {k : ℕ} {x₀ : S} {s : List ℕ} {todo : ℕ} {x : S} {rest : List ℕ} (t : ChainTodo P step k x₀ s todo x rest) where
-  pub chain_next : 0 < todo → (next : List ℕ) → first_refusal ((P x).tests rest) ≡ 0 → next ≡ (P x).rest rest → ChainTodo P step k x₀ s (todo - 1) (step x ((P x).dec rest)) next
+  chain_next : 0 < todo → (next : List ℕ) → first_refusal ((P x).tests rest) ≡ 0 → next ≡ (P x).rest rest → ChainTodo P step k x₀ s (todo - 1) (step x ((P x).dec rest)) next
   chain_next l next e q = go todo l t
     where
       go : (j : ℕ) → 0 < j → ChainTodo P step k x₀ s j x rest → ChainTodo P step k x₀ s (j - 1) (step x ((P x).dec rest)) next
@@ -165,15 +162,15 @@ module _ {S A : Type 0} {P : S → Piece A} {step : S → A → S} {k : ℕ} {x�
           let m : suc j - 1 ≡ j = omega arith in
           rw (m, q) (record { same_refusal = t.same_refusal ∙ sym (then_passed ((P x).tests rest) _ _ e refl); same_rest = t.same_rest })
 
-  pub chain_refused : 0 < todo → {r : Judged} → Judgement ((P x).tests rest) ((P x).rest rest) r → r.refusal ≢ 0 → Judgement (chain_tests P step k x₀ s) (chain_rest P step k x₀ s) r
-  chain_refused l {r} j h = refuses (first todo l ∙ sym t.same_refusal) h (refused_left j h)
+  chain_refused : 0 < todo → (e : Refusal) → refusal_number e ≡ first_refusal ((P x).tests rest) → refusal_number e ≡ first_refusal (chain_tests P step k x₀ s)
+  chain_refused l e q = first todo l ∙ sym t.same_refusal
     where
-      first : (i : ℕ) → 0 < i → r.refusal ≡ first_refusal (chain_tests P step i x rest)
+      first : (i : ℕ) → 0 < i → refusal_number e ≡ first_refusal (chain_tests P step i x rest)
       first zero l = absurd (omega arith)
-      first (suc i) l = then_refused ((P x).tests rest) _ r.refusal j.refusal_is h
+      first (suc i) l = refused_then ((P x).tests rest) _ e q
 
-  pub chain_done : todo ≤ 0 → {r : Judged} → r.refusal ≡ 0 → r.left ≡ length rest → Judgement (chain_tests P step k x₀ s) (chain_rest P step k x₀ s) r
-  chain_done l z e = accepts z (t.same_refusal ∙ none todo l) (e ∙ ap length (sym (t.same_rest ∙ over todo l)))
+  chain_done : todo ≤ 0 → (first_refusal (chain_tests P step k x₀ s) ≡ 0) × (chain_rest P step k x₀ s ≡ rest)
+  chain_done l = (t.same_refusal ∙ none todo l, t.same_rest ∙ over todo l)
     where
       none : (i : ℕ) → i ≤ 0 → first_refusal (chain_tests P step i x rest) ≡ 0
       none zero l = sym first_none
@@ -182,6 +179,19 @@ module _ {S A : Type 0} {P : S → Piece A} {step : S → A → S} {k : ℕ} {x�
       over : (i : ℕ) → i ≤ 0 → chain_rest P step i x rest ≡ rest
       over zero l = refl
       over (suc i) l = absurd (omega arith)
+
+module _ {S A : Type 0} {P : S → Piece A} {step : S → A → S} {k i : ℕ} {x₀ x : S} {s rest : List ℕ} (t : ChainTodo P step k x₀ s (k - i) x rest) where
+  pub chain_rows_next : {next : List ℕ} → i < k → first_refusal ((P x).tests rest) ≡ 0 → next ≡ (P x).rest rest → ChainTodo P step k x₀ s (k - (i + 1)) (step x ((P x).dec rest)) next
+  chain_rows_next {next} l e q = let m : k - (i + 1) ≡ k - i - 1 = omega arith in rw m (chain_next t (omega arith) next e q)
+
+  pub chain_rows_refused : (e : Refusal) → i < k → refusal_number e ≡ first_refusal ((P x).tests rest) → refusal_number e ≡ first_refusal (chain_tests P step k x₀ s)
+  chain_rows_refused e l q = chain_refused t (omega arith) e q
+
+  pub chain_rows_done : k ≤ i → (first_refusal (chain_tests P step k x₀ s) ≡ 0) × (chain_rest P step k x₀ s ≡ rest)
+  chain_rows_done l = chain_done t (omega arith)
+
+pub chain_rows_all : {S A : Type 0} {P : S → Piece A} {step : S → A → S} {k : ℕ} {x : S} {s : List ℕ} → ChainTodo P step k x s (k - 0) x s
+chain_rows_all {k = k} = let q : k - 0 ≡ k = omega arith in rw q (record { same_refusal = refl; same_rest = refl })
 
 -- ---- one piece after another, to the end
 

@@ -1,6 +1,6 @@
+pub mod Refused
 pub mod Entries
 pub mod Meeting
-pub mod Passing
 pub mod Rows
 pub mod Parts
 pub mod Judging

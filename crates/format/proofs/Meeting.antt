@@ -1,11 +1,10 @@
 -- Numbers met one after another, as loops meet them: those done are in the table, and others are still to be met. Assumes nothing.
 use mathlib.Core.Path.{◌≡◌, refl, sym, ap, ◌∙◌, subst}
-use mathlib.Core.Bool.{Bool, true, false, false≢true}
+use mathlib.Core.Bool.{true, false, false≢true}
 use Rattle.counting.specs.Bools.{not_true}
 use Rattle.format.specs.Numbers.{once}
 use mathlib.Core.List.{List, [], ◌++◌, append_assoc, append-nil}
 use Prim.Native.Nat.{ℕ}
-use lib.ListN.{length}
 use Rattle.format.specs.NumberTable.{Keeps, Meets}
 use Rattle.format.specs.NumberLaws.{once_front, meets_none, meets_stop, meets_on}
 
@@ -18,9 +17,6 @@ pub meeting_all : {all table : List ℕ} → Meeting all all table table
 meeting_all {all} {table} = record { done = []; met = meets_none table; joined = refl }
 
 module _ {all todo table₀ table : List ℕ} (m : Meeting all todo table₀ table) where
-  pub meeting_length : length table ≡ length table₀
-  meeting_length = m.met.same_length
-
   module _ (ks rest : List ℕ) (q : todo ≡ ks ++ rest) where
     joined_next : (m.done ++ ks) ++ rest ≡ all
     joined_next = append_assoc m.done ks rest ∙ ap (λ (t : List ℕ). m.done ++ t) (sym q) ∙ m.joined
@@ -30,10 +26,6 @@ module _ {all todo table₀ table : List ℕ} (m : Meeting all todo table₀ tab
 
     pub meeting_next : {table' : List ℕ} → Meets ks table table' true → Meeting all rest table₀ table'
     meeting_next n = record { done = m.done ++ ks; met = meets_on m.met n; joined = joined_next }
-
-  -- the others are met at once
-  pub meeting_last : {table' : List ℕ} {r : Bool} → Meets todo table table' r → Meets all table₀ table' r
-  meeting_last {table'} {r} n = subst (λ (a : List ℕ). Meets a table₀ table' r) m.joined (meets_on m.met n)
 
   pub meeting_done : todo ≡ [] → Meets all table₀ table true
   meeting_done q = subst (λ (a : List ℕ). Meets a table₀ table true) (sym (append-nil m.done) ∙ ap (λ (t : List ℕ). m.done ++ t) (sym q) ∙ m.joined) m.met

@@ -4,6 +4,7 @@ pub mod ListLaws
 pub mod OverLaws
 pub mod Numbers
 pub mod Refusals
+pub mod Refused
 pub mod RefusalLaws
 pub mod TestLaws
 pub mod File

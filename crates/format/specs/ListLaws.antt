@@ -1,7 +1,8 @@
 -- The laws of tests and statements about every element of a list. Assumes nothing.
-use Rattle.std.specs.Prelude.{ℕ, zero, suc, ◌+◌, ◌-◌, ◌≤◌, ◌<◌, min, ◌≡◌, refl, ◌↔◌, Bool, true, false, List, [], ◌∷◌, length, get_or, take, drop}
+use Rattle.std.specs.Prelude.{ℕ, zero, suc, ◌+◌, ◌-◌, ◌≤◌, ◌<◌, min, ◌≡◌, refl, ◌↔◌, Bool, true, false, ◌&&◌, List, [], ◌∷◌, length, get_or, take, drop}
 use Rattle.std.proofs.Common.{sym, ap, ◌∙◌, add-one, arith, length-take, length-drop, drop_of_length-le, take_all, drop-cons, get_or-take}
 use Rattle.counting.specs.Bools.{and_in, and_left, and_right}
+use Rattle.std.specs.List.{list_all, range_with_len}
 use Rattle.format.specs.Lists.{all_pass, All}
 
 -- a test of every element, by what the test of one says
@@ -21,6 +22,12 @@ pub all_at : {A : Type 0} (Is : A → Type 0) (xs : List A) (d : A) → All Is x
 all_at Is [] d v i l = absurd (omega arith)
 all_at Is (x ∷ xs) d v zero l = v.0
 all_at Is (x ∷ xs) d v (suc i) l = all_at Is xs d v.1 i (omega arith)
+
+-- the library's word for it
+pub all_pass_is : {A : Type 0} (f : A → Bool) (xs : List A) → list_all f xs ≡ all_pass f xs
+unfolding all_pass
+all_pass_is f [] = refl
+all_pass_is f (x ∷ xs) = ap (λ (b : Bool). f x && b) (all_pass_is f xs)
 
 -- element by element, as loops test them
 pub all_pass_fails : (f : ℕ → Bool) (x : ℕ) (xs : List ℕ) → f x ≡ false → all_pass f (x ∷ xs) ≡ false
@@ -56,3 +63,12 @@ none_left b r xs h = drop_of_length-le (take b xs) {i = r} (rw (length-take b xs
 -- a part that goes to the end
 pub tail_part : (k : ℕ) (xs : List ℕ) → take (length xs - k) (drop k xs) ≡ drop k xs
 tail_part k xs = take_all (length xs - k) (drop k xs) (simp length-drop (omega arith))
+
+-- a test of the first b elements, place by place
+pub front_passes : (f : ℕ → Bool) (b : ℕ) (xs : List ℕ) → list_all (λ r. f (get_or xs r 0)) (range_with_len 0 (min b (length xs))) ≡ all_pass f (take b xs)
+unfolding all_pass
+front_passes f b xs = go 0 (min b (length xs)) (omega arith)
+  where
+    go : (r k : ℕ) → r + k ≡ min b (length xs) → list_all (λ i. f (get_or xs i 0)) (range_with_len r k) ≡ all_pass f (drop r (take b xs))
+    go r zero e = sym (ap (all_pass f) (none_left b r xs (omega arith)))
+    go r (suc k) e = ap (λ (t : Bool). f (get_or xs r 0) && t) (go (r + 1) k (omega arith)) ∙ sym (ap (all_pass f) (first_left b r xs (omega arith) (omega arith)))

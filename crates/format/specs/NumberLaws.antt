@@ -291,9 +291,9 @@ module _ (n w : ℕ) where
 
 -- the entries of a row, one column after another
 module _ (S : Set) (row : List ℕ) where
-  pub picked_next : (c : ℕ) → c < length row → picked S c (drop c row) ≡ entry_at S row c ++ picked S (c + 1) (drop (c + 1) row)
+  pub picked_next : (c : ℕ) → c < length row → picked S c (drop c row) ≡ entry_at S c (get_or row c 0) ++ picked S (c + 1) (drop (c + 1) row)
   unfolding picked entry_at
-  picked_next c l = ap (picked S c) (drop-cons row c 0 l) ∙ by (S c) ∙ ap (λ (k : ℕ). entry_at S row c ++ picked S k (drop k row)) (sym (add-one c))
+  picked_next c l = ap (picked S c) (drop-cons row c 0 l) ∙ by (S c) ∙ ap (λ (k : ℕ). entry_at S c (get_or row c 0) ++ picked S k (drop k row)) (sym (add-one c))
     where
       by : (b : Bool) → cond b (get_or row c 0 ∷ picked S (suc c) (drop (suc c) row)) (picked S (suc c) (drop (suc c) row)) ≡ cond b (get_or row c 0 ∷ []) [] ++ picked S (suc c) (drop (suc c) row)
       by true = refl

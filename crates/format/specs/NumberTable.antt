@@ -1,9 +1,10 @@
 -- How a number met a second time is found, as private functions of crate format promise it: a table has a bit for each number, set where it was met.
 -- Definitions only.
-use Rattle.std.specs.Prelude.{ℕ, ◌+◌, ◌*◌, ◌/◌, ◌%◌, ◌<◌, ◌≡◌, Bool, true, cond, List, [], ◌∷◌, ◌++◌, length, get_or}
+use Rattle.std.specs.Prelude.{ℕ, ◌+◌, ◌*◌, ◌/◌, ◌%◌, ◌<◌, ◌≡◌, Bool, true, cond, Result, List, [], ◌∷◌, ◌++◌, length, get_or}
 use Rattle.counting.specs.Sets.{Set}
 use Rattle.columns.specs.Columns.{word_width, members}
-use Rattle.format.specs.declared.judge.Judged.{Judged}
+use Rattle.std.specs.Borrow.{Bor}
+use Rattle.format.specs.declared.refusals.Refusal.{Refusal}
 use Rattle.format.specs.Numbers.{stands_in, once}
 use Rattle.format.specs.File.Piece.{Piece, Judgement}
 
@@ -32,11 +33,10 @@ pub record Meets (ks table table' : List ℕ) (r : Bool) : Type 0 where
   pub kept : (before : List ℕ) → Keeps before table → r ≡ true → Keeps (before ++ ks) table'
 
 -- the entry of a row at column c, where S has that column
-unfoldable pub entry_at : Set → List ℕ → ℕ → List ℕ
-entry_at S row c = cond (S c) (get_or row c 0 ∷ []) []
+unfoldable pub entry_at : Set → (c k : ℕ) → List ℕ
+entry_at S c k = cond (S c) (k ∷ []) []
 
--- a piece that goes by the numbers met before is judged, and the table goes on to what step makes of them
-pub record NumbersJudged {A : Type 0} (P : List ℕ → Piece A) (step : List ℕ → A → List ℕ) (s table table' : List ℕ) (r : Judged) : Type 0 where
+-- a piece that goes by the numbers met before is judged: what follows it is given, and the table goes on to what step makes of them
+pub record NumbersJudged {A : Type 0} (P : List ℕ → Piece A) (step : List ℕ → A → List ℕ) (s table table' : List ℕ) (r : Result (Bor (List ℕ)) Refusal) : Type 0 where
   pub same_length : length table' ≡ length table
-  pub judged : (before : List ℕ) → Keeps before table → Judgement ((P before).tests s) ((P before).rest s) r
-  pub kept : (before : List ℕ) → Keeps before table → r.refusal ≡ 0 → Keeps (step before ((P before).dec s)) table'
+  pub judged : (before : List ℕ) → Keeps before table → Judgement ((P before).tests s) (λ next. (next.now ≡ (P before).rest s) × Keeps (step before ((P before).dec s)) table') r

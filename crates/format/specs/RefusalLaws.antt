@@ -17,7 +17,7 @@ pub record Caused (ts : Tests) (k : ℕ) : Type 0 where
   pub passed : All (λ t. t.0 ≡ true) before
   pub number : number_of cause ≡ k
 
-number_pos : (c : Cause) → 0 < number_of c
+pub number_pos : (c : Cause) → 0 < number_of c
 number_pos truncated = omega arith
 number_pos unexpected = omega arith
 number_pos not_prime = omega arith

@@ -38,9 +38,10 @@ pub fn parameter_size(n: usize) -> usize
     ensures { result ≡ parameter_size n }
 {
     if n > NARROW_COLUMNS {
-        return SET_BYTES;
+        SET_BYTES
+    } else {
+        NARROW_BYTES
     }
-    NARROW_BYTES
 }
 
 // The length that the head of the field in front says.
@@ -51,14 +52,10 @@ pub fn said_length(rest: &[u8]) -> usize
 }
 
 // What stands behind the head, or the empty part at the end.
-fn past_head(rest: &[u8]) -> &[u8]
+pub fn past_head(rest: &[u8]) -> &[u8]
     ensures { LastPart (drop head_bytes rest.now) rest.entry result }
 {
-    let at = rest.len();
-    if at < HEAD_BYTES {
-        return &rest[at..];
-    }
-    &rest[HEAD_BYTES..]
+    &rest[HEAD_BYTES.min(rest.len())..]
 }
 
 // The body of the field in front; as much of it as there is.
@@ -66,11 +63,7 @@ pub fn said_body(rest: &[u8]) -> &[u8]
     ensures { PartAt (length rest.now - length (drop head_bytes rest.now)) (said_body rest.now) rest.entry result }
 {
     let body = past_head(rest);
-    let size = said_length(rest);
-    if body.len() < size {
-        return body;
-    }
-    &body[..size]
+    &body[..said_length(rest).min(body.len())]
 }
 
 // What follows the field in front; the empty part at the end where there is less.
@@ -78,10 +71,5 @@ pub fn said_rest(rest: &[u8]) -> &[u8]
     ensures { LastPart (said_rest rest.now) rest.entry result }
 {
     let body = past_head(rest);
-    let size = said_length(rest);
-    let at = body.len();
-    if at < size {
-        return &body[at..];
-    }
-    &body[size..]
+    &body[said_length(rest).min(body.len())..]
 }

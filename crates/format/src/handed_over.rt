@@ -2,73 +2,75 @@
 ghost use Rattle.std.specs.Prelude.{◌≡◌, true, ◌*◌, ◌≤◌, length, take};
 ghost use Rattle.columns.specs.ColumnSets.{row_numbers};
 ghost use Rattle.limits.specs.Limits.{most_columns, most_rows};
-ghost use Rattle.format.specs.Numbers.{lent};
-ghost use Rattle.format.specs.Refusals.{refusal, numbers_room, number_test};
+ghost use Rattle.models.specs.Lent.{lent_numbers};
+ghost use Rattle.format.specs.Refusals.{numbers_room, number_test};
+ghost use Rattle.format.specs.Refused.{refusal_of, model_refusal};
 
 use crate::content::{constants_below, parameters_within, prime_within, sizes_within};
 use crate::numbers::numbers_once;
-use crate::refusals;
+use crate::refusals::Refusal;
+use models::LentModel;
 
 // Whether an area of numbers holds b rows of n; an unnumbered model needs none.
-fn numbers_held(n: usize, b: usize, numbered: bool, numbers: &[u16]) -> bool
+fn numbers_held(n: usize, b: usize, numbers: Option<&[u16]>) -> bool
     requires { (n ≤ most_columns) × (b ≤ most_rows) }
-    ensures { result ≡ numbers_room (b * n) (lent numbered numbers.now) }
+    ensures { result ≡ numbers_room (b * n) (lent_numbers numbers.entry) }
 {
-    if !numbered {
-        return true;
+    match numbers {
+        None => true,
+        Some(lent) => b * n <= lent.len(),
     }
-    b * n <= numbers.len()
 }
 
 // Whether no number is met twice; an unnumbered model has none.
-fn numbers_apart(n: usize, b: usize, parameters: &[u64], numbered: bool, numbers: &[u16]) -> bool
-    requires { (n ≤ most_columns) × (b ≤ length (row_numbers parameters.now)) × (numbers_room (b * n) (lent numbered numbers.now) ≡ true) }
-    ensures { result ≡ number_test n (take b (row_numbers parameters.now)) (lent numbered numbers.now) }
+fn numbers_apart(n: usize, b: usize, parameters: &[u64], numbers: Option<&[u16]>) -> bool
+    requires { (n ≤ most_columns) × (b ≤ length (row_numbers parameters.now)) × (numbers_room (b * n) (lent_numbers numbers) ≡ true) }
+    ensures { result ≡ number_test n (take b (row_numbers parameters.now)) (lent_numbers numbers.entry) }
 {
-    if !numbered {
-        return true;
+    match numbers {
+        None => true,
+        Some(lent) => numbers_once(parameters, lent, n, b),
     }
-    numbers_once(parameters, numbers, n, b)
 }
 
-// The refusal of a model handed over, or 0. Its constants are a rows of n each, one after the other; where it is numbered, its numbers
+// Why a model handed over is refused, if it is. Its constants are a rows of n each, one after the other; where it is numbered, its numbers
 // are b rows of n.
-pub fn judge_model(
-    p: u32,
-    n: usize,
-    a: usize,
-    b: usize,
-    constants: &[u16],
-    parameters: &[u64],
-    numbered: bool,
-    numbers: &[u16],
-) -> u32
-    ensures { result ≡ refusal p n a b constants.now (row_numbers parameters.now) (lent numbered numbers.now) }
+pub fn judge_model(model: &LentModel<'_>) -> Result<(), Refusal>
+    ensures { refusal_of result ≡ model_refusal model.now }
 {
+    let LentModel {
+        p,
+        n,
+        a,
+        b,
+        constants,
+        parameters,
+        numbers,
+    } = *model;
     if !prime_within(p) {
-        return refusals::NOT_PRIME;
+        return Err(Refusal::NotPrime);
     }
     if !sizes_within(n, a, b) {
-        return refusals::SIZES_BEYOND;
+        return Err(Refusal::SizesBeyond);
     }
     let k = a * n;
     if constants.len() < k {
-        return refusals::AREA_SHORT;
+        return Err(Refusal::AreaShort);
     }
     if columns::rows(parameters) < b {
-        return refusals::AREA_SHORT;
+        return Err(Refusal::AreaShort);
     }
-    if !numbers_held(n, b, numbered, numbers) {
-        return refusals::AREA_SHORT;
+    if !numbers_held(n, b, numbers) {
+        return Err(Refusal::AreaShort);
     }
     if !constants_below(&constants[..k], p) {
-        return refusals::CONSTANT_BEYOND;
+        return Err(Refusal::ConstantBeyond);
     }
     if !parameters_within(parameters, b, n) {
-        return refusals::PARAMETER_BEYOND;
+        return Err(Refusal::ParameterBeyond);
     }
-    if !numbers_apart(n, b, parameters, numbered, numbers) {
-        return refusals::NUMBER_TWICE;
+    if !numbers_apart(n, b, parameters, numbers) {
+        return Err(Refusal::NumberTwice);
     }
-    0
+    Ok(())
 }

@@ -1,4 +1,4 @@
-// Models in files and handed over, judged; a file read field by field. Every public function is total, and refuses by a number.
+// Models in files and handed over, judged; a file read field by field. Every public function is total.
 #![tactic(auto)]
 
 mod content;
@@ -13,7 +13,7 @@ mod sets;
 
 pub use content::{parameters_within, two};
 pub use handed_over::judge_model;
-pub use header::{Header, read_unnumbered_header};
+pub use header::{Header, judge_file, read_header, read_unnumbered_header};
 pub use judge::is_numbered;
-pub use reader::{judge_file, read_header};
+pub use refusals::Refusal;
 pub use sets::{put_set, put_set_front};

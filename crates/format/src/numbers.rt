@@ -39,70 +39,29 @@ fn meet(table: &mut [u64], lo: u8, hi: u8) -> bool
     true
 }
 
-// The same of the first four numbers of a field's body.
-fn meet_four(table: &mut [u64], rest: &[u8]) -> bool
-    requires { (length table.old ≡ table_words) × (8 ≤ length rest.now) }
-    ensures { Meets (entries (take 8 rest.now)) table.old table.new result }
-{
-    if !meet(table, rest[0], rest[1]) {
-        return false;
-    }
-    if !meet(table, rest[2], rest[3]) {
-        return false;
-    }
-    if !meet(table, rest[4], rest[5]) {
-        return false;
-    }
-    meet(table, rest[6], rest[7])
-}
-
-// The same of each number of a field's body: four in a turn, and then the up to three that are left.
+// The same of each number of a field's body.
 pub fn meet_entries(table: &mut [u64], body: &[u8]) -> bool
     requires { length table.old ≡ table_words }
     ensures { Meets (entries body.now) table.old table.new result }
 {
-    let mut rest = body;
-    while rest.len() >= 8 {
-        if !meet_four(table, rest) {
+    for pair in body.chunks_exact(2) {
+        if !meet(table, pair[0], pair[1]) {
             return false;
         }
-        rest = &rest[8..];
-    }
-    meet_rest(table, rest)
-}
-
-// The same of the numbers that are left, one in a turn.
-fn meet_rest(table: &mut [u64], body: &[u8]) -> bool
-    requires { length table.old ≡ table_words }
-    ensures { Meets (entries body.now) table.old table.new result }
-{
-    let mut rest = body;
-    while rest.len() >= 2 {
-        if !meet(table, rest[0], rest[1]) {
-            return false;
-        }
-        rest = &rest[2..];
     }
     true
 }
 
-// The same of a number.
-fn meet_number(table: &mut [u64], number: u16) -> bool
-    requires { length table.old ≡ table_words }
-    ensures { Meets (number ∷ []) table.old table.new result }
-{
-    meet(table, (number % 256) as u8, (number / 256) as u8)
-}
-
 // The same of a row's entry at column c, where the row has a parameter there; another is not read.
-fn meet_entry(table: &mut [u64], set: ColumnSet, row: &[u16], c: usize) -> bool
-    requires { (length table.old ≡ table_words) × (c < length row.now) }
-    ensures { Meets (entry_at (members (whole set)) row.now c) table.old table.new result }
+fn meet_entry(table: &mut [u64], set: ColumnSet, c: usize, number: u16) -> bool
+    requires { length table.old ≡ table_words }
+    ensures { Meets (entry_at (members (whole set)) c number) table.old table.new result }
 {
-    if !columns::contains(set, c) {
+    if !set.contains(c) {
         return true;
     }
-    meet_number(table, row[c])
+    let [lo, hi] = number.to_le_bytes();
+    meet(table, lo, hi)
 }
 
 // The same of each parameter of a row.
@@ -110,12 +69,10 @@ fn meet_row(table: &mut [u64], set: ColumnSet, row: &[u16]) -> bool
     requires { length table.old ≡ table_words }
     ensures { Meets (picked (members (whole set)) 0 row.now) table.old table.new result }
 {
-    let mut c = 0;
-    while c < row.len() {
-        if !meet_entry(table, set, row, c) {
+    for (c, number) in row.iter().enumerate() {
+        if !meet_entry(table, set, c, *number) {
             return false;
         }
-        c = c + 1;
     }
     true
 }
@@ -127,13 +84,12 @@ pub fn numbers_once(parameters: &[u64], numbers: &[u16], n: usize, b: usize) -> 
 {
     let mut table = [0u64; TABLE_WORDS];
     let mut rest = numbers;
-    let mut r = 0;
-    while r < b {
-        if !meet_row(&mut table, columns::row(parameters, r), &rest[..n]) {
+    for r in 0..b {
+        let (row, others) = rest.split_at(n);
+        if !meet_row(&mut table, columns::row(parameters, r), row) {
             return false;
         }
-        rest = &rest[n..];
-        r = r + 1;
+        rest = others;
     }
     true
 }

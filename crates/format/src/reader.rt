@@ -1,55 +1,55 @@
-// The field reader: it carries the unread rest of a file from field to field. Each function takes it apart and calls a function on
-// the slice; read_header and judge_file have plain parameters, for every caller that needs no more than the file's judgement.
+// The field reader: it carries the unread rest of a file from field to field. Each function takes it apart and calls one on the
+// slice, and where more follows hands back a reader of that.
 ghost use Rattle.std.specs.Prelude.{◌≡◌};
-ghost use Rattle.format.specs.File.Piece.{said_rest, LastPart};
-ghost use Rattle.format.specs.File.Format.{judge, header};
-ghost use Rattle.format.specs.File.Steps.{next_said};
+ghost use Rattle.format.specs.Refusals.{first_refusal};
+ghost use Rattle.format.specs.Refused.{refusal_of};
+ghost use Rattle.format.specs.File.Piece.{closed, Judgement};
+ghost use Rattle.format.specs.File.Format.{prime_field, sizes_field, row_fields};
+ghost use Rattle.format.specs.File.Unnumbered.{unnumbered_rows};
+ghost use Rattle.format.specs.File.Steps.{PrimeRead, SizesRead};
 
-use crate::fields::said_rest;
-use crate::header::{Header, next_fields, nothing_said};
+use crate::header::{Header, prime_field, sizes_field};
+use crate::judge::{judge_row_fields, judge_unnumbered_rows};
+use crate::refusals::Refusal;
 
 #[derive(Clone, Copy)]
 pub struct Reader<'a> {
     pub rest: &'a [u8],
 }
 
-// A reader before the first field.
-pub fn open_reader<'a>(file: &'a [u8]) -> Reader<'a>
-    ensures { result.rest ≡ file.entry }
-{
-    Reader { rest: file }
-}
-
-// What the fields say that are due next, after those before.
-pub fn judge_next<'a>(reader: Reader<'a>, before: Header) -> Header
-    ensures { result ≡ next_said reader.entry.rest.now before }
-{
-    next_fields(reader.rest, before)
-}
-
-// The reader after the field in front: the last part of its rest, or the empty part at the end where there is less.
-pub fn after_field<'a>(reader: Reader<'a>) -> Reader<'a>
-    ensures { LastPart (said_rest reader.entry.rest.now) reader.entry.rest result.rest }
-{
-    Reader {
-        rest: said_rest(reader.rest),
+impl<'a> Reader<'a> {
+    // Before the first field.
+    pub fn open(file: &'a [u8]) -> Reader<'a>
+        ensures { result.rest ≡ file.entry }
+    {
+        Reader { rest: file }
     }
-}
 
-// What a file says before its rows, with its refusal.
-pub fn read_header(file: &[u8]) -> Header
-    ensures { result ≡ header file.now }
-{
-    let first = open_reader(file);
-    let prime = judge_next(first, nothing_said());
-    let second = after_field(first);
-    let sizes = judge_next(second, prime);
-    judge_next(after_field(second), sizes)
-}
+    pub fn prime(self) -> Result<(u32, Reader<'a>), Refusal>
+        ensures { Judgement (prime_field.tests self.entry.rest.now) (PrimeRead self.entry.rest.now) result }
+    {
+        let (p, rest) = prime_field(self.rest)?;
+        Ok((p, Reader { rest }))
+    }
 
-// The refusal of a file, or 0.
-pub fn judge_file(file: &[u8]) -> u32
-    ensures { result ≡ judge file.now }
-{
-    read_header(file).refusal
+    pub fn sizes(self, p: u32) -> Result<(Header, Reader<'a>), Refusal>
+        ensures { Judgement (sizes_field.tests self.entry.rest.now) (SizesRead p self.entry.rest.now) result }
+    {
+        let (header, rest) = sizes_field(self.rest, p)?;
+        Ok((header, Reader { rest }))
+    }
+
+    // The fields from tag 3 on, up to the end of the file.
+    pub fn rows(self, header: Header) -> Result<(), Refusal>
+        ensures { refusal_of result ≡ first_refusal (closed (row_fields header.p (header.n, header.a, header.b)) self.entry.rest.now) }
+    {
+        judge_row_fields(self.rest, header)
+    }
+
+    // The same of an unnumbered file.
+    pub fn unnumbered_rows(self, header: Header) -> Result<(), Refusal>
+        ensures { refusal_of result ≡ first_refusal (closed (unnumbered_rows header.p (header.n, header.a, header.b)) self.entry.rest.now) }
+    {
+        judge_unnumbered_rows(self.rest, header)
+    }
 }

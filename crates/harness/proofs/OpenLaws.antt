@@ -25,7 +25,7 @@ use Rattle.open_models.specs.Open.{Open, Edit, edit_refusal, done}
 use Rattle.open_models.proofs.HeldLaws.{after_accepted}
 use Rattle.editing.specs.Edits.{meant, kind_tests, edit_by, words_done, columns_done}
 use Rattle.editing.specs.Calls.{EditCall}
-use Rattle.editing.specs.declared.Held.{Held}
+use Rattle.editing.specs.Shown.{Held}
 use Rattle.editing.specs.declared.edit.Edit.{Edit as CodeEdit}
 use Rattle.harness.specs.Calls.{holding_columns, edit_due, EditBytes}
 

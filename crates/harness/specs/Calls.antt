@@ -1,5 +1,7 @@
 -- The calls for a model handed over, their answers as the bytes of the calls on files; and the reading of a file into areas. Definitions only.
-use Rattle.std.specs.Prelude.{ℕ, ◌≡◌, List, [], length, take}
+use Rattle.std.specs.Prelude.{ℕ, ◌≡◌, Bool, true, false, List, [], length, take, Result, Some, None}
+use Rattle.std.specs.Prelude as prelude
+use Rattle.std.specs.Borrow.{Bor}
 use Rattle.std.proofs.Math.Option.{Option}
 use Rattle.listed_models.specs.ListedModel.{listed_model}
 use Rattle.mixed_models.specs.Mixed.{mixed}
@@ -7,8 +9,11 @@ use Rattle.limits.specs.Limits.{set_bytes}
 use Rattle.columns.specs.Bytes.{number, bytes_of}
 use Rattle.columns.specs.Columns.{members}
 use Rattle.columns.specs.ColumnSets.{whole, row_numbers}
+use Rattle.models.specs.declared.LentModel.{LentModel}
 use Rattle.format.specs.Lists.{over}
 use Rattle.format.specs.Refusals.{unless, ◌then◌, first_refusal, where_accepted, area_short, area_test, model_tests, mixed_tests}
+use Rattle.format.specs.Refused.{refusal_of}
+use Rattle.format.specs.declared.refusals.Refusal.{Refusal}
 use Rattle.loader.specs.declared.header.Sizes.{Sizes}
 use Rattle.loader.specs.FileRead.{FileRead}
 use Rattle.host.specs.AreaCall.{AreaCall, WrittenOver}
@@ -26,6 +31,14 @@ use Rattle.blocks.specs.Bytes.{blocks_length, blocks_bytes}
 use Rattle.degrees.specs.Degrees.{listed_powers}
 use Rattle.degree.specs.Answers.{dynamic_tests, DegreeAnswered}
 use Rattle.degree.specs.Bytes.{degree_length, degree_bytes}
+
+-- the model of these numbers and lent rows, with its numbers where it is told that it has them
+abbrev pub numbers_told : Bool → Bor (List ℕ) → prelude.Option (Bor (List ℕ))
+numbers_told false ks = None
+numbers_told true ks = Some ks
+
+abbrev pub model_lent : (p n a b : ℕ) (constants parameters : Bor (List ℕ)) → Bool → Bor (List ℕ) → LentModel
+model_lent p n a b cs ws numbered ks = record { p = p; n = n; a = a; b = b; constants = cs; parameters = ws; numbers = numbers_told numbered ks }
 
 -- the layered call: as the model is judged, then 8 for the area
 abbrev pub LayeredBytes : (p n a b : ℕ) (cs ws : List ℕ) → Option (List ℕ) → (area : List ℕ) (number : ℕ) (area' : List ℕ) → Type 0
@@ -82,8 +95,8 @@ pub record EditBytes (p n a b : ℕ) (cs words present : List ℕ) (kind row col
 abbrev pub AnswerBytes : (p n a b : ℕ) (cs ws : List ℕ) (w : ℕ) (area : List ℕ) (number : ℕ) (area' : List ℕ) → Type 0
 AnswerBytes p n a b cs ws w = AreaCall (answer_tests (holding_columns p n a b cs ws w)) [] answer_length (AnswerWritten (open_model (holding_columns p n a b cs ws w)))
 
--- a reading: the refusal, and the areas afterwards; some sizes are those of the file
+-- a reading: the refusal, and the areas afterwards; some sizes are those of the file, where it is not refused
 pub record FileInAreas (s cs ws ks : List ℕ) (refusal : ℕ) (cs' ws' ks' : List ℕ) : Type 0 where
-  pub sizes : Sizes
-  pub is_refusal : refusal ≡ sizes.refusal
+  pub sizes : Result Sizes Refusal
+  pub is_refusal : refusal ≡ refusal_of sizes
   pub is_read : FileRead s cs ws ks sizes cs' ws' ks'

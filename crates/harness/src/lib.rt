@@ -7,24 +7,62 @@ ghost use Rattle.columns.specs.Bytes.{number};
 ghost use Rattle.columns.specs.Columns.{room_bytes, members};
 ghost use Rattle.columns.specs.ColumnSets.{row_numbers};
 ghost use Rattle.format.specs.Numbers.{lent};
+ghost use Rattle.format.specs.Refused.{refusal_of};
 ghost use Rattle.format.specs.File.Format.{WriteCall};
 ghost use Rattle.touching.specs.RowCount.{touching_count};
-ghost use Rattle.harness.specs.Calls.{LayeredBytes, MixedBytes, MultipliersBytes, ReasonBytes, AcceptanceCallBytes, BlocksCallBytes, DegreeCallBytes, OpenBytes, EditBytes, AnswerBytes, FileInAreas};
+ghost use Rattle.harness.specs.Calls.{model_lent, LayeredBytes, MixedBytes, MultipliersBytes, ReasonBytes, AcceptanceCallBytes, BlocksCallBytes, DegreeCallBytes, OpenBytes, EditBytes, AnswerBytes, FileInAreas};
 
 use acceptance::{CLAIM_LENGTH, model_acceptance, put_acceptance, read_claim};
 use blocks::{model_blocks, put_blocks};
-use degree::{model_degree, put_degree};
+use columns::ColumnSet;
+use degree::{ModelPowers, model_degree, put_degree};
 use editing::{edit_model, name_edit, open_answer, open_model};
-use format::{put_set, refusals};
+use format::{Refusal, put_set, refusals};
 use host::{put_answer, put_mixed};
 use layered::layered_rank;
 use limits::SET_BYTES;
 use loader::read_file;
 use mixed::mixed_rank;
+use models::LentModel;
 use multipliers::{model_multipliers, put_multipliers};
 use reason::{model_reason, put_reason};
 use touching::touching_rows;
 use writer::write_file;
+
+// The model of these numbers and rows; the numbers of its parameters count where it is numbered.
+fn lent_model<'a>(
+    p: u32,
+    n: usize,
+    a: usize,
+    b: usize,
+    constants: &'a [u16],
+    parameters: &'a [u64],
+    numbered: bool,
+    numbers: &'a [u16],
+) -> LentModel<'a>
+    ensures { result ≡ model_lent p n a b constants.entry parameters.entry numbered numbers.entry }
+{
+    let numbers = if numbered { Some(numbers) } else { None };
+    LentModel {
+        p,
+        n,
+        a,
+        b,
+        constants,
+        parameters,
+        numbers,
+    }
+}
+
+// The number that says whether a call was refused, and why.
+fn number(given: Result<(), Refusal>) -> u32
+    ensures { result ≡ refusal_of given }
+{
+    match given {
+        Ok(()) => 0,
+        Err(refusal) => u32::from(refusal),
+    }
+}
 
 // The bytes of the layered answer.
 pub fn harness_layered(
@@ -40,11 +78,11 @@ pub fn harness_layered(
 ) -> u32
     ensures { LayeredBytes p n a b constants.now (row_numbers parameters.now) (lent numbered numbers.now) answer.old result answer.new }
 {
-    let r = layered_rank(p, n, a, b, constants, parameters, numbered, numbers);
-    if r.refusal != 0 {
-        return r.refusal;
+    let model = lent_model(p, n, a, b, constants, parameters, numbered, numbers);
+    match layered_rank(&model) {
+        Ok(found) => number(put_answer(answer, &found)),
+        Err(refusal) => u32::from(refusal),
     }
-    put_answer(answer, r)
 }
 
 // The bytes of the mixed answer.
@@ -61,11 +99,11 @@ pub fn harness_mixed(
 ) -> u32
     ensures { MixedBytes p n a b constants.now (row_numbers parameters.now) (lent numbered numbers.now) answer.old result answer.new }
 {
-    let r = mixed_rank(p, n, a, b, constants, parameters, numbered, numbers);
-    if r.refusal != 0 {
-        return r.refusal;
+    let model = lent_model(p, n, a, b, constants, parameters, numbered, numbers);
+    match mixed_rank(&model) {
+        Ok(found) => number(put_mixed(answer, &found)),
+        Err(refusal) => u32::from(refusal),
     }
-    put_mixed(answer, r)
 }
 
 // The bytes of the answer about multipliers; the bytes of the held set are handed over.
@@ -84,14 +122,12 @@ pub fn harness_multipliers(
 ) -> u32
     ensures { MultipliersBytes p n a b constants.now (row_numbers parameters.now) (lent numbered numbers.now) (number (take room_bytes held.now)) column answer.old result answer.new }
 {
-    let set = columns::of_bytes(held);
-    let r = model_multipliers(
-        p, n, a, b, constants, parameters, numbered, numbers, set, column,
-    );
-    if r.refusal != 0 {
-        return r.refusal;
+    let set = ColumnSet::of_bytes(held);
+    let model = lent_model(p, n, a, b, constants, parameters, numbered, numbers);
+    match model_multipliers(&model, set, column) {
+        Ok(found) => number(put_multipliers(answer, &found)),
+        Err(refusal) => u32::from(refusal),
     }
-    put_multipliers(answer, r)
 }
 
 // The bytes of the answer about the reason for a column.
@@ -109,11 +145,11 @@ pub fn harness_reason(
 ) -> u32
     ensures { ReasonBytes p n a b constants.now (row_numbers parameters.now) (lent numbered numbers.now) column answer.old result answer.new }
 {
-    let r = model_reason(p, n, a, b, constants, parameters, numbered, numbers, column);
-    if r.refusal != 0 {
-        return r.refusal;
+    let model = lent_model(p, n, a, b, constants, parameters, numbered, numbers);
+    match model_reason(&model, column) {
+        Ok(found) => number(put_reason(answer, &found)),
+        Err(refusal) => u32::from(refusal),
     }
-    put_reason(answer, r)
 }
 
 // The byte of the answer about a claim, whose bytes are handed over.
@@ -131,15 +167,13 @@ pub fn harness_accepts(
 ) -> u32
     ensures { AcceptanceCallBytes p n a b constants.now (row_numbers parameters.now) (lent numbered numbers.now) claim.now answer.old result answer.new }
 {
-    let c = read_claim(claim);
-    let r = model_acceptance(p, n, a, b, constants, parameters, numbered, numbers, c);
-    if r.refusal != 0 {
-        return r.refusal;
+    let read = read_claim(claim);
+    let model = lent_model(p, n, a, b, constants, parameters, numbered, numbers);
+    match model_acceptance(&model, &read) {
+        Ok(_) if claim.len() < CLAIM_LENGTH => refusals::AREA_SHORT,
+        Ok(accepted) => number(put_acceptance(answer, accepted)),
+        Err(refusal) => u32::from(refusal),
     }
-    if claim.len() < CLAIM_LENGTH {
-        return refusals::AREA_SHORT;
-    }
-    put_acceptance(answer, r)
 }
 
 // The bytes of the blocks.
@@ -156,11 +190,11 @@ pub fn harness_blocks(
 ) -> u32
     ensures { BlocksCallBytes p n a b constants.now (row_numbers parameters.now) (lent numbered numbers.now) answer.old result answer.new }
 {
-    let r = model_blocks(p, n, a, b, constants, parameters, numbered, numbers);
-    if r.refusal != 0 {
-        return r.refusal;
+    let model = lent_model(p, n, a, b, constants, parameters, numbered, numbers);
+    match model_blocks(&model) {
+        Ok(found) => number(put_blocks(answer, &found)),
+        Err(refusal) => u32::from(refusal),
     }
-    put_blocks(answer, r)
 }
 
 // The bytes of the degree and of an assignment that reaches it.
@@ -180,23 +214,16 @@ pub fn harness_degree(
 ) -> u32
     ensures { DegreeCallBytes p n a b constants.now (row_numbers parameters.now) (lent numbered numbers.now) rowpowers.now columnpowers.now parameterpowers.now answer.old result answer.new }
 {
-    let r = model_degree(
-        p,
-        n,
-        a,
-        b,
-        constants,
-        parameters,
-        numbered,
-        numbers,
-        rowpowers,
-        columnpowers,
-        parameterpowers,
-    );
-    if r.refusal != 0 {
-        return r.refusal;
+    let model = lent_model(p, n, a, b, constants, parameters, numbered, numbers);
+    let powers = ModelPowers {
+        rows: rowpowers,
+        columns: columnpowers,
+        parameters: parameterpowers,
+    };
+    match model_degree(&model, &powers) {
+        Ok(found) => number(put_degree(answer, &found)),
+        Err(refusal) => u32::from(refusal),
     }
-    put_degree(answer, r)
 }
 
 // The bytes of the columns present of a model that is opened.
@@ -213,11 +240,11 @@ pub fn harness_open(
 ) -> u32
     ensures { OpenBytes p n a b constants.now (row_numbers parameters.now) (lent numbered numbers.now) present.old result present.new }
 {
-    let r = open_model(p, n, a, b, constants, parameters, numbered, numbers);
-    if r.refusal != 0 {
-        return r.refusal;
+    let model = lent_model(p, n, a, b, constants, parameters, numbered, numbers);
+    match open_model(&model) {
+        Ok(set) => put_set(present, set),
+        Err(refusal) => u32::from(refusal),
     }
-    put_set(present, r.present)
 }
 
 // An edit of an open model, by its kind, row and column; the bytes of the columns present are handed over and changed.
@@ -235,20 +262,18 @@ pub fn harness_edit(
 ) -> u32
     ensures { EditBytes p n a b constants.now parameters.old present.old kind row column result parameters.new present.new }
 {
-    let named = name_edit(kind, row, column);
-    if named.refusal != 0 {
-        return named.refusal;
-    }
+    let edit = match name_edit(kind, row, column) {
+        Ok(edit) => edit,
+        Err(refusal) => return u32::from(refusal),
+    };
     if present.len() < SET_BYTES {
         return refusals::AREA_SHORT;
     }
-    let set = columns::of_bytes(&present[..SET_BYTES]);
-    let edit = named.edit;
-    let r = edit_model(p, n, a, b, constants, parameters, set, edit);
-    if r.refusal != 0 {
-        return r.refusal;
+    let set = ColumnSet::of_bytes(&present[..SET_BYTES]);
+    match edit_model(p, n, a, b, constants, parameters, set, edit) {
+        Ok(changed) => put_set(present, changed),
+        Err(refusal) => u32::from(refusal),
     }
-    put_set(present, r.present)
 }
 
 // The bytes of the answer to an open model; the bytes of the columns present are handed over.
@@ -264,12 +289,12 @@ pub fn harness_answer(
 ) -> u32
     ensures { AnswerBytes p n a b constants.now (row_numbers parameters.now) (number (take room_bytes present.now)) answer.old result answer.new }
 {
-    let set = columns::of_bytes(present);
-    let r = open_answer(p, n, a, b, constants, parameters, set);
-    if r.refusal != 0 {
-        return r.refusal;
+    let set = ColumnSet::of_bytes(present);
+    let model = LentModel::unnumbered(p, n, a, b, constants, parameters);
+    match open_answer(&model, set) {
+        Ok(found) => number(put_answer(answer, &found)),
+        Err(refusal) => u32::from(refusal),
     }
-    put_answer(answer, r)
 }
 
 // The bytes of the model's file; what a C caller does not see is how many they are.
@@ -286,8 +311,11 @@ pub fn harness_write(
 ) -> u32
     ensures { (written : ℕ) × WriteCall p n a b constants.now (row_numbers parameters.now) (lent numbered numbers.now) out.old result written out.new }
 {
-    let w = write_file(p, n, a, b, constants, parameters, numbered, numbers, out);
-    w.refusal
+    let model = lent_model(p, n, a, b, constants, parameters, numbered, numbers);
+    match write_file(&model, out) {
+        Ok(_) => 0,
+        Err(refusal) => u32::from(refusal),
+    }
 }
 
 // The model in a file, read into areas; what a C caller does not see are its sizes and whether it is numbered.
@@ -299,13 +327,15 @@ pub fn harness_read(
 ) -> u32
     ensures { FileInAreas file.now constants.old (row_numbers parameters.old) numbers.old result constants.new (row_numbers parameters.new) numbers.new }
 {
-    let sizes = read_file(file, constants, parameters, numbers);
-    sizes.refusal
+    match read_file(file, constants, parameters, numbers) {
+        Ok(_) => 0,
+        Err(refusal) => u32::from(refusal),
+    }
 }
 
 // How many parameter rows, b of them in an area, have a parameter in a set of columns below n; the bytes of the set are handed over.
 pub fn harness_touching(n: usize, b: usize, parameters: &[u64], set: &[u8]) -> usize
     ensures { result ≡ touching_count n b (row_numbers parameters.now) (members (number (take room_bytes set.now))) }
 {
-    touching_rows(parameters, n, b, columns::of_bytes(set))
+    touching_rows(parameters, n, b, ColumnSet::of_bytes(set))
 }

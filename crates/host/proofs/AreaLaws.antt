@@ -1,12 +1,15 @@
 -- How a call that lends an area answers, from what it was told of the file or the model. Assumes nothing.
-use Prim.Native.Nat.{ℕ, ◌≤◌, ◌<◌}
-use mathlib.Core.Path.{◌≡◌, refl, sym, ◌∙◌}
+use Prim.Native.Nat.{ℕ, ◌+◌, ◌-◌, ◌≤◌, ◌<◌}
+use mathlib.Core.Path.{◌≡◌, refl, sym, ap, ◌∙◌, subst}
+use Rattle.std.proofs.Common.{le_of_eq, take_all}
+use borrow.Rule.Slice.PartMut.{put_mid}
 use mathlib.Core.Logic.{◌≢◌}
 use mathlib.Core.Bool.{Bool, true, false, false≢true}
-use mathlib.Core.List.{List, [], ◌∷◌}
-use lib.ListN.{length}
+use mathlib.Core.List.{List, [], ◌∷◌, ◌++◌, append-nil}
+use lib.ListN.{length, take, drop, length-drop, drop_of_length-le}
 use borrow.Author.Tests.{lt-leb}
 use Rattle.format.specs.Lists.{over}
+use Rattle.format.specs.OverLaws.{Wrote, wrote_run}
 use Rattle.format.specs.Refusals.{Cause, Tests, unless, ◌then◌, first_refusal, area_short, area_test}
 use Rattle.format.specs.RefusalLaws.{then_refused, then_passed, then_zero, unless_zero}
 use Rattle.format.specs.TestLaws.{area_reads}
@@ -72,6 +75,17 @@ refused_beside before us t least WrittenOver area l e r h = rw e (refused_around
 
 pub passed_beside : (before us : Tests) (t : Bool) → t ≡ true → first_refusal (before then us) ≡ first_refusal (before then (unless t area_short then us))
 passed_beside before us t e = rw e (sym (passed_between before us area_short))
+
+-- the next run of a writer (`Wrote`), copied into the part that it takes
+pub wrote_copied : {all todo d₀ d : List ℕ} {at : ℕ} (bs rest e : List ℕ) (k : ℕ) → Wrote all todo d₀ d at → todo ≡ bs ++ rest → e ≡ bs → length bs ≡ k → Wrote all rest d₀ (put_mid at k d e) (at + k)
+unfolding over
+wrote_copied {all} {todo} {d₀} {d} {at} bs rest e k w t q h =
+    let m : length (drop at d) ≡ length d - at = length-drop at d in
+    let z : drop (length d - at) (drop at d) ≡ [] = drop_of_length-le (drop at d) (le_of_eq m) in
+    let u : take (length d - at) (drop at d) ≡ drop at d = take_all (length d - at) (drop at d) (le_of_eq m) in
+    let mid : List ℕ = e ++ drop k (drop at d) in
+    let v = wrote_run bs rest mid k w t (rw (u, h, q) refl) h in
+    subst (λ (l : List ℕ). Wrote all rest d₀ (take at d ++ l) (at + k)) (ap (λ (l : List ℕ). mid ++ l) z ∙ append-nil mid) v
 
 -- ---- bytes put into an area
 

@@ -5,9 +5,9 @@ use Rattle.columns.specs.Bytes.{bytes_of}
 use Rattle.columns.specs.ColumnSets.{whole}
 use Rattle.rank.specs.Layered.Model.{Model}
 use Rattle.mixed_models.specs.Mixed.{Mixed}
-use Rattle.layered.specs.declared.Answer.{Answer}
+use Rattle.layered.specs.Shown.{Answer}
 use Rattle.layered.specs.Answers.{Answered}
-use Rattle.mixed.specs.declared.MixedAnswer.{MixedAnswer}
+use Rattle.mixed.specs.Shown.{MixedAnswer}
 use Rattle.mixed.specs.MixedAnswers.{MixedAnswered}
 use Rattle.host.specs.AreaCall.{WrittenOver}
 

@@ -22,7 +22,7 @@ use Rattle.columns.specs.Words.Operations.{within_iff, word_members}
 use Rattle.columns.specs.Words.SetLaws.{upto_iff}
 use Rattle.rank.specs.Verdict.{verdict_number}
 use Rattle.rank.specs.Layered.Model.{Model}
-use Rattle.rank.specs.Layered.Rank.{rank, placed, short, verdict}
+use Rattle.rank.specs.Layered.Rank.{rank, placed, verdict}
 use Rattle.rank.proofs.Layered.ColumnOrder.{placed_size}
 use Rattle.exchange.specs.Solution.{Solved}
 use Rattle.exchange.specs.Solve.{fitting, admissible, Shown}
@@ -38,7 +38,7 @@ use Rattle.format.specs.NumberLaws.{count_within}
 use Rattle.format.specs.Refusals.{number_of, column_beyond, held_columns, prime_test, parameter_test, numbers_room, number_test, model_tests, refusal}
 use Rattle.format.specs.RefusalLaws.{first_fails, first_passes, first_none, then_refused, then_passed, then_zero, unless_zero, last_passed}
 use Rattle.format.specs.TestLaws.{prime_reads, parameter_reads, Accepted, model_accepted, accepted_model, constant_below}
-use Rattle.layered.specs.declared.Answer.{Answer}
+use Rattle.layered.specs.Shown.{Answer}
 use Rattle.layered.specs.Answers.{Answered, offered_refusal}
 use Rattle.layered.specs.Beforehand.{beforehand}
 

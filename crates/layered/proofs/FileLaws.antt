@@ -30,9 +30,13 @@ use Rattle.format.specs.TestLaws.{area_reads, accepted_model}
 use Rattle.format.specs.File.Piece.{closed}
 use Rattle.format.specs.File.Format.{FileModel, ValidModel, fields, judge, decode, area_tests, no_model, read_model, rows_refusal, RowsCall}
 use Rattle.format.specs.File.FormatLaws.{decoded_valid}
-use Rattle.layered.specs.declared.Answer.{Answer}
+use Rattle.std.specs.Prelude.{Err}
+use Rattle.format.specs.Refused.{refusal_number}
+use Rattle.format.specs.declared.refusals.Refusal.{Refusal}
+use Rattle.format.proofs.Refused.{refusal_some}
+use Rattle.layered.specs.Shown.{Answer, answer_shown}
 use Rattle.layered.specs.FileModel.{file_model}
-use Rattle.layered.specs.Answers.{Answered, RankCall, LayeredCall, LayeredFileCall}
+use Rattle.layered.specs.Answers.{Refused, Answered, RankCall, LayeredCall, LayeredFileCall}
 
 -- ---- areas of zeros
 
@@ -166,6 +170,14 @@ module _ {s : List ℕ} (bytes : AreBytes s) {k p n a b : ℕ} {t : Bool} {cs' w
         by_elements p n a b c w = model_modulo (modulus p).0 (modulus p).1 n a b (λ i x. res (modulus p).0 (modulus p).1 (c (i * n + x))) (λ r x. members (w r) x) (λ x. true)
 
 -- ---- the answer to it
+
+-- a refusal that is due says nothing else
+pub answer_refused : {due : ℕ} {A : Type 0} (e : Refusal) → refusal_number e ≡ due → RankCall due (refusal_number e) (Refused (answer_shown (Err e))) A
+answer_refused e h = record {
+  is_refusal = h;
+  if_refused = λ _. record { no_verdict = refl; no_rank = refl; none_placed = refl; none_on_the_side = refl; none_short = refl; no_columns = refl };
+  if_accepted = λ z. absurd (refusal_some e (h ∙ z));
+}
 
 module _ {due given : ℕ} {R A : Type 0} where
   pub call_refused : given ≡ due → given ≢ 0 → R → RankCall due given R A

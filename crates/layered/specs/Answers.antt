@@ -11,10 +11,12 @@ use Rattle.exchange.specs.Solution.{Solved}
 use Rattle.rank.specs.Modulus.{modulus}
 use Rattle.listed_models.specs.ListedModel.{listed_at, listed_model}
 use Rattle.rank.specs.Steps.{Demand3}
+use Rattle.models.specs.Lent.{constants_lent, rows_lent, numbers_lent}
+use Rattle.models.specs.declared.LentModel.{LentModel}
 use Rattle.format.specs.Refusals.{◌then◌, first_refusal, held_columns, model_tests, refusal}
 use Rattle.format.specs.File.Format.{judge}
 use Rattle.layered.specs.FileModel.{file_model}
-use Rattle.layered.specs.declared.Answer.{Answer}
+use Rattle.layered.specs.Shown.{Answer}
 
 -- a refusal has every other number 0, every set empty and no row with a column
 pub record Refused (r : Answer) : Type 0 where
@@ -65,3 +67,19 @@ pub record OfferedAnswered (p n a b offered : ℕ) (cs ws : List ℕ) (r : Answe
 
 abbrev pub OfferedCall : (p n a b offered : ℕ) (cs ws : List ℕ) → Answer → Type 0
 OfferedCall p n a b offered cs ws r = RankCall (offered_refusal p n a b offered cs ws) r.refusal (Refused r) (OfferedAnswered p n a b offered cs ws r)
+
+-- ---- the same of a model that is lent
+
+abbrev pub LayeredModelCall : LentModel → Answer → Type 0
+LayeredModelCall m r = LayeredCall m.p m.n m.a m.b (constants_lent m) (rows_lent m) (numbers_lent m) r
+
+-- without its numbers
+abbrev pub UnnumberedModelCall : LentModel → Answer → Type 0
+UnnumberedModelCall m r = LayeredCall m.p m.n m.a m.b (constants_lent m) (rows_lent m) none r
+
+-- without its numbers, over some of the columns
+abbrev pub offered_model_refusal : LentModel → (offered : ℕ) → ℕ
+offered_model_refusal m offered = offered_refusal m.p m.n m.a m.b offered (constants_lent m) (rows_lent m)
+
+abbrev pub OfferedModelCall : LentModel → (offered : ℕ) → Answer → Type 0
+OfferedModelCall m offered r = OfferedCall m.p m.n m.a m.b offered (constants_lent m) (rows_lent m) r

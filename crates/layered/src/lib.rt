@@ -1,26 +1,27 @@
 // The layered rank call: the answer to a model handed over, over all its columns or some of them, or in a file.
 #![tactic(auto)]
 
-ghost use Rattle.std.specs.Prelude.{◌≡◌};
-ghost use Rattle.std.proofs.Math.Option.{none};
+ghost use Rattle.std.specs.Prelude.{◌≡◌, ◌≢◌, MatchOption};
 ghost use Rattle.columns.specs.ColumnSets.{whole, row_numbers};
+ghost use Rattle.models.specs.Verdicts.{verdict_code};
 ghost use Rattle.rank.specs.Verdict.{verdict_number};
-ghost use Rattle.format.specs.Numbers.{lent};
-ghost use Rattle.format.specs.Refusals.{refusal};
-ghost use Rattle.layered.specs.Answers.{Refused, offered_refusal, OfferedCall, LayeredCall, LayeredFileCall};
-ghost use Rattle.layered.specs.Beforehand.{beforehand};
+ghost use Rattle.format.specs.Refused.{refusal_of};
+ghost use Rattle.layered.specs.Shown.{answer_shown};
+ghost use Rattle.layered.specs.Answers.{offered_model_refusal, OfferedModelCall, LayeredModelCall, UnnumberedModelCall, LayeredFileCall};
+ghost use Rattle.layered.specs.Beforehand.{beforehand, SolutionGiven};
 
 use columns::{ColumnSet, MOST_WORDS};
-use format::{judge_model, parameters_within, refusals};
-use limits::{LARGEST_PRIME, MOST_CONSTANTS, MOST_ROWS, NO_COLUMN};
+use exchange::{Solution, solve};
+use format::{Refusal, judge_model, parameters_within};
+use limits::{LARGEST_PRIME, MOST_CONSTANTS, MOST_ROWS};
 use loader::read_rows;
+use models::{LentModel, Verdict};
 
-// The refusal or 0; the verdict, 0 "open", 1 "determined" or 2 "surplus"; the rank; the placed columns, those of them on the
-// constant side, and the short set; and the column of each parameter row, or that it has none.
+// The verdict; the rank; the placed columns, those of them on the constant side, and the short set; and the column of each parameter row,
+// or that it has none.
 #[derive(Drop)]
 pub struct Answer {
-    pub refusal: u32,
-    pub verdict: u8,
+    pub verdict: Verdict,
     pub rank: u8,
     pub placed: ColumnSet,
     pub constants: ColumnSet,
@@ -28,171 +29,108 @@ pub struct Answer {
     pub rows: [u8; MOST_ROWS],
 }
 
-// A refusal alone.
-pub fn refuse(number: u32) -> Answer
-    ensures { (result.refusal ≡ number) × Refused result }
-{
-    Answer {
-        refusal: number,
-        verdict: 0,
-        rank: 0,
-        placed: columns::empty(),
-        constants: columns::empty(),
-        short: columns::empty(),
-        rows: [NO_COLUMN; MOST_ROWS],
-    }
-}
-
-// The verdict on a rank, with so many columns and rows: 0 "open", 1 "determined", 2 "surplus".
-pub fn verdict_of(rank: usize, columns: usize, rows: usize) -> u8
-    ensures { result ≡ verdict_number rank columns rows }
+// The verdict on a rank, with so many columns and rows.
+pub fn verdict_of(rank: usize, columns: usize, rows: usize) -> Verdict
+    ensures { verdict_code result ≡ verdict_number rank columns rows }
 {
     if rank != columns {
-        return 0;
+        return Verdict::Open;
     }
     if rank == rows {
-        return 1;
+        return Verdict::Determined;
     }
     if rank < rows {
-        return 2;
+        return Verdict::Surplus;
     }
-    0
+    Verdict::Open
 }
 
 // The tests that the solver does not make.
-fn passes_beforehand(p: u32, n: usize, b: usize, parameters: &[u64]) -> bool
-    ensures { result ≡ beforehand p n b (row_numbers parameters.now) }
+fn passes_beforehand(model: &LentModel<'_>) -> bool
+    ensures { result ≡ beforehand model.now.p model.now.n model.now.b (row_numbers model.now.parameters.now) }
 {
-    if p > LARGEST_PRIME {
+    if model.p > LARGEST_PRIME {
         return false;
     }
-    if n < 1 {
+    if model.n < 1 {
         return false;
     }
-    parameters_within(parameters, b, n)
+    parameters_within(model.parameters, model.b, model.n)
 }
 
-// The answer to the layered model of p, n, a, b, the constants row by row, the parameter rows and, where it is numbered, their numbers
-// row by row. Numbers are judged and no more: parameters that are numbered apart are as independent as parameters without numbers.
-pub fn layered_rank(
-    p: u32,
-    n: usize,
-    a: usize,
-    b: usize,
-    constants: &[u16],
-    parameters: &[u64],
-    numbered: bool,
-    numbers: &[u16],
-) -> Answer
-    ensures { LayeredCall p n a b constants.now (row_numbers parameters.now) (lent numbered numbers.now) result }
+// The answer to a layered model. Numbers are judged and no more: parameters that are numbered apart are as independent as parameters
+// without numbers.
+pub fn layered_rank(model: &LentModel<'_>) -> Result<Answer, Refusal>
+    ensures { LayeredModelCall model.now (answer_shown result) }
 {
-    if !numbered {
-        return unnumbered_rank(p, n, a, b, constants, parameters);
+    match model.numbers {
+        None => unnumbered_rank(model),
+        Some(_) => {
+            judge_model(model)?;
+            unnumbered_rank(model)
+        }
     }
-    let number = judge_model(p, n, a, b, constants, parameters, numbered, numbers);
-    if number != 0 {
-        return refuse(number);
-    }
-    unnumbered_rank(p, n, a, b, constants, parameters)
 }
 
-// The refusal of an unnumbered model, or 0.
-fn judge_unnumbered(
-    p: u32,
-    n: usize,
-    a: usize,
-    b: usize,
-    constants: &[u16],
-    parameters: &[u64],
-) -> u32
-    ensures { result ≡ refusal p n a b constants.now (row_numbers parameters.now) none }
+// Why a model without its numbers, of which the columns of a set are offered, is refused, if it is: last, for a column that it does not have.
+fn judge_offered(model: &LentModel<'_>, offered: ColumnSet) -> Result<(), Refusal>
+    ensures { refusal_of result ≡ offered_model_refusal model.now (whole offered) }
 {
-    // an unnumbered model has no numbers: an empty part stands for them
-    judge_model(p, n, a, b, constants, parameters, false, &constants[..0])
+    judge_model(&LentModel {
+        numbers: None,
+        ..*model
+    })?;
+    if !offered.within(model.n) {
+        return Err(Refusal::ColumnBeyond);
+    }
+    Ok(())
 }
 
-// The same of one of which the columns of a set are offered, with 11 for a column that it does not have.
-fn judge_offered(
-    p: u32,
-    n: usize,
-    a: usize,
-    b: usize,
-    offered: ColumnSet,
-    constants: &[u16],
-    parameters: &[u64],
-) -> u32
-    ensures { result ≡ offered_refusal p n a b (whole offered) constants.now (row_numbers parameters.now) }
+// What the solver gives over the columns of a set, of a model that is not refused.
+fn solution_of(model: &LentModel<'_>, offered: ColumnSet) -> Option<Solution>
+    ensures { MatchOption result (offered_model_refusal model.now (whole offered) ≢ 0) (λ s. SolutionGiven model.now offered s) }
 {
-    let number = judge_unnumbered(p, n, a, b, constants, parameters);
-    if number != 0 {
-        return number;
+    if !passes_beforehand(model) {
+        return None;
     }
-    if !columns::within(offered, n) {
-        return refusals::COLUMN_BEYOND;
-    }
-    0
+    solve(model, offered)
 }
 
-// The answer to an unnumbered model over the columns of a set: no others are placed or short, and the verdict goes by their number.
+// The answer to a model without its numbers over the columns of a set: no others are placed or short, and the verdict goes by their number.
 // The solver judges most of it, so that an accepted model is judged once; a refused one is judged again for its number.
-pub fn offered_rank(
-    p: u32,
-    n: usize,
-    a: usize,
-    b: usize,
-    offered: ColumnSet,
-    constants: &[u16],
-    parameters: &[u64],
-) -> Answer
-    ensures { OfferedCall p n a b (whole offered) constants.now (row_numbers parameters.now) result }
+pub fn offered_rank(model: &LentModel<'_>, offered: ColumnSet) -> Result<Answer, Refusal>
+    ensures { OfferedModelCall model.now (whole offered) (answer_shown result) }
 {
-    if !passes_beforehand(p, n, b, parameters) {
-        return refuse(judge_offered(p, n, a, b, offered, constants, parameters));
-    }
-    let s = exchange::solve(p, n, a, b, offered, constants, parameters);
-    if !s.valid {
-        return refuse(judge_offered(p, n, a, b, offered, constants, parameters));
-    }
-    let verdict = verdict_of(s.rank, columns::size(offered), a + b);
+    let Some(s) = solution_of(model, offered) else {
+        judge_offered(model, offered)?;
+        unreachable!()
+    };
+    let verdict = verdict_of(s.rank, offered.size(), model.a + model.b);
     let rank = s.rank as u8;
-    let placed = s.placed;
-    let side = s.constants;
-    let short = s.short;
     let rows = s.rows;
-    Answer {
-        refusal: 0,
+    Ok(Answer {
         verdict,
         rank,
-        placed,
-        constants: side,
-        short,
+        placed: s.placed,
+        constants: s.constants,
+        short: s.short,
         rows,
-    }
+    })
 }
 
-// The answer to an unnumbered model, over all its columns.
-fn unnumbered_rank(
-    p: u32,
-    n: usize,
-    a: usize,
-    b: usize,
-    constants: &[u16],
-    parameters: &[u64],
-) -> Answer
-    ensures { LayeredCall p n a b constants.now (row_numbers parameters.now) none result }
+// The answer to a model without its numbers, over all its columns.
+fn unnumbered_rank(model: &LentModel<'_>) -> Result<Answer, Refusal>
+    ensures { UnnumberedModelCall model.now (answer_shown result) }
 {
-    offered_rank(p, n, a, b, columns::below(n), constants, parameters)
+    offered_rank(model, ColumnSet::below(model.n))
 }
 
 // The answer to the layered model in a file, or the file's refusal.
-pub fn layered_file(file: &[u8]) -> Answer
-    ensures { LayeredFileCall file.now result }
+pub fn layered_file(file: &[u8]) -> Result<Answer, Refusal>
+    ensures { LayeredFileCall file.now (answer_shown result) }
 {
     let mut constants = [0u16; MOST_CONSTANTS];
     let mut parameters = [0u64; MOST_WORDS];
-    let sizes = read_rows(file, &mut constants, &mut parameters);
-    if sizes.refusal != 0 {
-        return refuse(sizes.refusal);
-    }
-    unnumbered_rank(sizes.p, sizes.n, sizes.a, sizes.b, &constants, &parameters)
+    let sizes = read_rows(file, &mut constants, &mut parameters)?;
+    unnumbered_rank(&sizes.model(&constants, &parameters))
 }

@@ -1,108 +1,42 @@
 // One line for a model: its name, and what the layered rank call answers.
 use columns::ColumnSet;
-use layered::Answer;
-use limits::{MOST_COLUMNS, MOST_ROWS, NO_COLUMN};
+use layered::{Answer, layered_rank};
+use limits::NO_COLUMN;
+use models::LentModel;
 use std::io;
-
-pub fn number(rt: &impl Print, n: u64) -> io::Result<()> {
-    print!(rt; " {n}")
-}
-
-fn each_column(rt: &impl Print, set: ColumnSet) -> io::Result<()> {
-    for x in 0..MOST_COLUMNS {
-        if columns::contains(set, x) {
-            number(rt, x as u64)?;
-        }
-    }
-    Ok(())
-}
 
 // The columns of a set, in braces.
 fn braces(rt: &impl Print, set: ColumnSet) -> io::Result<()> {
     rt.write_all(b" {")?;
-    each_column(rt, set)?;
+    for x in set {
+        print!(rt; " {x}")?;
+    }
     rt.write_all(b" }")
 }
 
-// How many rows have a column.
-fn serving(rows: [u8; MOST_ROWS]) -> usize {
-    let mut count: usize = 0;
-    for i in 0..MOST_ROWS {
-        if rows[i] != NO_COLUMN {
-            count = std::num::wrapping_add_usize(count, 1);
-        }
-    }
-    count
-}
-
 // Whether the assignment shown has as many columns as the rank says.
-fn adds_up(answer: Answer) -> bool {
-    let rows = answer.rows;
-    std::num::wrapping_add_usize(columns::size(answer.constants), serving(rows))
-        == answer.rank as usize
+fn adds_up(answer: &Answer) -> bool {
+    let serving = answer.rows.iter().filter(|x| **x != NO_COLUMN).count();
+    answer.constants.size().wrapping_add(serving) == usize::from(answer.rank)
 }
 
-fn tell(rt: &impl Print, answer: Answer) -> io::Result<()> {
-    number(rt, answer.refusal as u64)?;
-    number(rt, answer.verdict as u64)?;
-    number(rt, answer.rank as u64)?;
+fn tell(rt: &impl Print, answer: &Answer) -> io::Result<()> {
+    print!(rt; " 0 {} {}", u8::from(answer.verdict), answer.rank)?;
     braces(rt, answer.placed)?;
     braces(rt, answer.short)?;
-    if adds_up(answer) {
-        rt.write_all(b" yes\n")?;
-    } else {
-        rt.write_all(b" no\n")?;
+    let adds = if adds_up(answer) { "yes" } else { "no" };
+    println!(rt; " {adds}")
+}
+
+// The rest of a line whose name is written.
+pub fn answer_line(rt: &impl Print, model: &LentModel<'_>) -> io::Result<()> {
+    match layered_rank(model) {
+        Ok(answer) => tell(rt, &answer),
+        Err(refusal) => println!(rt; " {} 0 0 {{ }} {{ }} yes", u32::from(refusal)),
     }
-    Ok(())
 }
 
-// The rest of a line whose name is written, for an unnumbered model.
-pub fn answer_line(
-    rt: &impl Print,
-    p: u32,
-    n: usize,
-    a: usize,
-    b: usize,
-    constants: &[u16],
-    parameters: &[u64],
-) -> io::Result<()> {
-    let numbers = [0u16; 1];
-    tell(
-        rt,
-        layered::layered_rank(p, n, a, b, constants, parameters, false, &numbers[..0]),
-    )
-}
-
-// A whole line for a numbered model,
-pub fn numbered_line(
-    rt: &impl Print,
-    name: &[u8],
-    p: u32,
-    n: usize,
-    a: usize,
-    b: usize,
-    constants: &[u16],
-    parameters: &[u64],
-    numbers: &[u16],
-) -> io::Result<()> {
+pub fn line(rt: &impl Print, name: &[u8], model: &LentModel<'_>) -> io::Result<()> {
     rt.write_all(name)?;
-    tell(
-        rt,
-        layered::layered_rank(p, n, a, b, constants, parameters, true, numbers),
-    )
-}
-
-// and for an unnumbered one.
-pub fn line(
-    rt: &impl Print,
-    name: &[u8],
-    p: u32,
-    n: usize,
-    a: usize,
-    b: usize,
-    constants: &[u16],
-    parameters: &[u64],
-) -> io::Result<()> {
-    rt.write_all(name)?;
-    answer_line(rt, p, n, a, b, constants, parameters)
+    answer_line(rt, model)
 }

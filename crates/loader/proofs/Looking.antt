@@ -6,6 +6,13 @@ use mathlib.Core.List.{List}
 use native.Mathlib.Omega.{arith}
 use lib.ListN.{length, take, drop, length-drop}
 use borrow.Author.Tests.{lt-ltb, le-ltb}
+use mathlib.Core.Bool.{true, false, false≢true}
+use Rattle.std.specs.Prelude.{Result, Ok, Err}
+use Rattle.std.specs.Result.{is_err}
+use Rattle.format.specs.declared.refusals.Refusal.{Refusal}
+use Rattle.format.specs.Refused.{refusal_of}
+use Rattle.loader.proofs.Reading.{}
+use Rattle.format.proofs.Refused.{refusal_some}
 use Rattle.format.specs.Refusals.{number_of, row_beyond, head_bytes, said_length, row_test}
 use Rattle.format.specs.RefusalLaws.{first_fails, first_passes, first_none, then_refused, then_passed, then_zero, unless_zero, where_refused, accepted_value}
 use Rattle.format.specs.TestLaws.{row_reads}
@@ -31,6 +38,15 @@ lookup_passed s i e h = then_passed (closed fields s) _ 0 e (first_passes _ _ _ 
 pub lookup_accepted : (s : List ℕ) (i : ℕ) → lookup_refusal s i ≡ 0 → (judge s ≡ 0) × (i < (decode s).a)
 unfolding lookup_refusal judge
 lookup_accepted s i e = let z = then_zero (closed fields s) _ e in (z.0, (row_reads i (decode s).a).0 (unless_zero _ _ z.1))
+
+-- nothing is refused where something is given
+pub ok_given : {A : Type 0} (r : Result A Refusal) → is_err r ≡ false → refusal_of r ≡ 0
+ok_given (Ok x) e = refl
+ok_given (Err x) e = absurd (false≢true (sym e))
+
+pub err_given : {A : Type 0} (r : Result A Refusal) → is_err r ≡ true → refusal_of r ≢ 0
+err_given (Ok x) e = absurd (false≢true e)
+err_given (Err x) e = refusal_some x
 
 -- ---- what is handed back
 

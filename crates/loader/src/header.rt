@@ -1,16 +1,16 @@
 // The sizes of a file, and whether its parameters are numbered.
-ghost use Rattle.std.specs.Prelude.{◌≡◌, false, ◌<◌, length};
+ghost use Rattle.std.specs.Prelude.{◌≡◌};
 ghost use Rattle.format.specs.File.Piece.{said_rests};
+ghost use Rattle.models.specs.Lent.{unnumbered_lent};
 ghost use Rattle.loader.specs.FileRead.{SizesRead};
 
 use format::fields::said_rest;
-use format::{Header, is_numbered, read_header};
+use format::{Refusal, is_numbered, read_header};
+use models::LentModel;
 
-// What a file says before its rows, and whether its parameters are numbered; where the reading is refused, all are 0 but the refusal,
-// and nothing is numbered.
+// What a file says before its rows, and whether its parameters are numbered.
 #[derive(Clone, Copy)]
 pub struct Sizes {
-    pub refusal: u32,
     pub p: u32,
     pub n: usize,
     pub a: usize,
@@ -18,59 +18,41 @@ pub struct Sizes {
     pub numbered: bool,
 }
 
-// No sizes, with the refusal.
-pub fn no_sizes(refusal: u32) -> Sizes
-    ensures { (result.refusal ≡ refusal) × (result.p ≡ 0) × (result.n ≡ 0) × (result.a ≡ 0) × (result.b ≡ 0) × (result.numbered ≡ false) }
-{
-    Sizes {
-        refusal,
-        p: 0,
-        n: 0,
-        a: 0,
-        b: 0,
-        numbered: false,
-    }
-}
-
-// The sizes of a header, with whether the parameters are numbered.
-fn sizes_of(header: Header, numbered: bool) -> Sizes
-    ensures { (result.refusal ≡ header.refusal) × (result.p ≡ header.p) × (result.n ≡ header.n) × (result.a ≡ header.a) × (result.b ≡ header.b) × (result.n < 256) × (result.a < 256) × (result.b < 256) × (result.numbered ≡ numbered) }
-{
-    Sizes {
-        refusal: header.refusal,
-        p: header.p,
-        n: header.n as usize,
-        a: header.a as usize,
-        b: header.b as usize,
-        numbered,
+impl Sizes {
+    // The model of these sizes and of rows that were read, without numbers.
+    pub fn model<'a>(self, constants: &'a [u16], parameters: &'a [u64]) -> LentModel<'a>
+        ensures { result ≡ unnumbered_lent self.p self.n self.a self.b constants.entry parameters.entry }
+    {
+        LentModel::unnumbered(self.p, self.n, self.a, self.b, constants, parameters)
     }
 }
 
 // The sizes of a file, or its refusal.
-pub fn read_sizes(file: &[u8]) -> Sizes
+pub fn read_sizes(file: &[u8]) -> Result<Sizes, Refusal>
     ensures { SizesRead file.now result }
 {
-    let header = read_header(file);
-    if header.refusal != 0 {
-        return no_sizes(header.refusal);
-    }
+    let header = read_header(file)?;
+    let n = usize::from(header.n);
+    let a = usize::from(header.a);
+    let b = usize::from(header.b);
     // behind the fields of p and of the sizes, and the constant rows
-    let left = left_after(file, 2 + header.a as usize);
-    let at = file.len() - left;
-    let numbered = is_numbered(&file[at..], header.n as usize, header.b as usize);
-    sizes_of(header, numbered)
+    let numbered = is_numbered(after_fields(file, 2 + a), n, b);
+    Ok(Sizes {
+        p: header.p,
+        n,
+        a,
+        b,
+        numbered,
+    })
 }
 
-// How many bytes follow the k fields in front.
-pub fn left_after(file: &[u8], k: usize) -> usize
-    ensures { result ≡ length (said_rests k file.now) }
+// What follows the k fields in front.
+pub fn after_fields(file: &[u8], k: usize) -> &[u8]
+    ensures { result.now ≡ said_rests k file.now }
 {
     let mut rest = file;
-    let mut todo = k;
-    while todo > 0 {
-        let next = said_rest(rest);
-        rest = next;
-        todo = todo - 1;
+    for _ in 0..k {
+        rest = said_rest(rest);
     }
-    rest.len()
+    rest
 }

@@ -1,4 +1,4 @@
-// A file's model read into lent areas, and a constant row looked up in a file. Every public function is total, and refuses by a number.
+// A file's model read into lent areas, and a constant row looked up in a file. Every public function is total, and says why it refuses.
 #![tactic(auto)]
 
 mod header;

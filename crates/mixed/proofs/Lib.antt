@@ -1,3 +1,4 @@
 pub mod MixedEntries
 pub mod MixedAnswerLaws
 pub mod MixedFileLaws
+pub mod IdleRows

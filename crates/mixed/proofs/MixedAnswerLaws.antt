@@ -25,8 +25,8 @@ use Rattle.columns.specs.Words.Operations.{within_iff, word_members}
 use Rattle.columns.specs.Words.SetLaws.{upto_iff, inserted_same, inserted_old, inserted_split}
 use Rattle.rank.specs.Modulus.{modulus, field_of, residue_of}
 use Rattle.rank.specs.Verdict.{verdict_number}
-use Rattle.rank.specs.Layered.Model.{Assignment, placing, constants, size}
-use Rattle.rank.specs.Layered.Rank.{rank, placed, short}
+use Rattle.rank.specs.Layered.Model.{Assignment, placing, size}
+use Rattle.rank.specs.Layered.Rank.{rank, placed}
 use Rattle.rank.proofs.Layered.Restricting.{constant_placed}
 use Rattle.rank.proofs.Layered.ColumnOrder.{placed_size}
 use Rattle.exchange.specs.Solution.{shown, Solved}
@@ -40,7 +40,7 @@ use Rattle.limits.specs.Limits.{most_columns, most_rows, most_constants, no_colu
 use Rattle.format.specs.Refusals.{unless, not_mixed, mixed_test, mixed_tests, mixed_refusal, model_tests, refusal}
 use Rattle.format.specs.RefusalLaws.{first_fails, then_refused, then_passed, then_zero, zero_then, unless_zero, zero_unless}
 use Rattle.format.specs.TestLaws.{Accepted, model_accepted, constant_below}
-use Rattle.mixed.specs.declared.MixedAnswer.{MixedAnswer}
+use Rattle.mixed.specs.Shown.{MixedAnswer}
 use Rattle.mixed.specs.MixedAnswers.{MixedAnswered}
 
 one_at_most : (b : Bool) → indicator b ≤ 1

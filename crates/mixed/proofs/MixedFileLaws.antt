@@ -11,13 +11,13 @@ use Rattle.columns.specs.Words.Bytes.{AreBytes}
 use Rattle.rank.specs.Modulus.{modulus}
 use Rattle.rank.specs.Independent.{independent}
 use Rattle.rank.proofs.IndependentLaws.{independent_iff}
-use Rattle.mixed_models.specs.Mixed.{Mixed, mixed}
+use Rattle.mixed_models.specs.Mixed.{Mixed}
 use Rattle.format.specs.Refusals.{unless, ◌then◌, first_refusal, not_mixed, mixed_test, mixed_tests, mixed_refusal, model_tests, refusal}
 use Rattle.format.specs.RefusalLaws.{then_refused, then_passed}
 use Rattle.format.specs.File.Piece.{closed}
 use Rattle.format.specs.File.Format.{fields, judge, RowsCall}
 use Rattle.layered.proofs.FileLaws.{own_constants, own_parameters, own_refusal, own_accepted, own_sizes, own_made, judged, call_refused, call_as}
-use Rattle.mixed.specs.declared.MixedAnswer.{MixedAnswer}
+use Rattle.mixed.specs.Shown.{MixedAnswer}
 use Rattle.mixed.specs.MixedAnswers.{MixedRefused, MixedAnswered, MixedCall, mixed_question, MixedFileCall}
 
 -- the number of the question alone

@@ -7,11 +7,13 @@ use Rattle.columns.specs.Columns.{width, members, word_of}
 use Rattle.columns.specs.ColumnSets.{whole, empty_set}
 use Rattle.rank.specs.Layered.Rank.{short}
 use Rattle.mixed_models.specs.Mixed.{Mixed, mixed_sum, mixed_rank, mixed_verdict, layered_form, mixed}
+use Rattle.models.specs.Lent.{constants_lent, rows_lent, numbers_lent}
+use Rattle.models.specs.declared.LentModel.{LentModel}
 use Rattle.format.specs.Refusals.{Tests, unless, ◌then◌, first_refusal, not_mixed, mixed_test, mixed_refusal}
 use Rattle.format.specs.File.Piece.{closed}
 use Rattle.format.specs.File.Format.{fields, decode}
 use Rattle.layered.specs.Answers.{RankCall}
-use Rattle.mixed.specs.declared.MixedAnswer.{MixedAnswer}
+use Rattle.mixed.specs.Shown.{MixedAnswer}
 
 -- a refusal has every other number 0 and every set empty
 pub record MixedRefused (r : MixedAnswer) : Type 0 where
@@ -34,6 +36,13 @@ pub record MixedAnswered (X : Mixed) (r : MixedAnswer) : Type 0 where
 -- the mixed rank call for a model handed over; its parameters' numbers are judged, and the answer is that of the model without them
 abbrev pub MixedCall : (p n a b : ℕ) (cs ws : List ℕ) → Option (List ℕ) → MixedAnswer → Type 0
 MixedCall p n a b cs ws ns r = RankCall (mixed_refusal p n a b cs ws ns) r.refusal (MixedRefused r) (MixedAnswered (mixed p a n cs ws) r)
+
+-- the same of a model that is lent: the refusal due, and the call
+abbrev pub mixed_model_refusal : LentModel → ℕ
+mixed_model_refusal m = mixed_refusal m.p m.n m.a m.b (constants_lent m) (rows_lent m) (numbers_lent m)
+
+abbrev pub MixedModelCall : LentModel → MixedAnswer → Type 0
+MixedModelCall m r = MixedCall m.p m.n m.a m.b (constants_lent m) (rows_lent m) (numbers_lent m) r
 
 -- ---- the model in a file
 

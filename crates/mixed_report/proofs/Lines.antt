@@ -6,7 +6,7 @@ use Rattle.columns.specs.Columns.{members}
 use Rattle.columns.specs.ColumnSets.{whole}
 use Rattle.text.specs.Text.{ascii}
 use Rattle.text.specs.TextLaws.{item_length, column_items_length, line_length, verdict_line_length}
-use Rattle.mixed.specs.declared.MixedAnswer.{MixedAnswer}
+use Rattle.mixed.specs.Shown.{MixedAnswer}
 use Rattle.mixed_report.specs.MixedReport.{mixed_answer_text, longest_mixed_report}
 
 pub mixed_answer_length : (t : MixedAnswer) → t.rank < 1000 → length (mixed_answer_text t) ≤ longest_mixed_report

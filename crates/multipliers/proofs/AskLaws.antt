@@ -1,6 +1,6 @@
 -- The question about a model that is judged: what it asks of columns. Assumes nothing.
 use Prim.Native.Nat.{ℕ, ◌+◌, ◌*◌, ◌≤◌, ◌<◌}
-use mathlib.Core.Path.{◌≡◌, subst}
+use mathlib.Core.Path.{◌≡◌, refl, subst}
 use mathlib.Core.Bool.{Bool, true, false}
 use mathlib.Core.List.{List, flatten}
 use borrow.Author.Tests.{le-ltb}
@@ -15,7 +15,10 @@ use Rattle.format.specs.RefusalLaws.{first_fails, first_passes, first_none}
 use Rattle.format.specs.TestLaws.{column_reads}
 use Rattle.format.specs.File.Format.{decode, RowsCall}
 use Rattle.layered.proofs.FileLaws.{own_constants, own_parameters, own_made}
-use Rattle.multipliers.specs.Answers.{column_question}
+use Rattle.std.specs.Prelude.{Err}
+use Rattle.format.specs.declared.refusals.Refusal.{Refusal}
+use Rattle.multipliers.specs.Shown.{multipliers_shown}
+use Rattle.multipliers.specs.Answers.{column_question, MultipliersRefused}
 
 -- ---- what is asked of columns
 
@@ -40,3 +43,9 @@ own_shown bytes call ok H x the-outcome the-multipliers = subst (λ (X : Type 0)
   where
     by_elements : (p n a b : ℕ) (c w : ℕ → ℕ) → Type 0
     by_elements p n a b c w = DependenceShown p n a (λ i y. res (modulus p).0 (modulus p).1 (c (i * n + y))) H x the-outcome the-multipliers
+
+-- ---- a refusal
+
+-- it says nothing else
+pub multipliers_refused : (e : Refusal) → MultipliersRefused (multipliers_shown (Err e))
+multipliers_refused e = record { no_outcome = refl; no_multipliers = refl }

@@ -8,11 +8,13 @@ use Rattle.columns.specs.Columns.{members}
 use Rattle.columns.specs.ColumnSets.{whole}
 use Rattle.columns.specs.declared.ColumnSet.{ColumnSet}
 use Rattle.exchange.specs.DependenceCall.{ListedDependenceShown}
+use Rattle.models.specs.Lent.{constants_lent, rows_lent, numbers_lent}
+use Rattle.models.specs.declared.LentModel.{LentModel}
 use Rattle.format.specs.Refusals.{Tests, ◌then◌, first_refusal, named_column, held_columns, model_tests}
 use Rattle.format.specs.File.Piece.{closed}
 use Rattle.format.specs.File.Format.{fields, decode}
 use Rattle.layered.specs.Answers.{RankCall}
-use Rattle.multipliers.specs.declared.Multipliers.{Multipliers}
+use Rattle.multipliers.specs.Shown.{Multipliers}
 
 -- what the question asks of n columns: 11 where the named column x, or one of the set with the number held, is n or more
 abbrev pub column_question : (n held x : ℕ) → Tests
@@ -36,6 +38,10 @@ Asked p n a cs held x r = RankCall (first_refusal (column_question n (whole held
 abbrev pub MultipliersCall : (p n a b : ℕ) (cs ws : List ℕ) → Option (List ℕ) → (held : ColumnSet) (x : ℕ) → Multipliers → Type 0
 MultipliersCall p n a b cs ws ns held x r =
     RankCall (first_refusal (model_tests p n a b cs ws ns then column_question n (whole held) x)) r.refusal (MultipliersRefused r) (MultipliersAnswered p n a cs (members (whole held)) x r)
+
+-- the same of a model that is lent
+abbrev pub MultipliersModelCall : LentModel → (held : ColumnSet) (x : ℕ) → Multipliers → Type 0
+MultipliersModelCall m held x r = MultipliersCall m.p m.n m.a m.b (constants_lent m) (rows_lent m) (numbers_lent m) held x r
 
 -- ---- the model in a file
 

@@ -21,7 +21,7 @@ use Rattle.rank.specs.Layered.Rank.{rank, short}
 use Rattle.claims.specs.Claim.{AcceptsClaim, Shows}
 use Rattle.claims.proofs.Theorems.{accepted_is_the_rank, short_in_accepted}
 use Rattle.layered.specs.Answers.{AnswerShown, Answered}
-use Rattle.layered.specs.declared.Answer.{Answer}
+use Rattle.layered.specs.Shown.{Answer}
 use Rattle.layered.specs.FileModel.{file_model}
 use Rattle.layered.proofs.FileLaws.{call_answered}
 use Rattle.host.specs.AnswerBytes.{answer_bytes, front_bytes}
@@ -30,7 +30,7 @@ use Rattle.acceptance.specs.Answers.{AcceptanceCall, AcceptanceFileCall}
 use Rattle.acceptance.specs.Bytes.{claim_length, claim_rank, claim_side, claim_rows, claim_set, ClaimShown, AcceptanceOf, acceptance_length, acceptance_bytes}
 use Rattle.acceptance.proofs.ByteLaws.{claim_same}
 use Rattle.acceptance.specs.declared.Claim.{Claim}
-use Rattle.acceptance.specs.declared.Acceptance.{Acceptance}
+use Rattle.acceptance.specs.Shown.{Acceptance}
 use Rattle.solvability.specs.Host.{HostAnswer, HostAccepts}
 use Rattle.rank.specs.Layered.Model.{Assignment, Legal, size}
 use Rattle.promises.specs.AnswerLaws.{front_area}

@@ -17,10 +17,10 @@ use Rattle.claims.proofs.ClaimLaws.{constant_seat, named_below, read_below}
 use Rattle.claims.proofs.Theorems.{accepted_is_the_rank, short_in_accepted}
 use Rattle.exchange.specs.Solution.{ShowsRow, shown}
 use Rattle.layered.specs.Answers.{Refused, Answered, RankCall}
-use Rattle.layered.specs.declared.Answer.{Answer}
+use Rattle.layered.specs.Shown.{Answer}
 use Rattle.acceptance.specs.Answers.{ClaimAccepted, AcceptanceRefused, AcceptanceAnswered}
 use Rattle.acceptance.specs.declared.Claim.{Claim}
-use Rattle.acceptance.specs.declared.Acceptance.{Acceptance}
+use Rattle.acceptance.specs.Shown.{Acceptance}
 
 -- the claim that an answer makes: its rank, its assignment and its short set
 abbrev pub claim_of : Answer → Claim

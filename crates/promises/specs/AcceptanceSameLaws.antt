@@ -10,7 +10,7 @@ use Rattle.listed_models.specs.ListedModel.{listed_model}
 use Rattle.format.specs.Refusals.{refusal}
 use Rattle.acceptance.specs.Answers.{ClaimAccepted, AcceptanceCall}
 use Rattle.acceptance.specs.declared.Claim.{Claim}
-use Rattle.acceptance.specs.declared.Acceptance.{Acceptance}
+use Rattle.acceptance.specs.Shown.{Acceptance}
 use Rattle.promises.specs.Fixed.{SameAcceptance}
 use Rattle.promises.specs.AgreeLaws.{legal_to, sum_same}
 use Rattle.promises.specs.AnswerLaws.{agree}

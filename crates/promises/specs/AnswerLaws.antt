@@ -29,9 +29,9 @@ use Rattle.format.specs.File.Format.{FileModel, encode, handed_over, write_refus
 use Rattle.format.specs.RefusalLaws.{then_zero, unless_zero}
 use Rattle.format.specs.TestLaws.{area_reads}
 use Rattle.layered.specs.Answers.{LayeredCall}
-use Rattle.layered.specs.declared.Answer.{Answer}
+use Rattle.layered.specs.Shown.{Answer}
 use Rattle.mixed.specs.MixedAnswers.{MixedCall}
-use Rattle.mixed.specs.declared.MixedAnswer.{MixedAnswer}
+use Rattle.mixed.specs.Shown.{MixedAnswer}
 use Rattle.promises.specs.Fixed.{SameAnswer, SameMixed}
 use Rattle.promises.specs.CutLaws.{front_least}
 use Rattle.format.proofs.Rows.{rows_of_take}

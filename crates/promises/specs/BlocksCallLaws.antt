@@ -19,7 +19,7 @@ use Rattle.layered.proofs.FileLaws.{call_answered}
 use Rattle.host.specs.AreaCall.{area_refusal}
 use Rattle.blocks.specs.Answers.{shown_number, BlocksAnswered, BlocksCall, BlocksFileCall}
 use Rattle.blocks.specs.Bytes.{blocks_bytes}
-use Rattle.blocks.specs.declared.Blocks.{Blocks}
+use Rattle.blocks.specs.Shown.{Blocks}
 use Rattle.solvability.specs.Host.{HostAnswer, HostBlocks}
 use Rattle.promises.specs.FileLaws.{file_accepted}
 

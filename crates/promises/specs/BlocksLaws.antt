@@ -23,9 +23,9 @@ use Rattle.listings.specs.Listings.Tests.{block_iff, permitted_iff, Next}
 use Rattle.listings.specs.BlockLaws.{share_both, before_self, in_no_set_iff}
 use Rattle.listings.specs.Theorems.{share_reads, before_reads, the_blocks_are_listed, listing_unique, no_block_is_empty, number_in_every_listing, number_of_its_block, same_number_iff_share, order_kept, short_is_the_last_block, columns_of_no_set_are_the_first_block}
 use Rattle.layered.specs.Answers.{Answered}
-use Rattle.layered.specs.declared.Answer.{Answer}
+use Rattle.layered.specs.Shown.{Answer}
 use Rattle.blocks.specs.Answers.{shown_number, BlocksAnswered}
-use Rattle.blocks.specs.declared.Blocks.{Blocks}
+use Rattle.blocks.specs.Shown.{Blocks}
 
 -- the columns below n that an answer shows in block i
 unfoldable pub shown_block : ℕ → Blocks → ℕ → Set

@@ -18,7 +18,7 @@ use Rattle.dependence.specs.ListingLaws.{listing_same}
 use Rattle.listings.specs.Blocks.{tight, share, before, blocks_by, block_count_by, blocks, block_count, block_number}
 use Rattle.format.specs.Refusals.{refusal}
 use Rattle.blocks.specs.Answers.{shown_number, BlocksAnswered, BlocksCall}
-use Rattle.blocks.specs.declared.Blocks.{Blocks}
+use Rattle.blocks.specs.Shown.{Blocks}
 use Rattle.promises.specs.Fixed.{SameBlocks}
 use Rattle.promises.specs.AgreeLaws.{rank_same, sum_same}
 use Rattle.promises.specs.AnswerLaws.{agree}

@@ -1,6 +1,6 @@
 -- What the calls promise of a file that was cut off behind the longest file, they promise of the whole. Assumes nothing.
 use Prim.Native.Nat.{ℕ, ◌≤◌, ◌<◌}
-use Rattle.std.specs.Prelude.{◌≡◌, Bool, length, take}
+use Rattle.std.specs.Prelude.{◌≡◌, Bool, length, take, Result}
 use Rattle.std.proofs.Math.Path.{refl, sym, ap, subst}
 use Rattle.std.proofs.Common.{◌∙◌, arith, take_all}
 use Rattle.std.proofs.Math.Logic.{by_cases}
@@ -36,7 +36,7 @@ use Rattle.degree.specs.Answers.{file_question, DegreeAnswered}
 use Rattle.degree.specs.Bytes.{degree_length, degree_bytes}
 use Rattle.solvability.specs.Host.{HostAnswer, HostMixedAnswer, set_shown, multipliers_question, HostMultipliers, HostReason, HostAccepts, HostBlocks, HostDegree, HostOpen}
 use Rattle.text.specs.Text.{refused_line, Prints}
-use Rattle.text.specs.declared.Printed.{Printed}
+use Rattle.format.specs.declared.refusals.Refusal.{Refusal}
 use Rattle.report.specs.Report.{answer_text}
 use Rattle.report.specs.FileReport.{Reports, FileReport}
 use Rattle.mixed_report.specs.MixedReport.{mixed_answer_text, MixedFileReport}
@@ -160,10 +160,10 @@ module _ (k : ℕ) (s : List ℕ) (bytes : AreBytes s) (h : longest_file < k) wh
 
   -- of every report of a file
   module _ {A : Type 0} (after : List ℕ → Tests) (Holds : List ℕ → A → Type 0) (text : A → List ℕ) where
-    abbrev Report : List ℕ → List ℕ → Printed → List ℕ → Type 0
+    abbrev Report : List ℕ → List ℕ → Result ℕ Refusal → List ℕ → Type 0
     Report t = Reports (first_refusal (closed fields t then after t)) (Holds t) text
 
-    reports_cut : (area : List ℕ) (r : Printed) (area' : List ℕ) → Report (take k s) area r area' → Report s area r area'
+    reports_cut : (area : List ℕ) (r : Result ℕ Refusal) (area' : List ℕ) → Report (take k s) area r area' → Report s area r area'
     unfolding judge
     reports_cut area r area' g =
         by_cases (ℕ_discrete (judge s) 0)
@@ -178,23 +178,23 @@ module _ (k : ℕ) (s : List ℕ) (bytes : AreBytes s) (h : longest_file < k) wh
 
   -- of those that ask nothing but the file's judgement
   module _ {A : Type 0} (Holds : List ℕ → A → Type 0) (text : List ℕ → A → List ℕ) where
-    abbrev Judged : List ℕ → List ℕ → Printed → List ℕ → Type 0
+    abbrev Judged : List ℕ → List ℕ → Result ℕ Refusal → List ℕ → Type 0
     Judged t = Reports (judge t) (Holds t) (text t)
 
-    judged_cut : (area : List ℕ) (r : Printed) (area' : List ℕ) → Judged (take k s) area r area' → Judged s area r area'
+    judged_cut : (area : List ℕ) (r : Result ℕ Refusal) (area' : List ℕ) → Judged (take k s) area r area' → Judged s area r area'
     judged_cut area r area' g = record {
       if_refused = λ nz. subst (λ (j : ℕ). Prints (refused_line j) area r area') (judge_cut k s h) (g.if_refused (λ z. nz (sym (judge_cut k s h) ∙ z)));
       if_accepted = λ z. (subst (λ (t : List ℕ). Judged t area r area') (accepted_whole z) g).if_accepted z;
     }
 
-  pub report_cut : (area : List ℕ) (r : Printed) (area' : List ℕ) → FileReport (take k s) area r area' → FileReport s area r area'
+  pub report_cut : (area : List ℕ) (r : Result ℕ Refusal) (area' : List ℕ) → FileReport (take k s) area r area' → FileReport s area r area'
   report_cut = judged_cut (λ t. Answered (file_model t)) (λ t. answer_text)
 
-  pub blocks_report_cut : (area : List ℕ) (r : Printed) (area' : List ℕ) → BlocksFileReport (take k s) area r area' → BlocksFileReport s area r area'
+  pub blocks_report_cut : (area : List ℕ) (r : Result ℕ Refusal) (area' : List ℕ) → BlocksFileReport (take k s) area r area' → BlocksFileReport s area r area'
   blocks_report_cut = judged_cut (λ t. BlocksAnswered (file_model t)) (λ t. blocks_text (verdict (file_model t)) (rank (file_model t)))
 
-  pub mixed_report_cut : (area : List ℕ) (r : Printed) (area' : List ℕ) → MixedFileReport (take k s) area r area' → MixedFileReport s area r area'
+  pub mixed_report_cut : (area : List ℕ) (r : Result ℕ Refusal) (area' : List ℕ) → MixedFileReport (take k s) area r area' → MixedFileReport s area r area'
   mixed_report_cut = reports_cut mixed_question (λ t. MixedAnswered (file_mixed t)) mixed_answer_text
 
-  pub reason_report_cut : (x : ℕ) (area : List ℕ) (r : Printed) (area' : List ℕ) → ReasonFileReport (take k s) x area r area' → ReasonFileReport s x area r area'
+  pub reason_report_cut : (x : ℕ) (area : List ℕ) (r : Result ℕ Refusal) (area' : List ℕ) → ReasonFileReport (take k s) x area r area' → ReasonFileReport s x area r area'
   reason_report_cut x = reports_cut (λ t. reason_question (file_model t) x) (λ t. FileReason t x) reason_text

@@ -16,13 +16,13 @@ use Rattle.format.specs.TestLaws.{accepted_model, area_reads}
 use Rattle.format.specs.File.Piece.{closed}
 use Rattle.format.specs.File.Format.{fields, judge, decode}
 use Rattle.layered.specs.Answers.{AnswerShown, LayeredFileCall}
-use Rattle.layered.specs.declared.Answer.{Answer}
+use Rattle.layered.specs.Shown.{Answer}
 use Rattle.layered.specs.FileModel.{file_model}
 use Rattle.layered.proofs.FileLaws.{call_answered}
 use Rattle.host.specs.AreaCall.{area_refusal}
 use Rattle.degree.specs.Answers.{power_areas, file_question, degree_question, DegreeAnswered, DegreeCall, DegreeFileCall}
 use Rattle.degree.specs.Bytes.{degree_length, degree_bytes}
-use Rattle.degree.specs.declared.Degree.{Degree}
+use Rattle.degree.specs.Shown.{Degree}
 use Rattle.solvability.specs.Host.{HostAnswer, HostDegree}
 use Rattle.promises.specs.FileLaws.{file_accepted}
 use Rattle.promises.specs.DegreeLaws.{PowerAbove, PowersLent, asked_16_iff, degree_most, due_accepted, question_0_iff}

@@ -32,7 +32,7 @@ use Rattle.format.specs.Refusals.{Tests, unless, ◌then◌, first_refusal, numb
 use Rattle.format.specs.RefusalLaws.{first_fails, then_passed, then_refused, then_zero, zero_then, unless_zero, zero_unless}
 use Rattle.format.specs.TestLaws.{area_reads}
 use Rattle.degree.specs.Answers.{most_power, powers_low, degree_question, power_areas, dynamic_tests, assignment, DegreeAnswered}
-use Rattle.degree.specs.declared.Degree.{Degree}
+use Rattle.degree.specs.Shown.{Degree}
 use Rattle.promises.specs.AcceptanceLaws.{assignment_shown}
 
 -- ---- tests in their order

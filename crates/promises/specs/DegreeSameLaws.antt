@@ -18,7 +18,7 @@ use Rattle.degrees.specs.Totals.{total_ext}
 use Rattle.format.specs.Refusals.{unless, ◌then◌, first_refusal, no_degree, area_test}
 use Rattle.format.specs.TestLaws.{area_reads}
 use Rattle.degree.specs.Answers.{powers_low, degree_question, power_areas, dynamic_tests, DegreeAnswered, DegreeCall}
-use Rattle.degree.specs.declared.Degree.{Degree}
+use Rattle.degree.specs.Shown.{Degree}
 use Rattle.promises.specs.Fixed.{SameDegree}
 use Rattle.promises.specs.AgreeLaws.{legal_to, verdict_same}
 use Rattle.promises.specs.AnswerLaws.{agree, constant_same, front_area, front_at, SameNumbers}

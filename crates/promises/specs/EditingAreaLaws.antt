@@ -29,7 +29,7 @@ use Rattle.format.specs.File.Unnumbered.{unnumbered_fields, unnumbered_judge}
 use Rattle.format.specs.File.UnnumberedLaws.{unnumbered_iff, unnumbered_encoded}
 use Rattle.format.proofs.Rows.{over_front, flat_of_rows, flat_length}
 use Rattle.writer.specs.HandedLaws.{handed_over_valid}
-use Rattle.layered.specs.declared.Answer.{Answer}
+use Rattle.layered.specs.Shown.{Answer}
 use Rattle.layered.specs.Answers.{RankCall, Refused, Answered}
 use Rattle.layered.proofs.FileLaws.{call_as}
 use Rattle.host.specs.AreaCall.{area_refusal}

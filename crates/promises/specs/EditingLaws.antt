@@ -24,7 +24,7 @@ use Rattle.listed_models.specs.ListedModel.{listed_at}
 use Rattle.format.specs.Refusals.{unless, first_refusal, row_beyond, row_test, refusal}
 use Rattle.format.specs.RefusalLaws.{where_refused, accepted_value, unless_zero}
 use Rattle.format.specs.TestLaws.{row_reads}
-use Rattle.layered.specs.declared.Answer.{Answer}
+use Rattle.layered.specs.Shown.{Answer}
 use Rattle.layered.specs.Answers.{RankCall, Refused, Answered}
 use Rattle.open_models.specs.Open as Open
 use Rattle.open_models.specs.Open.{Open, opened, holding, take_off, put_back, set_place, clear_place, row_tests, edit_refusal, answer_refusal, done, after, after_edits, accepted_edits, rows_after, present_after, open_model}
@@ -33,7 +33,7 @@ use Rattle.open_models.proofs.HeldLaws.{after_accepted, after_refused}
 use Rattle.open_models.proofs.Theorems.{none_present_rank, none_present_short, none_present_verdict, always_accepted, worked_out_afresh}
 use Rattle.editing.specs.Edits.{meant, place_done, words_done}
 use Rattle.editing.specs.Calls.{held, OpenCall, EditCall, AnswerCall}
-use Rattle.editing.specs.declared.Held.{Held}
+use Rattle.editing.specs.Shown.{Held}
 use Rattle.editing.specs.declared.edit.Edit.{Edit}
 
 -- ---- calls one after another

@@ -1,12 +1,12 @@
 -- Two answers that agree in all that the promises fix: in everything but the results that the documents leave open. Definitions only.
 use Rattle.std.specs.Prelude.{◌≡◌}
 use Rattle.columns.specs.ColumnSets.{whole}
-use Rattle.layered.specs.declared.Answer.{Answer}
-use Rattle.mixed.specs.declared.MixedAnswer.{MixedAnswer}
-use Rattle.reason.specs.declared.Reason.{Reason}
-use Rattle.acceptance.specs.declared.Acceptance.{Acceptance}
-use Rattle.blocks.specs.declared.Blocks.{Blocks}
-use Rattle.degree.specs.declared.Degree.{Degree}
+use Rattle.layered.specs.Shown.{Answer}
+use Rattle.mixed.specs.Shown.{MixedAnswer}
+use Rattle.reason.specs.Shown.{Reason}
+use Rattle.acceptance.specs.Shown.{Acceptance}
+use Rattle.blocks.specs.Shown.{Blocks}
+use Rattle.degree.specs.Shown.{Degree}
 
 -- layered answers; open is which side and row a placed column takes
 pub record SameAnswer (r s : Answer) : Type 0 where

@@ -20,7 +20,7 @@ use Rattle.layered.specs.Answers.{AnswerShown}
 use Rattle.host.specs.AreaCall.{area_refusal, AreaCall, WrittenOver}
 use Rattle.multipliers.specs.Answers.{column_question, FileAnswered, MultipliersCall, MultipliersFileCall}
 use Rattle.multipliers.specs.Bytes.{multipliers_length, multipliers_bytes}
-use Rattle.multipliers.specs.declared.Multipliers.{Multipliers}
+use Rattle.multipliers.specs.Shown.{Multipliers}
 use Rattle.solvability.specs.Host.{set_shown, HostMultipliers}
 use Rattle.promises.specs.AnswerLaws.{front_area}
 use Rattle.promises.specs.FileLaws.{file_accepted}

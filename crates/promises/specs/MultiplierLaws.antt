@@ -21,7 +21,7 @@ use Rattle.format.specs.Refusals.{unless, first_refusal, column_beyond, column_t
 use Rattle.format.specs.RefusalLaws.{then_zero, unless_zero}
 use Rattle.format.specs.TestLaws.{Accepted, model_accepted, column_reads}
 use Rattle.multipliers.specs.Answers.{column_question, MultipliersCall}
-use Rattle.multipliers.specs.declared.Multipliers.{Multipliers}
+use Rattle.multipliers.specs.Shown.{Multipliers}
 use Rattle.promises.specs.AnswerLaws.{constant_same}
 use Rattle.promises.specs.DependenceLaws.{Says}
 

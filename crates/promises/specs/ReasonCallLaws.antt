@@ -15,7 +15,7 @@ use Rattle.layered.specs.FileModel.{file_model}
 use Rattle.host.specs.AreaCall.{area_refusal}
 use Rattle.reason.specs.Answers.{reason_question, ReasonCall, ReasonFileCall}
 use Rattle.reason.specs.Bytes.{reason_length, reason_bytes}
-use Rattle.reason.specs.declared.Reason.{Reason}
+use Rattle.reason.specs.Shown.{Reason}
 use Rattle.solvability.specs.Host.{HostReason}
 use Rattle.promises.specs.FileLaws.{file_accepted}
 

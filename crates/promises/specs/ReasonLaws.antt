@@ -31,11 +31,11 @@ use Rattle.format.specs.Refusals.{unless, first_refusal, column_placed, named_co
 use Rattle.format.specs.RefusalLaws.{then_zero, zero_then, unless_zero, zero_unless}
 use Rattle.format.specs.TestLaws.{Accepted, model_accepted, column_reads}
 use Rattle.layered.specs.Answers.{LayeredCall}
-use Rattle.layered.specs.declared.Answer.{Answer}
+use Rattle.layered.specs.Shown.{Answer}
 use Rattle.multipliers.specs.Answers.{column_question, MultipliersCall}
-use Rattle.multipliers.specs.declared.Multipliers.{Multipliers}
+use Rattle.multipliers.specs.Shown.{Multipliers}
 use Rattle.reason.specs.Answers.{reason_question, ReasonAnswered, ReasonCall}
-use Rattle.reason.specs.declared.Reason.{Reason}
+use Rattle.reason.specs.Shown.{Reason}
 use Rattle.promises.specs.DependenceLaws.{Says}
 
 -- a call that is accepted

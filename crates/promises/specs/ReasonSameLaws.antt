@@ -23,7 +23,7 @@ use Rattle.blocking.specs.ReasonLaws.{reason_iff}
 use Rattle.format.specs.Refusals.{unless, ◌then◌, first_refusal, column_placed, named_column, model_tests, refusal}
 use Rattle.format.specs.RefusalLaws.{then_refused, then_passed}
 use Rattle.reason.specs.Answers.{reason_question, ReasonAnswered, ReasonCall}
-use Rattle.reason.specs.declared.Reason.{Reason}
+use Rattle.reason.specs.Shown.{Reason}
 use Rattle.promises.specs.Fixed.{SameReason}
 use Rattle.promises.specs.AgreeLaws.{placed_same, reason_same, untouched_same}
 use Rattle.promises.specs.AnswerLaws.{agree}

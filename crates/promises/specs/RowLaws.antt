@@ -13,7 +13,7 @@ use Rattle.rank.proofs.Layered.ColumnOrder.{placed_size}
 use Rattle.rank.proofs.Layered.Verdicts.{places_all_iff, verdict_1_iff, verdict_2_iff, determined_uses_all, surplus_leaves_over}
 use Rattle.exchange.specs.Solution.{shown}
 use Rattle.layered.specs.Answers.{Answered}
-use Rattle.layered.specs.declared.Answer.{Answer}
+use Rattle.layered.specs.Shown.{Answer}
 
 module _ (M : Model) (r : Answer) (answer : Answered M r) where
   open M use {a, b, n, E}

@@ -19,15 +19,15 @@ use Rattle.rank.proofs.Theorems.{short_is_the_smallest}
 use Rattle.mixed_models.specs.Mixed.{Mixed, layered_form}
 use Rattle.exchange.specs.Solution.{shown}
 use Rattle.layered.specs.Answers.{Answered}
-use Rattle.layered.specs.declared.Answer.{Answer}
+use Rattle.layered.specs.Shown.{Answer}
 use Rattle.blocking.specs.ReasonLaws.{reason_iff}
 use Rattle.mixed.specs.MixedAnswers.{MixedAnswered}
-use Rattle.mixed.specs.declared.MixedAnswer.{MixedAnswer}
+use Rattle.mixed.specs.Shown.{MixedAnswer}
 use Rattle.reason.specs.Answers.{ReasonAnswered}
-use Rattle.reason.specs.declared.Reason.{Reason}
+use Rattle.reason.specs.Shown.{Reason}
 use Rattle.degrees.specs.Degrees.{Powers}
 use Rattle.degree.specs.Answers.{assignment, DegreeAnswered}
-use Rattle.degree.specs.declared.Degree.{Degree}
+use Rattle.degree.specs.Shown.{Degree}
 
 below_own_power : (w : ℕ) → w < 2 ^ w
 below_own_power zero = lit< tt

@@ -1,5 +1,5 @@
 -- What is proved over the promises of the calls, one theorem after another. Assumes nothing.
-use Rattle.std.specs.Prelude.{ℕ, suc, ◌+◌, ◌-◌, ◌*◌, ◌%◌, ◌^◌, ◌≤◌, ◌<◌, ◌≡◌, refl, Bool, true, false, ◌≢◌, ◌↔◌, ◌⊎◌, length, get_or, take, drop, ltb}
+use Rattle.std.specs.Prelude.{ℕ, suc, ◌+◌, ◌-◌, ◌*◌, ◌%◌, ◌^◌, ◌≤◌, ◌<◌, ◌≡◌, refl, Bool, true, false, ◌≢◌, ◌↔◌, ◌⊎◌, length, get_or, take, drop, ltb, Result}
 use Rattle.std.proofs.Math.Path.{sym}
 use Rattle.std.proofs.Common.{ap, ◌∙◌, subst, inl, inr, arith, take-take}
 use Rattle.std.proofs.Math.Option.{Option, none, some}
@@ -33,6 +33,7 @@ use Rattle.determinants.specs.Determinant.{Largest}
 use Rattle.determinants.specs.ModelTables.{LayeredOrder, MixedOrder}
 use Rattle.determinants.specs.Theorems.{rank_is_largest_order, mixed_rank_is_largest_order}
 use Rattle.format.specs.Lists.{over}
+use Rattle.format.specs.Refused.{refusal_of}
 use Rattle.limits.specs.Limits.{most_columns, most_rows, set_bytes, longest_file, no_column}
 use Rattle.format.specs.Numbers.{lent, numbers_of, is_numbered}
 use Rattle.format.specs.Refusals.{◌then◌, first_refusal, area_tests, refusal, mixed_refusal}
@@ -41,43 +42,42 @@ use Rattle.format.specs.TestLaws.{model_accepted, accepted_model, unnumbered_acc
 use Rattle.format.specs.File.Piece.{closed}
 use Rattle.format.specs.File.Unnumbered.{unnumbered_fields}
 use Rattle.format.specs.File.Format.{judge, decode, encode, number_room, RowsCall, ReadCall, handed_over, WriteCall}
-use Rattle.loader.specs.FileRead.{FileRead}
+use Rattle.loader.specs.FileRead.{FileRead, sizes_given}
 use Rattle.loader.specs.declared.header.Sizes.{Sizes}
-use Rattle.writer.specs.FileWritten.{FileWritten}
-use Rattle.writer.specs.declared.Written.{Written}
+use Rattle.writer.specs.FileWritten.{FileWritten, length_given}
 use Rattle.layered.specs.Answers.{AnswerShown, RankCall, Refused, Answered, LayeredCall, LayeredFileCall}
-use Rattle.layered.specs.declared.Answer.{Answer}
+use Rattle.layered.specs.Shown.{Answer}
 use Rattle.layered.specs.FileModel.{file_model}
 use Rattle.mixed.specs.MixedAnswers.{MixedAnswered, MixedCall, file_mixed}
-use Rattle.mixed.specs.declared.MixedAnswer.{MixedAnswer}
+use Rattle.mixed.specs.Shown.{MixedAnswer}
 use Rattle.host.specs.AnswerBytes.{answer_length, AnswerWritten}
 use Rattle.open_models.specs.Open.{Open, opened, own_tests, edit_refusal, answer_refusal, after, after_edits, accepted_edits, rows_after, present_after, open_model, AreWords}
 use Rattle.open_models.proofs.Theorems.{opened_offers_all, taken_off_and_put_back, put_back_and_taken_off, set_and_cleared, cleared_and_set, set_twice_is_once, cleared_twice_is_once, set_while_the_column_is_out}
 use Rattle.editing.specs.Edits.{meant, edit_bytes, byte_tests, edit_of}
 use Rattle.editing.specs.Calls.{held, OpenCall, EditCall, AnswerCall}
 use Rattle.editing.specs.Areas.{open_bytes, area_file, area_open, file_opened, AnswerAreaCall}
-use Rattle.editing.specs.declared.Held.{Held}
+use Rattle.editing.specs.Shown.{Held}
 use Rattle.editing.specs.declared.edit.Edit.{Edit}
 use Rattle.editing.specs.declared.edit.Edit.TheVariants.{TakeOff, PutBack, SetPlace, ClearPlace}
 use Rattle.promises.specs.Fixed.{SameAnswer, SameMixed, SameReason, SameAcceptance, SameBlocks, SameDegree}
 use Rattle.multipliers.specs.Answers.{MultipliersCall, MultipliersFileCall}
 use Rattle.multipliers.specs.Bytes.{multipliers_bytes}
-use Rattle.multipliers.specs.declared.Multipliers.{Multipliers}
+use Rattle.multipliers.specs.Shown.{Multipliers}
 use Rattle.reason.specs.Answers.{ReasonAnswered, ReasonCall, ReasonFileCall}
 use Rattle.reason.specs.Bytes.{reason_bytes}
-use Rattle.reason.specs.declared.Reason.{Reason}
+use Rattle.reason.specs.Shown.{Reason}
 use Rattle.acceptance.specs.Answers.{AcceptanceCall, AcceptanceFileCall}
 use Rattle.acceptance.specs.Bytes.{claim_length, claim_rank, claim_side, claim_rows, claim_set, ClaimShown, acceptance_bytes}
 use Rattle.acceptance.specs.declared.Claim.{Claim}
-use Rattle.acceptance.specs.declared.Acceptance.{Acceptance}
+use Rattle.acceptance.specs.Shown.{Acceptance}
 use Rattle.blocks.specs.Answers.{BlocksAnswered, BlocksCall, BlocksFileCall}
 use Rattle.blocks.specs.Bytes.{blocks_bytes}
-use Rattle.blocks.specs.declared.Blocks.{Blocks}
+use Rattle.blocks.specs.Shown.{Blocks}
 use Rattle.degree.specs.Answers.{assignment, DegreeRefused, DegreeAnswered, DegreeCall, DegreeFileCall}
 use Rattle.degree.specs.Bytes.{degree_length, degree_bytes}
-use Rattle.degree.specs.declared.Degree.{Degree}
+use Rattle.degree.specs.Shown.{Degree}
 use Rattle.solvability.specs.Host.{HostAnswer, HostMixedAnswer, set_shown, HostMultipliers, HostReason, HostAccepts, HostBlocks, HostDegree, HostOpen, HostEdit, HostOpenAnswer}
-use Rattle.text.specs.declared.Printed.{Printed}
+use Rattle.format.specs.declared.refusals.Refusal.{Refusal}
 use Rattle.report.specs.FileReport.{FileReport}
 use Rattle.mixed_report.specs.MixedReport.{MixedFileReport}
 use Rattle.reason_report.specs.ReasonReport.{ReasonFileReport}
@@ -114,12 +114,12 @@ use Rattle.promises.specs.DocumentFile.{document_file, document_accepted, docume
 -- ---- read and written, written and read
 
 -- A file that was read is written again as it was, whatever the areas held before; its parameters' numbers are handed over where it is numbered.
-pub read_then_write : (s cs ws ks : List ℕ) → AreBytes s → (r : Sizes) (cs' ws' ks' : List ℕ) → FileRead s cs ws ks r cs' ws' ks' → r.refusal ≡ 0
-    → (out : List ℕ) → length s ≤ length out → (w : Written) (out' : List ℕ) → FileWritten r.p r.n r.a r.b cs' ws' (lent r.numbered ks') out w out'
-    → (w.refusal ≡ 0) × (w.length ≡ length s) × (out' ≡ over s out)
+pub read_then_write : (s cs ws ks : List ℕ) → AreBytes s → (r : Result Sizes Refusal) (cs' ws' ks' : List ℕ) → FileRead s cs ws ks r cs' ws' ks' → refusal_of r ≡ 0
+    → (out : List ℕ) → length s ≤ length out → (w : Result ℕ Refusal) (out' : List ℕ) → FileWritten (sizes_given r).p (sizes_given r).n (sizes_given r).a (sizes_given r).b cs' ws' (lent (sizes_given r).numbered ks') out w out'
+    → (refusal_of w ≡ 0) × (length_given w ≡ length s) × (out' ≡ over s out)
 read_then_write s cs ws ks bytes r cs' ws' ks' h z out l w out' k =
-    read_then_written s cs ws ks bytes r.p r.n r.a r.b r.numbered cs' ws' ks'
-    (subst (λ (j : ℕ). ReadCall s cs ws ks j r.p r.n r.a r.b r.numbered cs' ws' ks') z h) out l w.refusal w.length out' k
+    read_then_written s cs ws ks bytes (sizes_given r).p (sizes_given r).n (sizes_given r).a (sizes_given r).b (sizes_given r).numbered cs' ws' ks'
+    (subst (λ (j : ℕ). ReadCall s cs ws ks j (sizes_given r).p (sizes_given r).n (sizes_given r).a (sizes_given r).b (sizes_given r).numbered cs' ws' ks') z h) out l (refusal_of w) (length_given w) out' k
 
 -- The numbers of parameter rows that an area of words has fit a set's room.
 pub rows_of_words_fit : (words : List ℕ) → ((i : ℕ) → get_or words i 0 < 2 ^ word_width) → (r : ℕ) → get_or (row_numbers words) r 0 < 2 ^ width
@@ -128,14 +128,14 @@ rows_of_words_fit = rows_below
 -- A model that was written is read again as it was, into any areas that hold it, with the numbers of its parameters; the numbers of its parameter rows fit a
 -- set's room (`rows_of_words_fit`), and those of its parameters two bytes.
 pub write_then_read : (p n a b : ℕ) (cs ws : List ℕ) (ns : Option (List ℕ)) → ((i : ℕ) → get_or ws i 0 < 2 ^ width) → ((ks : List ℕ) → ns ≡ some ks → (i : ℕ) → get_or ks i 0 < 65536)
-    → (out : List ℕ) (w : Written) (out' : List ℕ) → FileWritten p n a b cs ws ns out w out' → w.refusal ≡ 0
+    → (out : List ℕ) (w : Result ℕ Refusal) (out' : List ℕ) → FileWritten p n a b cs ws ns out w out' → refusal_of w ≡ 0
     → (cs₂ ws₂ ks₂ : List ℕ) → a * n ≤ length cs₂ → b ≤ length ws₂ → number_room (handed_over p n a b cs ws ns) ≤ length ks₂
-    → (r : Sizes) (cs₂' ws₂' ks₂' : List ℕ) → FileRead (take w.length out') cs₂ ws₂ ks₂ r cs₂' ws₂' ks₂'
-    → (r.refusal ≡ 0) × (r.p ≡ p) × (r.n ≡ n) × (r.a ≡ a) × (r.b ≡ b) × (take (a * n) cs₂' ≡ take (a * n) cs) × (take b ws₂' ≡ take b ws)
-    × (r.numbered ≡ is_numbered (numbers_of n (take b ws) ns)) × (numbers_of n (take b ws) (lent r.numbered ks₂') ≡ numbers_of n (take b ws) ns)
+    → (r : Result Sizes Refusal) (cs₂' ws₂' ks₂' : List ℕ) → FileRead (take (length_given w) out') cs₂ ws₂ ks₂ r cs₂' ws₂' ks₂'
+    → (refusal_of r ≡ 0) × ((sizes_given r).p ≡ p) × ((sizes_given r).n ≡ n) × ((sizes_given r).a ≡ a) × ((sizes_given r).b ≡ b) × (take (a * n) cs₂' ≡ take (a * n) cs) × (take b ws₂' ≡ take b ws)
+    × ((sizes_given r).numbered ≡ is_numbered (numbers_of n (take b ws) ns)) × (numbers_of n (take b ws) (lent (sizes_given r).numbered ks₂') ≡ numbers_of n (take b ws) ns)
 write_then_read p n a b cs ws ns words small out w out' h z cs₂ ws₂ ks₂ fc fw fk r cs₂' ws₂' ks₂' k =
-    written_then_read p n a b cs ws ns words small out w.length out' (subst (λ (j : ℕ). WriteCall p n a b cs ws ns out j w.length out') z h) cs₂ ws₂ ks₂ fc fw fk
-    r.refusal r.p r.n r.a r.b r.numbered cs₂' ws₂' ks₂' k
+    written_then_read p n a b cs ws ns words small out (length_given w) out' (subst (λ (j : ℕ). WriteCall p n a b cs ws ns out j (length_given w) out') z h) cs₂ ws₂ ks₂ fc fw fk
+    (refusal_of r) (sizes_given r).p (sizes_given r).n (sizes_given r).a (sizes_given r).b (sizes_given r).numbered cs₂' ws₂' ks₂' k
 
 -- ---- input cut off
 
@@ -193,19 +193,19 @@ cut_input_host_open = host_open_cut
 
 -- and of the reports that the programs write.
 pub cut_input_report : (k : ℕ) (s : List ℕ) → AreBytes s → longest_file < k
-    → (area : List ℕ) (r : Printed) (area' : List ℕ) → FileReport (take k s) area r area' → FileReport s area r area'
+    → (area : List ℕ) (r : Result ℕ Refusal) (area' : List ℕ) → FileReport (take k s) area r area' → FileReport s area r area'
 cut_input_report = report_cut
 
 pub cut_input_report_mixed : (k : ℕ) (s : List ℕ) → AreBytes s → longest_file < k
-    → (area : List ℕ) (r : Printed) (area' : List ℕ) → MixedFileReport (take k s) area r area' → MixedFileReport s area r area'
+    → (area : List ℕ) (r : Result ℕ Refusal) (area' : List ℕ) → MixedFileReport (take k s) area r area' → MixedFileReport s area r area'
 cut_input_report_mixed = mixed_report_cut
 
 pub cut_input_report_reason : (k : ℕ) (s : List ℕ) → AreBytes s → longest_file < k
-    → (x : ℕ) (area : List ℕ) (r : Printed) (area' : List ℕ) → ReasonFileReport (take k s) x area r area' → ReasonFileReport s x area r area'
+    → (x : ℕ) (area : List ℕ) (r : Result ℕ Refusal) (area' : List ℕ) → ReasonFileReport (take k s) x area r area' → ReasonFileReport s x area r area'
 cut_input_report_reason = reason_report_cut
 
 pub cut_input_report_blocks : (k : ℕ) (s : List ℕ) → AreBytes s → longest_file < k
-    → (area : List ℕ) (r : Printed) (area' : List ℕ) → BlocksFileReport (take k s) area r area' → BlocksFileReport s area r area'
+    → (area : List ℕ) (r : Result ℕ Refusal) (area' : List ℕ) → BlocksFileReport (take k s) area r area' → BlocksFileReport s area r area'
 cut_input_report_blocks = blocks_report_cut
 
 -- ---- areas longer than the model

@@ -20,14 +20,14 @@ use Rattle.columns.specs.Words.SetLaws.{inserted_set, removed_set}
 use Rattle.rank.specs.Modulus.{modulus}
 use Rattle.listed_models.specs.ListedModel.{listed_model}
 use Rattle.rank.specs.Layered.Model.{Model}
-use Rattle.rank.specs.Layered.Rank.{placed, short}
+use Rattle.rank.specs.Layered.Rank.{placed}
 use Rattle.rank.proofs.Layered.ColumnOrder.{placed_below}
-use Rattle.dependence.specs.Multipliers.{given}
+use Rattle.dependence.specs.Multipliers.{outcome, given}
 use Rattle.dependence.specs.Listing.{listing}
 use Rattle.dependence.specs.ListingLaws.{listing_same, zeros_listed}
 use Rattle.blocking.specs.Reason.{drawn_from, reason, untouched, reason_multiplier}
 use Rattle.blocking.specs.ReasonLaws.{second_call, untouched_count, reason_short, reason_blocking}
-use Rattle.blocking.proofs.MultiplierLaws.{untouched_multiplier, touched_multiplier}
+use Rattle.blocking.proofs.MultiplierLaws.{untouched_multiplier, touched_multiplier, reason_numbers}
 use Rattle.touching.specs.RowCount.{touching_count}
 use Rattle.exchange.specs.Solve.{admissible, Shown, SolvedBy}
 use Rattle.exchange.specs.declared.Solution.{Solution}
@@ -97,6 +97,13 @@ module _ {p n a b : ℕ} {cs ws : List ℕ} {the_placed : ColumnSet} {x : ℕ} (
 
       pub others_below : within n (whole others) ≡ true
       others_below = (within_iff n (whole others)).1 (λ y l e. ((reason_blocking M x u.below refl not_placed).drawn y (⊖-in (reason M x) x y (sym (ap (λ (S : Set). S y) the_others) ∙ e)).0).0)
+
+      -- on which it depends
+      pub depends_on_them : true ≡ untouched M (reason M x) → {the-outcome : ℕ} {ms : List ℕ} → ListedDependenceShown p n a cs (members (whole others)) x the-outcome ms → the-outcome ≡ 1
+      unfolding outcome
+      depends_on_them e d =
+          let w = reason_numbers (modulus p).0 (modulus p).1 n a b M.Q M.T M.E x u.below refl not_placed (sym e) in
+          d.outcome_is ∙ rw (the_others, w.0, w.1) refl
 
       pub their_multipliers : true ≡ untouched M (reason M x) → {the-outcome : ℕ} {ms : List ℕ} → ListedDependenceShown p n a cs (members (whole others)) x the-outcome ms
           → ms ≡ listing most_columns (reason_multiplier (modulus p).0 (modulus p).1 n a b M.Q M.T M.E x)

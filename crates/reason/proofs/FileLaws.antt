@@ -13,7 +13,7 @@ use Rattle.format.specs.Refusals.{first_refusal}
 use Rattle.format.specs.File.Format.{RowsCall}
 use Rattle.layered.specs.FileModel.{file_model}
 use Rattle.layered.proofs.FileLaws.{own_constants, own_parameters, own_made, own_model}
-use Rattle.reason.specs.declared.Reason.{Reason}
+use Rattle.reason.specs.Shown.{Reason}
 use Rattle.reason.specs.Answers.{reason_question, ReasonShown, ReasonAnswered, FileReason}
 
 module _ {s : List ℕ} (bytes : AreBytes s) {k p n a b : ℕ} {t : Bool} {cs' ws' : List ℕ} (call : RowsCall s own_constants own_parameters k p n a b t cs' ws') (ok : k ≡ 0) (x : ℕ) where

@@ -13,12 +13,14 @@ use Rattle.rank.specs.Layered.Model.{Model}
 use Rattle.rank.specs.Layered.Rank.{placed}
 use Rattle.dependence.specs.Listing.{listing}
 use Rattle.blocking.specs.Reason.{reason, untouched, reason_multiplier}
+use Rattle.models.specs.Lent.{constants_lent, rows_lent, numbers_lent}
+use Rattle.models.specs.declared.LentModel.{LentModel}
 use Rattle.format.specs.Refusals.{Tests, unless, ◌then◌, first_refusal, column_placed, named_column, model_tests}
 use Rattle.format.specs.File.Piece.{closed}
 use Rattle.format.specs.File.Format.{fields, decode}
 use Rattle.layered.specs.Answers.{RankCall}
 use Rattle.layered.specs.FileModel.{file_model}
-use Rattle.reason.specs.declared.Reason.{Reason}
+use Rattle.reason.specs.Shown.{Reason}
 
 -- what the question asks of column x: 11 where it is n or more, then 12 where it is placed
 abbrev pub reason_question : Model → ℕ → Tests
@@ -53,6 +55,10 @@ ReasonAsked p n a b cs ws x r = RankCall (first_refusal (reason_question (listed
 abbrev pub ReasonCall : (p n a b : ℕ) (cs ws : List ℕ) → Option (List ℕ) → (x : ℕ) → Reason → Type 0
 ReasonCall p n a b cs ws ns x r =
     RankCall (first_refusal (model_tests p n a b cs ws ns then reason_question (listed_model p n a b cs ws) x)) r.refusal (ReasonRefused r) (ReasonAnswered p n a b cs ws x r)
+
+-- the same of a model that is lent
+abbrev pub ReasonModelCall : LentModel → (x : ℕ) → Reason → Type 0
+ReasonModelCall m x r = ReasonCall m.p m.n m.a m.b (constants_lent m) (rows_lent m) (numbers_lent m) x r
 
 -- ---- the model in a file
 

@@ -5,7 +5,7 @@ use Rattle.counting.specs.Sets.{indicator}
 use Rattle.columns.specs.Bytes.{bytes_of}
 use Rattle.columns.specs.ColumnSets.{whole}
 use Rattle.format.specs.File.Format.{entry_bytes}
-use Rattle.reason.specs.declared.Reason.{Reason}
+use Rattle.reason.specs.Shown.{Reason}
 
 -- how many there are
 abbrev pub reason_length : ℕ

@@ -7,7 +7,7 @@ use Rattle.columns.specs.declared.ColumnSet.{ColumnSet}
 use Rattle.listed_models.specs.ListedModel.{listed_model}
 use Rattle.rank.specs.Layered.Rank.{placed}
 use Rattle.format.specs.TestLaws.{Accepted}
-use Rattle.reason.specs.declared.Reason.{Reason}
+use Rattle.reason.specs.Shown.{Reason}
 use Rattle.reason.specs.Answers.{ReasonAnswered}
 
 -- an accepted model, its placed columns, and a column of it that is not one of them

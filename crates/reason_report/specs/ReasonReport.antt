@@ -1,17 +1,17 @@
 -- The report of document 02's E2 about a file and a column: the columns of the reason and, where multipliers are given, each column that has one with it,
 -- in lines as those of document 01; or the one line of a refusal. Definitions only.
-use Rattle.std.specs.Prelude.{ℕ, ◌+◌, ◌*◌, Bool, cond, List, [], ◌++◌}
+use Rattle.std.specs.Prelude.{ℕ, ◌+◌, ◌*◌, Bool, cond, List, Result, [], ◌++◌}
 use Rattle.limits.specs.Limits.{most_columns}
 use Rattle.columns.specs.Columns.{width, members}
 use Rattle.columns.specs.ColumnSets.{whole}
 use Rattle.text.specs.Text.{ascii, line, pair_items, column_items}
-use Rattle.text.specs.declared.Printed.{Printed}
+use Rattle.format.specs.declared.refusals.Refusal.{Refusal}
 use Rattle.format.specs.Refusals.{first_refusal, ◌then◌}
 use Rattle.format.specs.File.Piece.{closed}
 use Rattle.format.specs.File.Format.{fields}
 use Rattle.layered.specs.FileModel.{file_model}
 use Rattle.reason.specs.Answers.{reason_question, FileReason}
-use Rattle.reason.specs.declared.Reason.{Reason}
+use Rattle.reason.specs.Shown.{Reason}
 use Rattle.report.specs.FileReport.{Reports}
 
 -- column:multiplier for each column, ascending; a column whose multiplier is 0 is left out
@@ -31,6 +31,6 @@ abbrev pub longest_reason_report : ℕ
 longest_reason_report = 19 + 4 * width + 9 * most_columns
 
 -- the report: of the file's own refusal, 11 or 12, or the lines of the answer about the column of its model
-abbrev pub ReasonFileReport : (file : List ℕ) (column : ℕ) (area : List ℕ) (r : Printed) (area' : List ℕ) → Type 0
+abbrev pub ReasonFileReport : (file : List ℕ) (column : ℕ) (area : List ℕ) (r : Result ℕ Refusal) (area' : List ℕ) → Type 0
 ReasonFileReport file column area r area' =
     Reports (first_refusal (closed fields file then reason_question (file_model file) column)) (FileReason file column) reason_text area r area'

@@ -1,6 +1,6 @@
 -- What a call does to lent areas, from its promise alone: a refused one changes nothing and gives zeros, an accepted one leaves the surplus.
 -- Assumes nothing.
-use Rattle.std.specs.Prelude.{ℕ, zero, suc, ◌≤◌, ◌<◌, ◌≡◌, refl, ◌≢◌, ◌⊎◌, Bool, true, false, drop, leb}
+use Rattle.std.specs.Prelude.{ℕ, zero, suc, ◌≤◌, ◌<◌, ◌≡◌, refl, ◌≢◌, ◌⊎◌, Bool, true, false, drop, leb, Result}
 use Rattle.std.proofs.Common.{sym, ◌∙◌, inl, inr, true≢false, arith}
 use Rattle.std.proofs.Math.Path.{ap}
 use Rattle.std.proofs.lemmas.Bool.{false≢true, lt-leb}
@@ -15,8 +15,8 @@ use Rattle.format.specs.RefusalLaws.{then_passed, then_refused, then_zero, zero_
 use Rattle.format.specs.TestLaws.{area_reads}
 use Rattle.format.specs.File.Piece.{closed}
 use Rattle.format.specs.File.Format.{FileModel, fields, judge, decode, no_model, read_model, model_read, read_refusal, ReadCall, write_refusal, bytes_written, WriteCall, lookup_refusal, lookup_length, lookup_start}
-use Rattle.text.specs.Text.{print_refusal, printed, Prints}
-use Rattle.text.specs.declared.Printed.{Printed}
+use Rattle.text.specs.Text.{print_refusal, printed, printed_length, Prints}
+use Rattle.format.specs.declared.refusals.Refusal.{Refusal}
 use Rattle.host.specs.AreaCall.{area_refusal, AreaCall, WrittenOver}
 use Rattle.format.specs.File.Unnumbered.{unnumbered_fields}
 use Rattle.host.specs.AnswerBytes.{answer_length}
@@ -101,13 +101,13 @@ module _ (p n a b : ℕ) (cs ws : List ℕ) (ns : Option (List ℕ)) (out : List
       ap (λ (j : ℕ). drop j out') x.length_is ∙ ap (drop (length bytes)) x.bytes_are ∙ surplus bytes out ∙ ap (λ (j : ℕ). drop j out) (sym x.length_is)
 
 -- a refused printing changes no byte and gives no length
-pub print_refused : (text area : List ℕ) (r : Printed) (area' : List ℕ) → Prints text area r area' → print_refusal text area ≢ 0 → (area' ≡ area) × (r.length ≡ 0)
+pub print_refused : (text area : List ℕ) (r : Result ℕ Refusal) (area' : List ℕ) → Prints text area r area' → print_refusal text area ≢ 0 → (area' ≡ area) × (printed_length r ≡ 0)
 unfolding over printed
 print_refused text area r area' x h =
     let e : printed text area ≡ [] = where_refused (print_refusal text area) text [] h in
     (x.bytes_are ∙ ap (λ (l : List ℕ). over l area) e, x.length_is ∙ ap (λ (l : List ℕ). length l) e)
 
-pub print_surplus : (text area : List ℕ) (r : Printed) (area' : List ℕ) → Prints text area r area' → drop r.length area' ≡ drop r.length area
+pub print_surplus : (text area : List ℕ) (r : Result ℕ Refusal) (area' : List ℕ) → Prints text area r area' → drop (printed_length r) area' ≡ drop (printed_length r) area
 print_surplus text area r area' x =
     ap (λ (j : ℕ). drop j area') x.length_is ∙ ap (drop (length (printed text area))) x.bytes_are ∙ surplus (printed text area) area ∙ ap (λ (j : ℕ). drop j area) (sym x.length_is)
 

@@ -13,7 +13,7 @@ use Rattle.blocking.specs.Reason.{reason, untouched}
 use Rattle.format.specs.Numbers.{once, stands_in, parameter_count, picked, numbers_in}
 use Rattle.format.specs.Refusals.{◌then◌, first_refusal, column_test, model_tests}
 use Rattle.reason.specs.Answers.{reason_question, ReasonCall}
-use Rattle.reason.specs.declared.Reason.{Reason}
+use Rattle.reason.specs.Shown.{Reason}
 use Rattle.refutations.specs.Computing.{computing}
 use Rattle.refutations.specs.Accepted.{judging}
 

@@ -16,7 +16,7 @@ use Rattle.claims.proofs.Theorems as Theory
 use Rattle.format.specs.Refusals.{refusal}
 use Rattle.acceptance.specs.Answers.{ClaimAccepted, AcceptanceCall}
 use Rattle.acceptance.specs.declared.Claim.{Claim}
-use Rattle.acceptance.specs.declared.Acceptance.{Acceptance}
+use Rattle.acceptance.specs.Shown.{Acceptance}
 use Rattle.acceptance.proofs.SumLaws.{set_below}
 use Rattle.promises.specs.AcceptanceLaws.{claim_accepted}
 use Rattle.refutations.specs.Computing.{computing}

@@ -16,7 +16,7 @@ use Rattle.dependence.specs.ListingLaws.{listing_at}
 use Rattle.format.specs.Numbers.{once, stands_in, parameter_count, picked, numbers_in}
 use Rattle.format.specs.Refusals.{◌then◌, first_refusal, column_test, model_tests}
 use Rattle.multipliers.specs.Answers.{column_question, MultipliersCall}
-use Rattle.multipliers.specs.declared.Multipliers.{Multipliers}
+use Rattle.multipliers.specs.Shown.{Multipliers}
 use Rattle.refutations.specs.Computing.{computing}
 use Rattle.refutations.specs.Accepted.{judging}
 

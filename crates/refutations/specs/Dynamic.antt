@@ -15,7 +15,7 @@ use Rattle.degrees.specs.Degrees.{Powers, AllPlaced, degree, listed_powers, powe
 use Rattle.format.specs.Refusals.{first_refusal, refusal}
 use Rattle.format.specs.TestLaws.{model_accepted}
 use Rattle.degree.specs.Answers.{dynamic_tests, powers_low, assignment, DegreeCall}
-use Rattle.degree.specs.declared.Degree.{Degree}
+use Rattle.degree.specs.Shown.{Degree}
 use Rattle.promises.specs.DegreeLaws.{PowerAbove, PowersLent, PowersLow, above_not_low, due_0_iff}
 use Rattle.promises.specs.Theorems as Promised
 use Rattle.refutations.specs.Computing.{computing}

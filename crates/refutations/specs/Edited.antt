@@ -17,12 +17,12 @@ use Rattle.format.specs.File.Piece.{head_tests, closed}
 use Rattle.format.specs.File.Format.{entries, entry_bytes, prime_field, sizes_field, constant_row, parameter_size, parameter_row, number_field, numbered_rows, numbered_test, parameter_rows, end_field, row_fields, size_fields, fields, decode, encode, handed_over}
 use Rattle.format.specs.File.Unnumbered.{unnumbered_fields, unnumbered_sizes, unnumbered_rows}
 use Rattle.host.specs.AreaCall.{area_refusal}
-use Rattle.layered.specs.declared.Answer.{Answer}
+use Rattle.layered.specs.Shown.{Answer}
 use Rattle.open_models.specs.Open.{Open, take_off, put_back, set_place, column_of, held_tests, row_tests, present_test, presence_tests, own_tests, edit_tests, edit_refusal, answer_tests, answer_refusal, with_place, rows_done, present_done, done, after, after_edits, open_model}
 use Rattle.editing.specs.Edits.{byte_tests, edit_by, edit_of}
 use Rattle.editing.specs.Calls.{held, EditCall, AnswerCall}
 use Rattle.editing.specs.Areas.{open_bytes, area_file, area_open, file_opened, edit_area_tests}
-use Rattle.editing.specs.declared.Held.{Held}
+use Rattle.editing.specs.Shown.{Held}
 use Rattle.editing.specs.declared.edit.Edit.TheVariants.{TakeOff, PutBack, SetPlace}
 use Rattle.solvability.specs.Host.{HostOpen, HostEdit, HostOpenAnswer}
 use Rattle.promises.specs.EditingLaws.{EditedBy, edits_hold}

@@ -11,7 +11,7 @@ use Rattle.columns.specs.ColumnSets.{whole}
 use Rattle.rank.specs.Layered.Rank.{rank, placed}
 use Rattle.listed_models.specs.ListedModel.{listed_model}
 use Rattle.layered.specs.Answers.{LayeredCall}
-use Rattle.layered.specs.declared.Answer.{Answer}
+use Rattle.layered.specs.Shown.{Answer}
 use Rattle.format.specs.Lists.{all_pass, over}
 use Rattle.format.specs.Numbers.{is_numbered}
 use Rattle.format.specs.Refusals.{first_refusal, head_test, body_test, due_test, prime_test, size_test, constant_test, area_test, end_test, refusal}

@@ -5,9 +5,9 @@ use Rattle.std.proofs.Math.Option.{some}
 use mathlib.Core.List.{List, [], ◌∷◌, ◌++◌, flat_map, flatten, zip}
 use Rattle.counting.specs.Sets.{#}
 use Rattle.layered.specs.Answers.{LayeredCall, LayeredFileCall}
-use Rattle.layered.specs.declared.Answer.{Answer}
+use Rattle.layered.specs.Shown.{Answer}
 use Rattle.mixed.specs.MixedAnswers.{MixedCall}
-use Rattle.mixed.specs.declared.MixedAnswer.{MixedAnswer}
+use Rattle.mixed.specs.Shown.{MixedAnswer}
 use Rattle.format.specs.Lists.{rows_of, over}
 use Rattle.format.specs.Numbers.{once, stands_in, parameter_count, picked, spread, numbers_in, entries_for, numbers_of, number_entries, is_numbered}
 use Rattle.format.specs.Refusals.{head_test, body_test, due_test, end_test, refusal, mixed_refusal}

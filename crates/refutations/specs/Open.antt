@@ -1,6 +1,6 @@
 -- How little the promises leave open: two results of one call agree but in the results that the documents leave open, and what holds of those.
 -- Assumes nothing.
-use Rattle.std.specs.Prelude.{ℕ, zero, suc, ◌-◌, ◌/◌, ◌%◌, ◌≤◌, ◌<◌, ◌≡◌, ◌≢◌, Bool, true, false, eqb, ltb, length, replicate}
+use Rattle.std.specs.Prelude.{ℕ, zero, suc, ◌-◌, ◌/◌, ◌%◌, ◌≤◌, ◌<◌, ◌≡◌, ◌≢◌, Bool, true, false, eqb, ltb, length, replicate, Result}
 use Rattle.std.proofs.Math.Path.{refl, sym, ap, ap₂, fun_ext}
 use Rattle.std.proofs.Common.{◌∙◌, subst, inl, inr, true≢false, arith, lit<, eq-eqb, ne_eqb, lt-ltb, le-ltb}
 use Rattle.std.proofs.lemmas.Bool.{false≢true}
@@ -25,7 +25,7 @@ use Rattle.exchange.specs.Solution.{shown_row, shown, ShowsRow, Solved}
 use Rattle.limits.specs.Limits.{most_rows, set_bytes, no_column}
 use Rattle.layered.specs.Answers.{Refused, Answered, AnswerShown, RankCall, LayeredCall}
 use Rattle.layered.specs.FileModel.{file_model}
-use Rattle.layered.specs.declared.Answer.{Answer}
+use Rattle.layered.specs.Shown.{Answer}
 use Rattle.layered.proofs.FileLaws.{call_answered}
 use Rattle.format.specs.Refusals.{◌then◌, first_refusal, refusal, mixed_refusal, Tests}
 use Rattle.mixed_models.specs.Mixed.{Mixed}
@@ -35,36 +35,37 @@ use Rattle.host.specs.AnswerBytes.{answer_bytes, mixed_bytes}
 use Rattle.open_models.specs.Open.{answer_refusal, open_model}
 use Rattle.editing.specs.Calls.{held, OpenCall, EditCall, AnswerCall}
 use Rattle.editing.specs.Areas.{area_open}
-use Rattle.editing.specs.declared.Held.{Held}
+use Rattle.editing.specs.Shown.{Held}
 use Rattle.editing.specs.declared.edit.Edit.{Edit}
 use Rattle.multipliers.specs.Answers.{MultipliersCall}
 use Rattle.multipliers.specs.Bytes.{multipliers_bytes}
-use Rattle.multipliers.specs.declared.Multipliers.{Multipliers}
+use Rattle.multipliers.specs.Shown.{Multipliers}
 use Rattle.reason.specs.Answers.{reason_question, FileReason, ReasonCall}
 use Rattle.reason_report.specs.ReasonReport.{multiplier_line, reason_text, ReasonFileReport}
 use Rattle.blocks_report.specs.BlocksReport.{block_lines, blocks_text, BlocksFileReport}
 use Rattle.reason.specs.Bytes.{reason_bytes}
-use Rattle.reason.specs.declared.Reason.{Reason}
+use Rattle.reason.specs.Shown.{Reason}
 use Rattle.acceptance.specs.Answers.{AcceptanceCall}
 use Rattle.acceptance.specs.Bytes.{claim_question, acceptance_bytes}
 use Rattle.acceptance.specs.declared.Claim.{Claim}
-use Rattle.acceptance.specs.declared.Acceptance.{Acceptance}
+use Rattle.acceptance.specs.Shown.{Acceptance}
 use Rattle.acceptance.proofs.SumLaws.{set_below}
 use Rattle.blocks.specs.Answers.{BlocksCall}
 use Rattle.blocks.specs.Bytes.{blocks_bytes}
-use Rattle.blocks.specs.declared.Blocks.{Blocks}
+use Rattle.blocks.specs.Shown.{Blocks}
 use Rattle.degree.specs.Answers.{DegreeAnswered, DegreeCall}
-use Rattle.degree.specs.declared.Degree.{Degree}
+use Rattle.degree.specs.Shown.{Degree}
 use Rattle.solvability.specs.Host.{HostAnswer, HostMixedAnswer, multipliers_question, HostMultipliers, HostReason, HostAccepts, HostBlocks, HostDegree, HostOpen, HostEdit, HostOpenAnswer}
-use Rattle.text.specs.Text.{ascii, line, item, column_items, verdict_line, print_refusal, printed, Prints}
+use Rattle.text.specs.Text.{ascii, line, item, column_items, verdict_line, print_refusal, printed, printed_length, Prints}
 use Rattle.rank.specs.Layered.Rank.{rank, verdict}
-use Rattle.text.specs.declared.Printed.{Printed}
+use Rattle.format.specs.Refused.{refusal_of}
+use Rattle.format.specs.declared.refusals.Refusal.{Refusal}
 use Rattle.report.specs.Report.{answer_text}
 use Rattle.report.specs.FileReport.{FileReport}
 use Rattle.format.specs.Lists.{over}
 use Rattle.format.specs.File.Piece.{closed}
 use Rattle.format.specs.File.Format.{fields, entry_bytes, judge}
-use Rattle.mixed.specs.declared.MixedAnswer.{MixedAnswer}
+use Rattle.mixed.specs.Shown.{MixedAnswer}
 use Rattle.promises.specs.Fixed.{SameAnswer, SameShown, SameMixed, SameMixedShown, SameReason, SameAcceptance, SameBlocks, SameDegree, TwoShown}
 use Rattle.promises.specs.AnswerLaws.{layered_same, mixed_same}
 use Rattle.promises.specs.ReasonSameLaws.{reason_calls_same}
@@ -293,11 +294,11 @@ module _ (file area : List ℕ) where
       same = f.is_number ∙ sym g.is_number
 
   -- and the text of a report is that of two answers that agree,
-  pub report_fixed : (r s : Printed) (area' area'' : List ℕ) → FileReport file area r area' → FileReport file area s area'' → judge file ≡ 0
+  pub report_fixed : (r s : Result ℕ Refusal) (area' area'' : List ℕ) → FileReport file area r area' → FileReport file area s area'' → judge file ≡ 0
       → TwoShown SameShown (λ t. Prints (answer_text t) area r area') (λ t. Prints (answer_text t) area s area'')
   report_fixed r s area' area'' x y e = two_shown (λ t u. answered_fixed (file_model file)) (x.if_accepted e) (y.if_accepted e)
 
-  printed_fixed : {r s : Printed} {area' area'' t t' : List ℕ} → t ≡ t' → Prints t area r area' → Prints t' area s area'' → (r.refusal ≡ s.refusal) × (r.length ≡ s.length) × (area' ≡ area'')
+  printed_fixed : {r s : Result ℕ Refusal} {area' area'' t t' : List ℕ} → t ≡ t' → Prints t area r area' → Prints t' area s area'' → (refusal_of r ≡ refusal_of s) × (printed_length r ≡ printed_length s) × (area' ≡ area'')
   printed_fixed e p q = (
     p.refusal_is ∙ ap (λ (t : List ℕ). print_refusal t area) e ∙ sym q.refusal_is,
     p.length_is ∙ ap (λ (t : List ℕ). length (printed t area)) e ∙ sym q.length_is,
@@ -305,8 +306,8 @@ module _ (file area : List ℕ) where
   )
 
   -- whose numbers and bytes are the same where it is that of the blocks
-  pub blocks_report_fixed : (r s : Printed) (area' area'' : List ℕ) → BlocksFileReport file area r area' → BlocksFileReport file area s area''
-      → (r.refusal ≡ s.refusal) × (r.length ≡ s.length) × (area' ≡ area'')
+  pub blocks_report_fixed : (r s : Result ℕ Refusal) (area' area'' : List ℕ) → BlocksFileReport file area r area' → BlocksFileReport file area s area''
+      → (refusal_of r ≡ refusal_of s) × (printed_length r ≡ printed_length s) × (area' ≡ area'')
   unfolding blocks_text
   blocks_report_fixed r s area' area'' f g = elim (ℕ_discrete (judge file) 0) [
     | no nz ↦ printed_fixed refl (f.if_refused nz) (g.if_refused nz)
@@ -316,8 +317,8 @@ module _ (file area : List ℕ) where
   ]
 
   -- or of the reason for a column
-  pub reason_report_fixed : (x : ℕ) (r s : Printed) (area' area'' : List ℕ) → ReasonFileReport file x area r area' → ReasonFileReport file x area s area''
-      → (r.refusal ≡ s.refusal) × (r.length ≡ s.length) × (area' ≡ area'')
+  pub reason_report_fixed : (x : ℕ) (r s : Result ℕ Refusal) (area' area'' : List ℕ) → ReasonFileReport file x area r area' → ReasonFileReport file x area s area''
+      → (refusal_of r ≡ refusal_of s) × (printed_length r ≡ printed_length s) × (area' ≡ area'')
   unfolding reason_text
   reason_report_fixed x r s area' area'' f g = elim (ℕ_discrete (first_refusal (closed fields file then reason_question (file_model file) x)) 0) [
     | no nz ↦ printed_fixed refl (f.if_refused nz) (g.if_refused nz)

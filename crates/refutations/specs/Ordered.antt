@@ -18,7 +18,7 @@ use Rattle.listings.specs.Blocks.{tight, share, before, block, needs, permitted,
 use Rattle.format.specs.Refusals.{refusal}
 use Rattle.format.specs.TestLaws.{model_accepted}
 use Rattle.blocks.specs.Answers.{shown_number, BlocksAnswered, BlocksCall}
-use Rattle.blocks.specs.declared.Blocks.{Blocks}
+use Rattle.blocks.specs.Shown.{Blocks}
 use Rattle.promises.specs.BlocksLaws.{PermittedAfter}
 use Rattle.promises.specs.Theorems as Promised
 use Rattle.refutations.specs.Computing.{computing}

@@ -8,9 +8,9 @@ use Rattle.mixed_models.specs.Mixed.{mixed, mixed_sum, mixed_rank, mixed_verdict
 use Rattle.mixed_models.proofs.Starred.Table.{table}
 use Rattle.format.specs.Refusals.{refusal, mixed_refusal}
 use Rattle.layered.specs.Answers.{LayeredCall}
-use Rattle.layered.specs.declared.Answer.{Answer}
+use Rattle.layered.specs.Shown.{Answer}
 use Rattle.mixed.specs.MixedAnswers.{MixedCall}
-use Rattle.mixed.specs.declared.MixedAnswer.{MixedAnswer}
+use Rattle.mixed.specs.Shown.{MixedAnswer}
 use Rattle.refutations.specs.Computing.{computing}
 use Rattle.refutations.specs.Accepted.{judging, S9_accepted, joined_accepted}
 

@@ -9,7 +9,7 @@ use Rattle.counting.specs.Sets.{Set, ◌∈◌, ◌⊆◌, ◌∩◌, ◌∪◌,
 use Rattle.counting.specs.Injections.{#-strict}
 use Rattle.columns.specs.Columns.{width, inserted, removed}
 use Rattle.columns.specs.Words.SetLaws.{inserted_same, inserted_old, inserted_split, removed_old, removed_gone, removed_other}
-use Rattle.relation.specs.Closures.{HasAll, LeadsTo, DoneRow, Ahead}
+use Rattle.relation.specs.Closures.{HasAll, LeadsTo, DoneRow}
 
 -- what x leads to has been found up to what the columns in front lead to
 pub record Reaching (R : ℕ → Set) (x : ℕ) (found front : Set) : Type 0 where
@@ -17,6 +17,11 @@ pub record Reaching (R : ℕ → Set) (x : ℕ) (found front : Set) : Type 0 whe
   pub in_found : front ⊆ found
   pub read : (z : ℕ) → z ∈ found → (z ∈ front) ⊎ ((y : ℕ) → y ∈ R z → y ∈ found)
   pub least : (K : Set) → HasAll R x K → found ⊆ K
+
+-- what is left of a front when the row of its column y has been read
+pub record Ahead (front found row : Set) (y : ℕ) (known : Bool) (left : Set) : Type 0 where
+  pub if_done : known ≡ true → left ≡ removed (front ∩ ∁ row) y
+  pub if_not : known ≡ false → left ≡ removed (front ∪ (row ∩ ∁ found)) y
 
 -- what has not been read: what is not found, and the front
 abbrev pub unread : Set → Set → Set

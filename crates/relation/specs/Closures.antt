@@ -1,12 +1,11 @@
 -- What `closure` says; and the least set that has a column and, with each column, all of its row, as a statement. Assumes nothing.
-use Rattle.std.specs.Prelude.{ℕ, ◌<◌, ◌≡◌, refl, Bool, true, false, ◌&&◌, ◌||◌, ◌↔◌, ◌⊎◌, List}
+use Rattle.std.specs.Prelude.{ℕ, ◌<◌, ◌≡◌, refl, true, false, ◌&&◌, ◌||◌, ◌↔◌, ◌⊎◌, List}
 use Rattle.std.proofs.Math.Bool.{not, decide, decide_iff}
 use Rattle.std.proofs.Math.Decide.{dec_lt}
 use Rattle.counting.specs.Bools.{iff_eq, and_in, and_left, and_right, implied, implies}
-use Rattle.counting.specs.Sets.{Set, ◌∈◌, ◌⊆◌, ◌∩◌, ◌∪◌, ∁, all}
+use Rattle.counting.specs.Sets.{Set, ◌∈◌, ◌⊆◌, ◌∩◌, all}
 use Rattle.counting.specs.Counts.{all_iff}
 use Rattle.counting.specs.ChoiceLaws.{every_part_iff}
-use Rattle.columns.specs.Columns.{removed}
 use Rattle.relation.specs.Relations.{row_of, keeps_rows, closure}
 
 -- K has x and, with each column, all of its row
@@ -28,11 +27,6 @@ pub record DoneRow (R : ℕ → Set) (z : ℕ) (W : Set) : Type 0 where
 pub record Partly (R : ℕ → Set) (done : Set) (ws : List ℕ) : Type 0 where
   pub finished : (z : ℕ) → z ∈ done → DoneRow R z (row_of ws z)
   pub left : (z : ℕ) → done z ≡ false → (y : ℕ) → row_of ws z y ≡ R z y
-
--- what is left of a front when the row of its column y has been read
-pub record Ahead (front found row : Set) (y : ℕ) (known : Bool) (left : Set) : Type 0 where
-  pub if_done : known ≡ true → left ≡ removed (front ∩ ∁ row) y
-  pub if_not : known ≡ false → left ≡ removed (front ∪ (row ∩ ∁ found)) y
 
 module _ (k : ℕ) (R : ℕ → Set) where
   keeps_rows_iff : (K : Set) → (keeps_rows k R K ≡ true) ↔ ((z y : ℕ) → z < k → y < k → z ∈ K → y ∈ R z → y ∈ K)

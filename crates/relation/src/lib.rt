@@ -7,7 +7,7 @@ ghost use Rattle.counting.specs.Sets.{Set, ◌∈◌, #};
 ghost use Rattle.columns.specs.Columns.{width, members};
 ghost use Rattle.columns.specs.ColumnSets.{whole};
 ghost use Rattle.relation.specs.Relations.{Joined, ClosedOver};
-ghost use Rattle.relation.specs.Closures.{Ahead, Partly, LeadsTo};
+ghost use Rattle.relation.specs.Closures.{Partly, LeadsTo};
 
 use columns::ColumnSet;
 use limits::MOST_COLUMNS;
@@ -16,25 +16,9 @@ use limits::MOST_COLUMNS;
 pub fn join(rows: &mut [u64], at: ColumnSet, set: ColumnSet)
     ensures { Joined (members (whole at)) (members (whole set)) rows.old rows.new }
 {
-    let mut rest = at;
-    while !columns::is_empty(rest) {
-        let x = columns::first(rest);
-        let joined = columns::union(columns::row(rows, x), set);
-        columns::put_row(rows, x, joined);
-        rest = columns::without(rest, x);
+    for x in at {
+        columns::put_row(rows, x, columns::row(rows, x).union(set));
     }
-}
-
-// The columns whose rows are still to be read, after that of y. Where the row is done, it has all that it leads to, and none of these has
-// to be read; else what was not found before has.
-fn ahead(front: ColumnSet, found: ColumnSet, row: ColumnSet, y: usize, known: bool) -> ColumnSet
-    ensures { Ahead (members (whole front)) (members (whole found)) (members (whole row)) y known (members (whole result)) }
-{
-    if known {
-        return columns::without(columns::difference(front, row), y);
-    }
-    let new = columns::difference(row, found);
-    columns::without(columns::union(front, new), y)
 }
 
 // A column of the set: one whose row is done, where there is one, since nothing of such a row has to be read again.
@@ -42,26 +26,33 @@ fn pick_done(set: ColumnSet, done: ColumnSet) -> usize
     requires { # width (members (whole set)) ≢ 0 }
     ensures { (result < width) × (result ∈ members (whole set)) }
 {
-    let both = columns::intersection(set, done);
-    if columns::is_empty(both) {
-        return columns::first(set);
+    let both = set.intersection(done);
+    if both.is_empty() {
+        set.first()
+    } else {
+        both.first()
     }
-    columns::first(both)
 }
 
-// The column and all that its row leads to.
+// The column and all that its row leads to. Where the row of y is done, it has all that it leads to, and none of these has to be read;
+// else what was not found before has.
 fn reached(rows: &[u64], done: ColumnSet, x: usize) -> ColumnSet
     requires { (x < width) × (members (whole done) x ≡ false) }
     ensures { (R : ℕ → Set) → Partly R (members (whole done)) rows.now → LeadsTo R x (members (whole result)) }
 {
     let direct = columns::row(rows, x);
-    let mut found = columns::with(direct, x);
-    let mut front = columns::without(direct, x);
-    while !columns::is_empty(front) {
+    let mut found = direct.with(x);
+    let mut front = direct.without(x);
+    while !front.is_empty() {
         let y = pick_done(front, done);
         let row = columns::row(rows, y);
-        front = ahead(front, found, row, y, columns::contains(done, y));
-        found = columns::union(found, row);
+        let ahead = if done.contains(y) {
+            front.difference(row)
+        } else {
+            front.union(row.difference(found))
+        };
+        front = ahead.without(y);
+        found = found.union(row);
     }
     found
 }
@@ -75,11 +66,8 @@ fn pick_spread(set: ColumnSet) -> usize
     requires { # width (members (whole set)) ≢ 0 }
     ensures { (result < width) × (result ∈ members (whole set)) }
 {
-    let x = columns::size(set) * STEP % MOST_COLUMNS;
-    if columns::contains(set, x) {
-        return x;
-    }
-    columns::first(set)
+    let x = set.size() * STEP % MOST_COLUMNS;
+    if set.contains(x) { x } else { set.first() }
 }
 
 // Each row of the columns named gets its own column and all that it leads to.
@@ -87,12 +75,12 @@ pub fn close(rows: &mut [u64], over: ColumnSet)
     ensures { ClosedOver (members (whole over)) rows.old rows.new }
 {
     let mut rest = over;
-    let mut done = columns::empty();
-    while !columns::is_empty(rest) {
+    let mut done = ColumnSet::empty();
+    while !rest.is_empty() {
         let x = pick_spread(rest);
         let all = reached(rows, done, x);
         columns::put_row(rows, x, all);
-        done = columns::with(done, x);
-        rest = columns::without(rest, x);
+        done = done.with(x);
+        rest = rest.without(x);
     }
 }

@@ -7,7 +7,7 @@ use lib.ListN.{length, get_or, length-append}
 use Rattle.limits.specs.Limits.{most_rows, no_column}
 use Rattle.columns.specs.Columns.{members}
 use Rattle.columns.specs.ColumnSets.{whole}
-use Rattle.layered.specs.declared.Answer.{Answer}
+use Rattle.layered.specs.Shown.{Answer}
 use Rattle.text.specs.Text.{ascii}
 use Rattle.text.specs.TextLaws.{item_length, pairs_length, column_items_length, line_length, verdict_line_length}
 use Rattle.report.specs.Report.{row_items, answer_text, longest_report}

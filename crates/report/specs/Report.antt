@@ -4,7 +4,7 @@ use Rattle.limits.specs.Limits.{most_rows, no_column}
 use Rattle.columns.specs.Columns.{width, members}
 use Rattle.columns.specs.ColumnSets.{whole}
 use Rattle.text.specs.Text.{ascii, line, item, pair_items, column_items, verdict_line, refused_line}
-use Rattle.layered.specs.declared.Answer.{Answer}
+use Rattle.layered.specs.Shown.{Answer}
 
 -- row:column for each row, by row; a row without a column is left out
 unfoldable pub row_items : List ℕ → List ℕ

@@ -6,25 +6,12 @@ use mathlib.Core.Logic.{◌≢◌, by_cases}
 use mathlib.Core.List.{List, [], ◌∷◌}
 use native.Mathlib.Omega.{arith}
 use native.Mathlib.Decide.{dec_lt}
-use lib.Dec.{leb, ltb}
-use lib.ListN.{length}
-use borrow.Author.Tests.{lt-ltb, le-ltb, le-leb, lt-leb, leb-true}
-use Rattle.counting.specs.Bools.{and_left, and_right}
+use lib.Dec.{ltb}
+use lib.ListN.{length, get_or, drop}
+use borrow.Author.Tests.{lt-ltb, le-ltb}
+use Rattle.std.specs.Char.{is_ascii_digit}
+use Rattle.std.proofs.lemmas.List.{drop_more}
 use Rattle.text.specs.Text.{is_digit, all_digits, is_number, value, number_below}
-
--- ---- one digit
-
-pub digit_range : (c : ℕ) → is_digit c ≡ true → (48 ≤ c) × (c ≤ 57)
-unfolding is_digit
-digit_range c e = (leb-true 48 c (and_left (leb 48 c) (leb c 57) e), leb-true c 57 (and_right (leb 48 c) (leb c 57) e))
-
-pub digit_by_most : (c : ℕ) → 48 ≤ c → leb c 57 ≡ is_digit c
-unfolding is_digit
-digit_by_most c h = rw (le-leb 48 c h) refl
-
-pub digit_by_least : (c : ℕ) → c < 48 → leb 48 c ≡ is_digit c
-unfolding is_digit
-digit_by_least c h = rw (lt-leb 48 c h) refl
 
 -- ---- what is read where x was, and cs are left
 
@@ -46,13 +33,14 @@ unfolding number_below is_number read_on
 number_begun limit [] ne = absurd (ne refl)
 number_begun limit (c ∷ cs) ne = refl
 
-pub read_digit : (limit x c : ℕ) (cs : List ℕ) → is_digit c ≡ true → read_on limit x (c ∷ cs) ≡ read_on limit (10 * x + (c - 48)) cs
-unfolding read_on all_digits value
-read_digit limit x c cs e = rw e refl
+-- a digit is taken in, and whatever is none ends the number
+pub read_digit : (limit x : ℕ) (cs : List ℕ) (i : ℕ) → i < length cs → is_ascii_digit (get_or cs i 0) ≡ true → read_on limit x (drop i cs) ≡ read_on limit (10 * x + (get_or cs i 0 - 48)) (drop (i + 1) cs)
+unfolding read_on all_digits value is_digit
+read_digit limit x cs i l e = rw (drop_more cs i 0 l, e) refl
 
-pub read_other : (limit x c : ℕ) (cs : List ℕ) → is_digit c ≡ false → read_on limit x (c ∷ cs) ≡ limit
-unfolding read_on all_digits
-read_other limit x c cs e = rw e refl
+pub read_other : (limit x : ℕ) (cs : List ℕ) (i : ℕ) → i < length cs → is_ascii_digit (get_or cs i 0) ≡ false → read_on limit x (drop i cs) ≡ limit
+unfolding read_on all_digits is_digit
+read_other limit x cs i l e = rw (drop_more cs i 0 l, e) refl
 
 -- more digits make no number smaller
 pub read_beyond : (limit x : ℕ) (cs : List ℕ) → limit ≤ x → read_on limit x cs ≡ limit

@@ -1,5 +1,5 @@
 -- The laws of text put into an area: text after text, what a loop has left to put, and a text that has room. Assumes nothing.
-use Rattle.std.specs.Prelude.{ℕ, ◌+◌, ◌≤◌, ◌<◌, ◌≡◌, refl, List, [], ◌∷◌, ◌++◌, length, set, take, drop}
+use Rattle.std.specs.Prelude.{ℕ, ◌+◌, ◌≤◌, ◌<◌, ◌≡◌, refl, List, [], ◌∷◌, ◌++◌, length, set, take, drop, Result, Ok, Err}
 use Rattle.std.proofs.Common.{sym, ap, ◌∙◌, subst, arith, add-zero, zero-add, length-append, length-set, lt-ltb, le-ltb, le-leb}
 use Rattle.std.proofs.Math.Logic.{by_cases}
 use Rattle.std.proofs.Math.Decide.{dec_lt}
@@ -8,8 +8,9 @@ use Rattle.std.proofs.lemmas.Bool.{lt-leb}
 use Rattle.format.specs.Lists.{over}
 use Rattle.format.specs.OverLaws.{over_none}
 use Rattle.format.specs.Refusals.{first_refusal, area_test, where_accepted, number_of, area_short}
-use Rattle.text.specs.declared.Printed.{Printed}
-use Rattle.text.specs.Text.{put, puts, Puts, print_refusal, printed, Prints}
+use Rattle.format.specs.declared.refusals.Refusal.{Refusal}
+use Rattle.format.specs.declared.refusals.Refusal.TheVariants.{AreaShort}
+use Rattle.text.specs.Text.{put, puts, Puts, print_refusal, printed, printed_length, Prints}
 
 -- ---- one byte
 
@@ -58,6 +59,20 @@ puts_then {xs} {ys} {d} {at = at} p q = record { state_is = q.state_is ∙ ap (p
 
 pub puts_same : {xs d e : List ℕ} {at r : ℕ} → Puts xs d at e r → length e ≡ length d
 puts_same {xs} {d} {at = at} p = ap (λ (s : List ℕ × ℕ). length s.0) p.state_is ∙ puts_length xs (d, at)
+
+-- the place stays within the area
+put_within : (x : ℕ) (s : List ℕ × ℕ) → s.1 ≤ length s.0 → (put x s).1 ≤ length (put x s).0
+put_within x (d, at) h = by_cases (dec_lt at (length d))
+    (λ l. rw (put_room x d at l) (omega (arith, length-set d at x)))
+    (λ nl. rw (put_full x d at (omega arith)) h)
+
+puts_stay_within : (xs : List ℕ) (s : List ℕ × ℕ) → s.1 ≤ length s.0 → (puts xs s).1 ≤ length (puts xs s).0
+unfolding puts
+puts_stay_within [] s h = h
+puts_stay_within (x ∷ xs) s h = puts_stay_within xs (put x s) (put_within x s h)
+
+pub puts_within : {xs d e : List ℕ} {r : ℕ} → Puts xs d 0 e r → r ≤ length e
+puts_within {xs} {d} p = subst (λ (s : List ℕ × ℕ). s.1 ≤ length s.0) (sym p.state_is) (puts_stay_within xs (d, 0) (omega arith))
 
 -- ---- a loop that has `todo` left will have put `all`
 
@@ -126,25 +141,25 @@ printed_none : (text d : List ℕ) → length d < length text → printed text d
 unfolding printed
 printed_none text d h = ap (λ (n : ℕ). where_accepted n text []) (print_refused text d h)
 
-pub prints_whole : {text d e : List ℕ} {r : ℕ} → Puts text d 0 e r → length text ≤ length d → Prints text d (record { refusal = 0; length = r }) e
+pub prints_whole : {text d e : List ℕ} {r : ℕ} → Puts text d 0 e r → length text ≤ length d → Prints text d (Ok r) e
 prints_whole {text} {d} {e} {r} p h = record {
   refusal_is = sym (print_accepted text d h);
   length_is = puts_place p h ∙ ap length (sym (printed_whole text d h));
   bytes_are = puts_over p h ∙ ap (λ (l : List ℕ). over l d) (sym (printed_whole text d h));
 }
 
-pub prints_nothing : (text d : List ℕ) → length d < length text → Prints text d (record { refusal = number_of area_short; length = 0 }) d
+pub prints_nothing : (text d : List ℕ) → length d < length text → Prints text d (Err AreaShort) d
 prints_nothing text d h = record {
   refusal_is = sym (print_refused text d h);
   length_is = ap length (sym (printed_none text d h));
   bytes_are = over_none d ∙ ap (λ (l : List ℕ). over l d) (sym (printed_none text d h));
 }
 
-pub prints_as : {text t d e : List ℕ} {r : Printed} → text ≡ t → Prints text d r e → Prints t d r e
+pub prints_as : {text t d e : List ℕ} {r : Result ℕ Refusal} → text ≡ t → Prints text d r e → Prints t d r e
 prints_as {text} {t} {d} {e} {r} q w = subst (λ (l : List ℕ). Prints l d r e) q w
 
 -- what was printed lies within the area, so that the caller may lend that part on
-pub prints_within : {text d e : List ℕ} {r : Printed} → Prints text d r e → r.length ≤ length e
+pub prints_within : {text d e : List ℕ} {r : Result ℕ Refusal} → Prints text d r e → printed_length r ≤ length e
 unfolding over
 prints_within {text} {d} {e} {r} w =
     omega (arith, w.length_is, ap length w.bytes_are ∙ length-append (printed text d) (drop (length (printed text d)) d))

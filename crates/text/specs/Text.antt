@@ -1,14 +1,16 @@
 -- Text, as bytes: decimals, items and lines by document 01, "The host and the program", how text gets into a lent area, and a number read from its
 -- digits. Definitions only.
-use Rattle.std.specs.Prelude.{ℕ, zero, suc, ◌+◌, ◌-◌, ◌*◌, ◌/◌, ◌%◌, ◌≡◌, Bool, true, false, ◌&&◌, cond, eqb, leb, ltb, length, set}
+use Rattle.std.specs.Prelude.{ℕ, zero, suc, ◌+◌, ◌-◌, ◌*◌, ◌/◌, ◌%◌, ◌≡◌, Bool, true, false, ◌&&◌, cond, Result, eqb, leb, ltb, length, set}
+use Rattle.std.specs.Result.{result_unwrap_or}
 use Prim.Native.Char.{code}
 use Prim.Native.String.{String, [] as []ˢ, ◌∷◌ as ◌∷ˢ◌}
 use mathlib.Core.List.{List, [], ◌∷◌, ◌++◌, flat_map}
 use Rattle.counting.specs.Sets.{Set}
 use Rattle.columns.specs.Columns.{width}
 use Rattle.format.specs.Lists.{over}
+use Rattle.format.specs.Refused.{refusal_of}
+use Rattle.format.specs.declared.refusals.Refusal.{Refusal}
 use Rattle.format.specs.Refusals.{first_refusal, unless, area_test, area_short, where_accepted}
-use Rattle.text.specs.declared.Printed.{Printed}
 
 -- ---- characters and numbers
 
@@ -91,10 +93,14 @@ print_refusal text area = first_refusal (unless (area_test (length text) (length
 unfoldable pub printed : (text area : List ℕ) → List ℕ
 printed text area = where_accepted (print_refusal text area) text []
 
--- the numbers returned, and the area afterwards
-pub record Prints (text area : List ℕ) (r : Printed) (area' : List ℕ) : Type 0 where
-  pub refusal_is : r.refusal ≡ print_refusal text area
-  pub length_is : r.length ≡ length (printed text area)
+-- how many bytes a printing gives back: none where it is refused
+abbrev pub printed_length : Result ℕ Refusal → ℕ
+printed_length r = result_unwrap_or r 0
+
+-- what is returned, and the area afterwards
+pub record Prints (text area : List ℕ) (r : Result ℕ Refusal) (area' : List ℕ) : Type 0 where
+  pub refusal_is : refusal_of r ≡ print_refusal text area
+  pub length_is : printed_length r ≡ length (printed text area)
   pub bytes_are : area' ≡ over (printed text area) area
 
 -- ---- a number read from its digits

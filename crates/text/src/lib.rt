@@ -6,40 +6,19 @@
 ghost use Rattle.std.specs.Prelude.{◌≡◌, [], ◌∷◌, ◌+◌, ◌-◌, ◌*◌, ◌≤◌, ◌<◌};
 ghost use Rattle.columns.specs.Columns.{members};
 ghost use Rattle.columns.specs.ColumnSets.{whole};
-ghost use Rattle.text.specs.Text.{decimal, line, item, pair_item, pair_unless, column_items, verdict_line, refused_line, Puts, Prints, is_digit, number_below};
+ghost use Rattle.text.specs.Text.{decimal, line, item, pair_item, pair_unless, column_items, verdict_line, refused_line, Puts, Prints, number_below};
 
 use columns::ColumnSet;
-use format::refusals;
+use format::Refusal;
 
-const LINE_FEED: u8 = 10;
-
-const SPACE: u8 = 32;
-
-const ZERO: u8 = 48;
-
-const NINE: u8 = 57;
-
-const COLON: u8 = 58;
-
-// How many bytes were printed; 0 where the printing is refused.
-#[derive(Clone, Copy)]
-pub struct Printed {
-    pub refusal: u32,
-    pub length: usize,
-}
-
-// The text over the front of the area, or the refusal of an area that is too short for it.
-pub fn print(text: &[u8], out: &mut [u8]) -> Printed
+// The text over the front of the area, and how many bytes it has; or the refusal of an area that is too short for it.
+pub fn print(text: &[u8], out: &mut [u8]) -> Result<usize, Refusal>
     ensures { Prints text.now out.old result out.new }
 {
     if out.len() < text.len() {
-        return Printed {
-            refusal: refusals::AREA_SHORT,
-            length: 0,
-        };
+        return Err(Refusal::AreaShort);
     }
-    let length = put_bytes(out, 0, text);
-    Printed { refusal: 0, length }
+    Ok(put_bytes(out, 0, text))
 }
 
 // A verdict as its word.
@@ -68,7 +47,7 @@ pub fn put_number_line(out: &mut [u8], at: usize, word: &[u8], x: usize) -> usiz
 {
     let after_word = put_bytes(out, at, word);
     let after_item = put_item(out, after_word, x);
-    put_byte(out, after_item, LINE_FEED)
+    put_byte(out, after_item, b'\n')
 }
 
 // A word and the columns of a set.
@@ -77,7 +56,7 @@ pub fn put_column_line(out: &mut [u8], at: usize, word: &[u8], set: ColumnSet) -
 {
     let after_word = put_bytes(out, at, word);
     let after_items = put_columns(out, after_word, set);
-    put_byte(out, after_items, LINE_FEED)
+    put_byte(out, after_items, b'\n')
 }
 
 // The columns of the set, ascending.
@@ -85,11 +64,8 @@ fn put_columns(out: &mut [u8], at: usize, set: ColumnSet) -> usize
     ensures { Puts (column_items (members (whole set))) out.old at out.new result }
 {
     let mut place = at;
-    let mut rest = set;
-    while !columns::is_empty(rest) {
-        let x = columns::first(rest);
+    for x in set {
         place = put_item(out, place, x);
-        rest = columns::without(rest, x);
     }
     place
 }
@@ -115,7 +91,7 @@ fn put_pair(out: &mut [u8], at: usize, first: usize, second: usize) -> usize
     ensures { Puts (pair_item first second) out.old at out.new result }
 {
     let after_first = put_item(out, at, first);
-    let after_colon = put_byte(out, after_first, COLON);
+    let after_colon = put_byte(out, after_first, b':');
     put_decimal(out, after_colon, second)
 }
 
@@ -123,7 +99,7 @@ fn put_pair(out: &mut [u8], at: usize, first: usize, second: usize) -> usize
 pub fn put_item(out: &mut [u8], at: usize, x: usize) -> usize
     ensures { Puts (item x) out.old at out.new result }
 {
-    let after_space = put_byte(out, at, SPACE);
+    let after_space = put_byte(out, at, b' ');
     put_decimal(out, after_space, x)
 }
 
@@ -142,17 +118,15 @@ fn digit(x: usize) -> u8
     requires { x < 10 }
     ensures { result ≡ 48 + x }
 {
-    ZERO + x as u8
+    b'0' + x as u8
 }
 
 pub fn put_bytes(out: &mut [u8], at: usize, text: &[u8]) -> usize
     ensures { Puts text.now out.old at out.new result }
 {
     let mut place = at;
-    let mut i = 0;
-    while i < text.len() {
-        place = put_byte(out, place, text[i]);
-        i = i + 1;
+    for x in text {
+        place = put_byte(out, place, *x);
     }
     place
 }
@@ -171,30 +145,21 @@ pub fn put_byte(out: &mut [u8], at: usize, x: u8) -> usize
 pub fn read_number(digits: &[u8], limit: u16) -> usize
     ensures { result ≡ number_below limit digits.now }
 {
-    let past = limit as usize;
-    if digits.len() == 0 {
+    let past = usize::from(limit);
+    if digits.is_empty() {
         return past;
     }
     let mut x = 0;
-    let mut i = 0;
-    while i < digits.len() {
-        let c = digits[i];
-        if !is_digit(c) {
+    for c in digits {
+        if !c.is_ascii_digit() {
             return past;
         }
-        x = with_digit(x, c);
+        x = with_digit(x, *c);
         if x >= past {
             return past;
         }
-        i = i + 1;
     }
     x
-}
-
-fn is_digit(c: u8) -> bool
-    ensures { result ≡ is_digit c }
-{
-    ZERO <= c && c <= NINE
 }
 
 // x with one more digit behind its own.
@@ -202,5 +167,5 @@ fn with_digit(x: usize, c: u8) -> usize
     requires { (x < 65536) × (48 ≤ c) × (c ≤ 57) }
     ensures { result ≡ 10 * x + (c - 48) }
 {
-    10 * x + (c - ZERO) as usize
+    10 * x + usize::from(c - b'0')
 }

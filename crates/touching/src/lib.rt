@@ -14,12 +14,8 @@ pub fn touching_rows(parameters: &[u64], n: usize, b: usize, set: ColumnSet) -> 
     ensures { result ≡ touching_count n b (row_numbers parameters.now) (members (whole set)) }
 {
     let end = columns::rows_below(parameters, b);
-    let inside = columns::intersection(set, columns::below(n));
-    let mut many: usize = 0;
-    for r in 0..end {
-        if columns::touches(columns::row(parameters, r), inside) {
-            many += 1;
-        }
-    }
-    many
+    let inside = set.intersection(ColumnSet::below(n));
+    (0..end)
+        .filter(|&r| columns::row(parameters, r).touches(inside))
+        .count()
 }

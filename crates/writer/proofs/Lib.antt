@@ -1,2 +1,3 @@
+pub mod Putting
 pub mod Rows
 pub mod Writing

@@ -4,7 +4,7 @@ use Rattle.report.specs.FileReportLaws.{reports_within}
 use Rattle.check_mixed.proofs.main.Goals as goal
 
 pub slice_bounds-text-end : goal.slice_bounds-text-end
-slice_bounds-text-end c = reports_within c.report_mixed_file-printed.ensures
+slice_bounds-text-end c = rw c.unwrap_or-written.ensures (reports_within c.report_mixed_file.ensures)
 
 pub slice_bounds-write_all-end : goal.slice_bounds-write_all-end
-slice_bounds-write_all-end c = sym (length-take-le _ _ (reports_within c.report_mixed_file-printed.ensures))
+slice_bounds-write_all-end c = sym (length-take-le _ _ (rw c.unwrap_or-written.ensures (reports_within c.report_mixed_file.ensures)))

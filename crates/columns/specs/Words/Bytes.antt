@@ -1,6 +1,6 @@
 -- Bytes as the number of a word or of a set: column c is bit c mod 8 of byte c div 8. Assumes nothing.
 use Rattle.std.specs.Prelude.{◌≡◌, refl, List, [], ◌∷◌, ℕ, zero, suc, ◌+◌, ◌-◌, ◌*◌, ◌/◌, ◌%◌, ◌^◌, ◌≤◌, ◌<◌, length, get_or, take, drop}
-use Rattle.std.proofs.Common.{sym, ap, ◌∙◌, div-one, mul_assoc, mul-zero, arith, lit<, length-take, length-drop, drop_of_length-le, get_or-take, take_all, pow_pos, pow-add, shr-shr}
+use Rattle.std.proofs.Common.{sym, ap, ◌∙◌, div-one, mul_assoc, mul-zero, arith, lit<, length-take, get_or-take, pow_pos, pow-add, shr-shr}
 use Rattle.std.proofs.Math.Decide.{dec_lt}
 use Rattle.std.proofs.Math.ListN.{get_or-eq_default}
 use Rattle.std.proofs.Math.Pow.{field, mod-mod-pow}
@@ -58,7 +58,7 @@ bits_shown k bs c b l =
       | no nh ↦ let past : length (take k bs) ≤ i = omega (arith, length-take k bs) in rw (get_or-eq_default (take k bs) 0 past) (lit< tt)
     ]
 
--- ---- what reading from the last byte to the first keeps
+-- ---- how large the number of k bytes is
 
 eight_more : (k : ℕ) → 8 * suc k ≡ 8 + 8 * k
 eight_more k = omega arith
@@ -76,30 +76,6 @@ none_left : (m : ℕ) → number (take m []) ≡ 0
 none_left zero = refl
 none_left (suc m) = refl
 
--- one byte more in front
-pub number_front : (k m : ℕ) (bs : List ℕ) → number (take m (drop (suc k) bs)) * 256 + get_or bs k 0 ≡ number (take (suc m) (drop k bs))
-number_front zero m [] = rw (none_left m) refl
-number_front zero m (x ∷ bs) = omega arith
-number_front (suc k) m [] = rw (none_left m) refl
-number_front (suc k) m (x ∷ bs) = number_front k m bs
-
--- ---- eight bytes at once
-
-pub number_eight : (bs : List ℕ) → number (take 8 bs)
-    ≡ get_or bs 0 0 + 256 * get_or bs 1 0 + 65536 * get_or bs 2 0 + 16777216 * get_or bs 3 0
-    + 4294967296 * (get_or bs 4 0 + 256 * get_or bs 5 0 + 65536 * get_or bs 6 0 + 16777216 * get_or bs 7 0)
-number_eight bs = omega (
-  arith,
-  number_front 0 7 bs,
-  number_front 1 6 bs,
-  number_front 2 5 bs,
-  number_front 3 4 bs,
-  number_front 4 3 bs,
-  number_front 5 2 bs,
-  number_front 6 1 bs,
-  number_front 7 0 bs,
-)
-
 -- ---- bytes in two parts
 
 number_parts : (a b : ℕ) (bs : List ℕ) → number (take a bs) + 2 ^ (8 * a) * number (take b (drop a bs)) ≡ number (take (a + b) bs)
@@ -110,16 +86,8 @@ number_parts (suc a) b (x ∷ bs) =
     rw e (rw (byte_more a) (omega (arith, mul_assoc 256 (2 ^ (8 * a)) (number (take b (drop a bs))), number_parts a b bs)))
 
 -- a set from its bytes: as many as a word has for the low word, and what is behind them for the high word
-pub bytes_short : (bs : List ℕ) (l : ℕ) → length bs < word_bytes → l ≡ number (take word_bytes bs) → joined l 0 ≡ number (take room_bytes bs)
-bytes_short bs l s e =
-    let gone : drop word_bytes bs ≡ [] = drop_of_length-le bs {i = word_bytes} (omega arith) in
-    omega (arith, number_parts word_bytes word_bytes bs, ap (λ (t : List ℕ). number (take word_bytes t)) gone)
-
-pub bytes_long : (bs : List ℕ) (l h : ℕ) → word_bytes ≤ length bs → l ≡ number (take word_bytes bs)
-    → h ≡ number (take word_bytes (take (length bs - word_bytes) (drop word_bytes bs))) → joined l h ≡ number (take room_bytes bs)
-bytes_long bs l h s e d =
-    let whole_rest : take (length bs - word_bytes) (drop word_bytes bs) ≡ drop word_bytes bs = take_all (length bs - word_bytes) (drop word_bytes bs) (omega (arith, length-drop word_bytes bs)) in
-    omega (arith, number_parts word_bytes word_bytes bs, ap (λ (t : List ℕ). number (take word_bytes t)) whole_rest)
+pub bytes_both : (bs : List ℕ) (l h : ℕ) → l ≡ number (take word_bytes bs) → h ≡ number (take word_bytes (drop word_bytes bs)) → joined l h ≡ number (take room_bytes bs)
+bytes_both bs l h e d = omega (arith, number_parts word_bytes word_bytes bs)
 
 -- ---- the bytes of a number
 

@@ -1,12 +1,12 @@
 -- The laws of areas of parameter rows. Assumes nothing.
-use Rattle.std.specs.Prelude.{ℕ, zero, suc, ◌+◌, ◌*◌, ◌/◌, ◌^◌, ◌≤◌, ◌<◌, ◌≡◌, refl, false, cond, List, [], ◌∷◌, length, get_or, replicate, set}
+use Rattle.std.specs.Prelude.{ℕ, zero, suc, ◌+◌, ◌*◌, ◌/◌, ◌^◌, ◌≤◌, ◌<◌, ◌≡◌, refl, Bool, false, cond, List, [], ◌∷◌, length, get_or, replicate, set}
 use Rattle.std.proofs.Common.{sym, ap, ◌∙◌, true≢false, arith, length-set, pow_pos, lt-ltb, le-ltb}
 use Rattle.std.proofs.Math.Decide.{dec_lt}
 use Rattle.std.proofs.Math.ListN.{get_or-eq_default}
 use Rattle.std.proofs.Math.Seq.{set_out}
 use Rattle.limits.specs.Limits.{most_rows}
 use Rattle.counting.specs.Bools.{not_true}
-use Rattle.counting.specs.Sets.{Set}
+use Rattle.counting.specs.Sets.{Set, ◌∩◌, any, touching}
 use Rattle.counting.specs.Counts.{touching_iff}
 use Rattle.columns.specs.Columns.{word_width, width, members}
 use Rattle.columns.specs.ColumnSets.{joined, low_word, high_word, row_words, most_words, row_numbers, rows_touching, with_row}
@@ -97,3 +97,8 @@ no_row_touches ws K r l = not_true (rows_touching ws K r) (λ e.
     let s = (touching_iff width (λ i. members (get_or ws i 0)) K r).0 e in
     let none_there : members (get_or ws r 0) s.0 ≡ false = ap (λ (w : ℕ). members w s.0) (get_or-eq_default ws 0 l) ∙ ap (λ (S : Set). S s.0) members_zero in
     true≢false (sym s.2.1 ∙ none_there))
+
+-- a row touches a set where its number does
+pub row_touches : (ws : List ℕ) (K : Set) (r w : ℕ) (t : Bool) → w ≡ get_or ws r 0 → t ≡ any width (K ∩ members w) → rows_touching ws K r ≡ t
+unfolding touching
+row_touches ws K r w t e d = sym (d ∙ ap (λ (v : ℕ). any width (K ∩ members v)) e)

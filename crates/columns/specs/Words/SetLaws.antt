@@ -1,13 +1,13 @@
 -- The laws of the set operations that the contracts of `columns` cite: what loops over a set, and sets that grow, go by. Assumes nothing.
 use Rattle.std.specs.Prelude.{ℕ, zero, suc, ◌+◌, ◌≤◌, ◌<◌, ◌≡◌, refl, true, false, not, ◌&&◌, cond, ◌≢◌, ◌⊎◌, eqb, ltb}
-use Rattle.std.proofs.Common.{sym, ap, ◌∙◌, inl, inr, arith, eq-eqb, ne_eqb, eqb-true, lt-ltb, ltb-true}
+use Rattle.std.proofs.Common.{sym, ap, ◌∙◌, inl, inr, arith, add-one, eq-eqb, ne_eqb, eqb-true, lt-ltb, ltb-true}
 use Rattle.std.proofs.Math.Decide.{ℕ_discrete}
 use Rattle.std.proofs.lemmas.Bool.{eqb-false}
 use Rattle.counting.specs.Bools.{true?, not_true, iff_eq, and_in, and_left, and_right, or_left, or_right, or_split, in_not, not_in, not_both}
 use Rattle.counting.specs.Sets.{Set, ◌∈◌, ◌⊆◌, ◌∩◌, ◌∪◌, ∁, #, any, Some, set}
 use Rattle.counting.specs.Counts.{set_same, set_other, ⊖-in, #-⊖, #-pick, size_any}
 use Rattle.counting.specs.Injections.{#-strict}
-use Rattle.columns.specs.Columns.{width, upto_in, upto, inserted_in, inserted, removed, least, last_member}
+use Rattle.columns.specs.Columns.{width, none, upto_in, upto, inserted_in, inserted, removed, least, last_member}
 use Rattle.columns.specs.Words.Operations.{least_in, least_first}
 
 -- ---- a column put in
@@ -87,15 +87,21 @@ unfolding last_member
 last_member_none d zero S h = refl
 last_member_none d (suc n) S h = ap (λ b. cond b n (last_member d n S)) (h n (omega arith)) ∙ last_member_none d n S (λ x l. h x (omega arith))
 
--- no number from m to before n is in S
-abbrev pub NoneFrom : Set → ℕ → ℕ → Type 0
-NoneFrom S m n = (x : ℕ) → m ≤ x → x < n → S x ≡ false
+-- the last number below n is the greatest member where it is in the set, and else may be left out
+pub last_found : (d n k : ℕ) (S : Set) → n ≡ k + 1 → S k ≡ true → last_member d n S ≡ k
+unfolding last_member
+last_found d n k S e m = rw (e, add-one k) (ap (λ b. cond b k (last_member d k S)) m)
 
-pub one_more : {S : Set} {m k n : ℕ} → k ≡ m + 1 → S m ≡ false → NoneFrom S k n → NoneFrom S m n
-one_more {S} {m} {k} {n} d e none x l h = elim (ℕ_discrete x m) [ yes z ↦ rw z e | no nz ↦ none x (omega arith) h ]
+pub last_passed : (d n k : ℕ) (S : Set) → n ≡ k + 1 → S k ≡ false → last_member d n S ≡ last_member d k S
+unfolding last_member
+last_passed d n k S e m = rw (e, add-one k) (ap (λ b. cond b k (last_member d k S)) m)
+
+pub last_nowhere : (d n : ℕ) (S : Set) → n ≡ 0 → last_member d n S ≡ d
+unfolding last_member
+last_nowhere d n S e = rw e refl
 
 -- numbers that are not in the set may be left out at the end
-pub last_member_cut : (d k n : ℕ) (S : Set) → k ≤ n → NoneFrom S k n → last_member d n S ≡ last_member d k S
+pub last_member_cut : (d k n : ℕ) (S : Set) → k ≤ n → ((x : ℕ) → k ≤ x → x < n → S x ≡ false) → last_member d n S ≡ last_member d k S
 unfolding last_member
 last_member_cut d k zero S l h = let e : k ≡ 0 = omega arith in rw e refl
 last_member_cut d k (suc n) S l h = elim (ℕ_discrete k (suc n)) [
@@ -124,6 +130,10 @@ last_member_reads n S = from n (λ x l m. absurd (omega arith)) (omega arith)
 
 pub nothing_in : (n : ℕ) (S : Set) → # n S ≡ 0 → (x : ℕ) → x < n → x ∈ S → ⊥
 nothing_in n S e x l m = omega (arith, #-⊖ n S x l m)
+
+-- there is nothing in the set with no column
+pub nothing_in_none : (S : Set) → S ≡ none → (x : ℕ) → x ∈ S → ⊥
+nothing_in_none S e x m = cc (m, ap (λ (T : Set). T x) e)
 
 -- a union with something new is larger
 pub union_more : (n : ℕ) (S T : Set) → # n (T ∩ ∁ S) ≢ 0 → # n S < # n (S ∪ T)

@@ -3,10 +3,13 @@
 use Rattle.std.specs.Prelude.{ℕ, ◌+◌, ◌-◌, ◌≤◌, ◌<◌, ◌≡◌, Bool, true, not, cond, List, length, get_or, eqb, ltb}
 use Rattle.counting.specs.Sets.{Set, ◌∈◌}
 use Rattle.columns.specs.Columns.{members}
+use Rattle.columns.specs.ColumnSets.{whole}
 use Rattle.limits.specs.Limits.{most_columns, most_rows}
 use Rattle.residue.specs.Arithmetic.{is_prime}
 use Rattle.exchange.specs.Sizes.{cells, lines}
 use Rattle.exchange.specs.Code.Cells.{cell, Below}
+use Rattle.exchange.specs.declared.search.Met.{Met}
+use Rattle.exchange.specs.declared.search.Met.TheVariants.{Free, OwnedBy}
 
 -- ---- the arrays
 
@@ -57,9 +60,19 @@ module _ (n N : ℕ) (tch : ℕ → ℕ → Bool) (own : ℕ → ℕ) where
   abbrev pub Owners : (front next : Set) → Type 0
   Owners front next = (y : ℕ) → y ∈ next → Owner front y
 
-  -- the rows from l to below m have been read for front: a free row with a column of front that it touches; or, with N for the row, the owners of all of
-  -- them that touch front
-  pub record Scanned (front : Set) (l m column row : ℕ) (next : Set) : Type 0 where
-    pub at_end : row < N → (column ∈ front) × (tch row column ≡ true) × (n ≤ own row)
-    pub all_read : N ≤ row → (x : ℕ) → x ∈ front → RowsRead next x l m
+  -- row is free, and touches column, which is in front
+  pub record FreeRow (front : Set) (column row : ℕ) : Type 0 where
+    pub below : row < N
+    pub inside : column ∈ front
+    pub touches : tch row column ≡ true
+    pub is_free : n ≤ own row
+
+  -- the rows from l to below m have been read for front, and those that touch it are owned by the columns of next
+  pub record AllOwned (front : Set) (l m : ℕ) (next : Set) : Type 0 where
+    pub rows : (x : ℕ) → x ∈ front → RowsRead next x l m
     pub from : Owners front next
+
+  -- what reading the rows from l to below m for front meets
+  abbrev pub Scanned : (front : Set) (l m : ℕ) → Met → Type 0
+  Scanned front l m (Free column row) = FreeRow front column row
+  Scanned front l m (OwnedBy next) = AllOwned front l m (members (whole next))

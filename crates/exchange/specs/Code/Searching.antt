@@ -5,6 +5,10 @@ use Rattle.rank.specs.Graph.States.{State}
 use Rattle.rank.specs.Graph.Closed.{Closed}
 use Rattle.rank.specs.Graph.Layers.{layer}
 use Rattle.rank.specs.Graph.Search.{Hit}
+use Rattle.columns.specs.Columns.{members}
+use Rattle.columns.specs.ColumnSets.{whole}
+use Rattle.exchange.specs.declared.search.Found.{Found}
+use Rattle.exchange.specs.declared.search.Found.TheVariants.{Free, Reached}
 
 -- the arrays show s: they touch offered columns as s does, and have its owners, which are offered
 pub record Shows {n N : ℕ} (E : Set) (s : State n N) (tch : ℕ → ℕ → Bool) (own : ℕ → ℕ) : Type 0 where
@@ -27,5 +31,6 @@ module _ {n N : ℕ} (s : State n N) (S : Set) where
     pub same : (x : ℕ) → (x ∈ reached) ↔ (x ∈ layer s S n)
     pub is_closed : Closed s (layer s S n)
 
-  abbrev pub Searched : (column row depth : ℕ) (reached : Set) → Type 0
-  Searched column row depth reached = (row < N → Ended column row depth) × (N ≤ row → Final reached)
+  abbrev pub Searched : Found → Type 0
+  Searched (Free column row depth) = Ended column row depth
+  Searched (Reached reached) = Final (members (whole reached))

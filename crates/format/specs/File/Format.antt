@@ -1,6 +1,6 @@
 -- The file of a model, by document 01, "The file", and document 02, E4 and E13: its fields in their order, and how a file is judged, read, written and looked up.
 -- Definitions only.
-use Rattle.std.specs.Prelude.{ℕ, ◌+◌, ◌-◌, ◌*◌, ◌/◌, ◌%◌, ◌^◌, ◌≤◌, ◌<◌, ◌≡◌, Bool, true, ◌&&◌, cond, ◌⊎◌, leb, ltb, eqb, length, get_or, take, drop}
+use Rattle.std.specs.Prelude.{ℕ, ◌+◌, ◌-◌, ◌*◌, ◌/◌, ◌%◌, ◌^◌, ◌≤◌, ◌<◌, ◌≡◌, Bool, true, ◌&&◌, cond, ◌⊎◌, Result, IfOk, leb, ltb, eqb, length, get_or, take, drop}
 use Rattle.std.proofs.Common.{inl, inr}
 use mathlib.Core.List.{List, [], ◌∷◌, ◌++◌, map, flatten, zip}
 use Rattle.std.proofs.Math.Option.{Option, none, some}
@@ -8,6 +8,8 @@ use Rattle.residue.specs.Arithmetic.{Prime}
 use Rattle.columns.specs.Bytes.{number, bytes_of}
 use Rattle.columns.specs.Columns.{width, within}
 use Rattle.format.specs.declared.header.Header.{Header}
+use Rattle.format.specs.declared.refusals.Refusal.{Refusal}
+use Rattle.format.specs.Refused.{refusal_of}
 use Rattle.format.specs.Lists.{All, rows_of, over}
 use Rattle.format.specs.Numbers.{once, parameter_count, numbers_of, number_entries, is_numbered}
 use Rattle.limits.specs.Limits.{largest_prime, most_columns, most_rows, set_bytes}
@@ -237,13 +239,32 @@ judge s = first_refusal (closed fields s)
 unfoldable pub decode : List ℕ → FileModel
 decode s = of_values (fields.dec s)
 
--- what a file says before its rows; all are 0 but the refusal where it is refused
-unfoldable pub refused_header : ℕ → Header
+-- what a file says before its rows, with its refusal
+pub record Said : Type 0 where
+  pub refusal : ℕ
+  pub p : ℕ
+  pub n : ℕ
+  pub a : ℕ
+  pub b : ℕ
+
+-- all are 0 but the refusal where the file is refused
+unfoldable pub refused_header : ℕ → Said
 refused_header k = record { refusal = k; p = 0; n = 0; a = 0; b = 0 }
 
-unfoldable pub header : List ℕ → Header
+unfoldable pub header : List ℕ → Said
 header s =
     where_accepted (judge s) (record { refusal = 0; p = (decode s).p; n = (decode s).n; a = (decode s).a; b = (decode s).b }) (refused_header (judge s))
+
+-- what a call gives of it: the refusal, or p, n, a, b
+pub record Says (said : Said) (h : Header) : Type 0 where
+  pub p_is : h.p ≡ said.p
+  pub n_is : h.n ≡ said.n
+  pub a_is : h.a ≡ said.a
+  pub b_is : h.b ≡ said.b
+
+pub record HeaderRead (said : Said) (r : Result Header Refusal) : Type 0 where
+  pub refusal_is : refusal_of r ≡ said.refusal
+  pub given : IfOk r (Says said)
 
 unfoldable pub encode : FileModel → List ℕ
 encode m = fields.enc (values m)

@@ -1,12 +1,13 @@
 -- Pieces of a file: what is tested in a piece, how it is read and written, and how pieces are put together.
 -- Reading is total, and says something only where no test fails. A piece says itself what follows it, so that no other place knows how
 -- long it is. Definitions only; PieceLaws has one law for each combinator.
-use Rattle.std.specs.Prelude.{ℕ, zero, suc, ◌+◌, ◌-◌, ◌/◌, ◌%◌, ◌≡◌, Bool, cond, ◌⊎◌, length, take, drop}
+use Rattle.std.specs.Prelude.{ℕ, zero, suc, ◌+◌, ◌-◌, ◌/◌, ◌%◌, ◌≡◌, Bool, cond, ◌⊎◌, Result, IfOk, length, take, drop}
 use mathlib.Core.List.{List, [], ◌∷◌, ◌++◌, flat_map}
 use Rattle.std.proofs.Common.{inl, inr, ⊎_elim}
 use Rattle.std.specs.Borrow.{Bor}
-use Rattle.format.specs.declared.judge.Judged.{Judged}
-use Rattle.format.specs.Refusals.{Tests, unless, ◌then◌, first_refusal, where_accepted, truncated, unexpected, trailing, head_bytes, said_length, head_test, due_test, body_test, end_test}
+use Rattle.format.specs.declared.refusals.Refusal.{Refusal}
+use Rattle.format.specs.Refused.{refusal_of}
+use Rattle.format.specs.Refusals.{Tests, unless, ◌then◌, first_refusal, truncated, unexpected, trailing, head_bytes, said_length, head_test, due_test, body_test, end_test}
 
 -- a field's body, of a size that is known
 pub record Body (A : Type 0) : Type 0 where
@@ -102,11 +103,6 @@ seq P Q =
 unfoldable pub closed : {A : Type 0} → Piece A → List ℕ → Tests
 closed P s = P.tests s then unless (end_test (P.rest s)) trailing
 
--- what a judging function gives of a piece: its refusal, and how many bytes follow it, none where it is refused
-pub record Judgement (tests : Tests) (rest : List ℕ) (r : Judged) : Type 0 where
-  pub refusal_is : r.refusal ≡ first_refusal tests
-  pub left_is : r.left ≡ where_accepted (first_refusal tests) (length rest) 0
-
 -- ---- by the length that a head says, as a file that is accepted is walked
 
 -- the body of the field in front, and what follows the field
@@ -137,3 +133,24 @@ pub record PartAt (start : ℕ) (holds : List ℕ) (lent r : Bor (List ℕ)) : T
 -- the last part, which holds these
 abbrev pub LastPart : List ℕ → Bor (List ℕ) → Bor (List ℕ) → Type 0
 LastPart holds lent r = PartAt (length lent.now - length holds) holds lent r
+
+-- ---- a piece judged
+
+-- the refusal of the first test that fails, or what is given where none does
+pub record Judgement {A : Type 0} (tests : Tests) (Is : A → Type 0) (r : Result A Refusal) : Type 0 where
+  pub refusal_is : refusal_of r ≡ first_refusal tests
+  pub given : IfOk r Is
+
+-- of a piece that stands first, what follows it is given
+abbrev pub PieceJudged : {A : Type 0} → Piece A → List ℕ → Result (Bor (List ℕ)) Refusal → Type 0
+PieceJudged P s = Judgement (P.tests s) (λ r. r.now ≡ P.rest s)
+
+-- what a judging function says of each call judges the piece
+abbrev pub JudgesEach : {A : Type 0} → (Bor (List ℕ) → Result (Bor (List ℕ)) Refusal → Type 0) → Piece A → Type 0
+JudgesEach post P = (s : Bor (List ℕ)) (r : Result (Bor (List ℕ)) Refusal) → post s r → PieceJudged P s.now r
+
+-- of a field up to its content, its body and what follows it
+pub record FieldParts (size : ℕ) (s : Bor (List ℕ)) (parts : Bor (List ℕ) × Bor (List ℕ)) : Type 0 where
+  pub body_is : parts.0.now ≡ take size (drop head_bytes s.now)
+  pub body_length : length parts.0.now ≡ size
+  pub rest_is : LastPart (drop size (drop head_bytes s.now)) s parts.1

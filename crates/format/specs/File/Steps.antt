@@ -1,36 +1,64 @@
 -- What functions of crates format, loader and writer promise on the way: what the fields of a file say one after another, and the parts of a file
 -- as they are read and written. Definitions only.
-use Rattle.std.specs.Prelude.{ℕ, zero, suc, ◌*◌, ◌≡◌, Bool, cond, eqb, length, take, drop}
+use Rattle.std.specs.Prelude.{ℕ, zero, suc, ◌*◌, ◌^◌, ◌<◌, ◌≡◌, Bool, cond, eqb, length, take, drop}
 use mathlib.Core.List.{List, [], ◌∷◌, ◌++◌, flat_map}
 use Rattle.std.proofs.Math.Option.{Option, none, some}
 use Rattle.columns.specs.Bytes.{number, bytes_of}
-use Rattle.columns.specs.Columns.{room_bytes, members}
+use Rattle.columns.specs.Columns.{width, room_bytes, members}
+use Rattle.columns.specs.declared.ColumnSet.{ColumnSet}
+use Rattle.columns.specs.ColumnSets.{whole}
+use Rattle.std.specs.Borrow.{Bor}
 use Rattle.format.specs.declared.header.Header.{Header}
+use Rattle.format.specs.declared.reader.Reader.{Reader}
 use Rattle.format.specs.Lists.{over}
 use Rattle.format.specs.Numbers.{parameter_count, picked, spread}
 use Rattle.format.specs.Refusals.{first_refusal, where_accepted}
 use Rattle.format.specs.File.Piece.{field_bytes, closed, said_body, said_rest, said_bodies, said_rests}
-use Rattle.format.specs.File.Format.{entries, entry_bytes, constant_tag, parameter_tag, number_tag, parameter_size, prime_field, sizes_field, row_fields, refused_header}
+use Rattle.format.specs.File.Format.{entries, entry_bytes, constant_tag, parameter_tag, number_tag, parameter_size, prime_field, sizes_field, parameter_row, row_fields, Said, refused_header}
 
 -- ---- judged: what the fields say, or a refusal alone
 
-abbrev pub or_refused : ℕ → Header → Header
+abbrev pub or_refused : ℕ → Said → Said
 or_refused k h = where_accepted k h (refused_header k)
 
-unfoldable pub prime_said : List ℕ → Header
+unfoldable pub prime_said : List ℕ → Said
 prime_said s = or_refused (first_refusal (prime_field.tests s)) (record { refusal = 0; p = prime_field.dec s; n = 0; a = 0; b = 0 })
 
-unfoldable pub sizes_said : List ℕ → Header → Header
+unfoldable pub sizes_said : List ℕ → Said → Said
 sizes_said s h =
     let z = sizes_field.dec s in
     or_refused (first_refusal (sizes_field.tests s)) (record { refusal = 0; p = h.p; n = z.0; a = z.1; b = z.2 })
 
-unfoldable pub rows_said : List ℕ → Header → Header
+unfoldable pub rows_said : List ℕ → Said → Said
 rows_said s h = or_refused (first_refusal (closed (row_fields h.p (h.n, h.a, h.b)) s)) h
 
 -- what is due next goes by what was said before: p, then the sizes, then the rows and the end; after a refusal nothing
-unfoldable pub next_said : List ℕ → Header → Header
+unfoldable pub next_said : List ℕ → Said → Said
 next_said s h = where_accepted h.refusal (cond (eqb h.p 0) (prime_said s) (cond (eqb h.n 0) (sizes_said s h) (rows_said s h))) h
+
+-- the field of p judged: p, and what follows it
+pub record PrimeParts (s : List ℕ) (parts : ℕ × Bor (List ℕ)) : Type 0 where
+  pub p_is : parts.0 ≡ prime_field.dec s
+  pub rest_is : parts.1.now ≡ prime_field.rest s
+
+-- that of the sizes, in a file of this p: the header, and what follows it
+pub record SizesParts (p : ℕ) (s : List ℕ) (parts : Header × Bor (List ℕ)) : Type 0 where
+  pub p_is : parts.0.p ≡ p
+  pub sizes_are : (parts.0.n, parts.0.a, parts.0.b) ≡ sizes_field.dec s
+  pub rest_is : parts.1.now ≡ sizes_field.rest s
+
+-- the same with a reader of what follows
+abbrev pub PrimeRead : List ℕ → ℕ × Reader → Type 0
+PrimeRead s parts = PrimeParts s (parts.0, parts.1.rest)
+
+abbrev pub SizesRead : ℕ → List ℕ → Header × Reader → Type 0
+SizesRead p s parts = SizesParts p s (parts.0, parts.1.rest)
+
+-- a parameter row judged: its set, and what follows it
+pub record RowParts (n : ℕ) (s : List ℕ) (parts : ColumnSet × Bor (List ℕ)) : Type 0 where
+  pub set_is : whole parts.0 ≡ (parameter_row n).dec s
+  pub set_fits : whole parts.0 < 2 ^ width
+  pub rest_is : parts.1.now ≡ (parameter_row n).rest s
 
 -- ---- read: by the lengths that the heads say
 

@@ -3,10 +3,9 @@
 -- Definitions only.
 use Rattle.std.specs.Prelude.{ℕ, ◌+◌, ◌*◌, List, set}
 use Rattle.std.proofs.Math.Option.{none}
-use Rattle.format.specs.declared.header.Header.{Header}
 use Rattle.format.specs.Refusals.{head_bytes, first_refusal, where_accepted}
 use Rattle.format.specs.File.Piece.{Piece, many, seq, closed}
-use Rattle.format.specs.File.Format.{FileModel, parameter_size, prime_field, sizes_field, constant_row, parameter_row, end_field, decode, refused_header}
+use Rattle.format.specs.File.Format.{FileModel, Said, parameter_size, prime_field, sizes_field, constant_row, parameter_row, end_field, decode, refused_header}
 
 -- the constant rows, the parameter rows without numbers, and the end
 abbrev pub UnnumberedRows : Type 0
@@ -31,7 +30,7 @@ unfoldable pub unnumbered_judge : List ℕ → ℕ
 unnumbered_judge s = first_refusal (closed unnumbered_fields s)
 
 -- what it says before its rows; all are 0 but the refusal where it is refused
-unfoldable pub unnumbered_header : List ℕ → Header
+unfoldable pub unnumbered_header : List ℕ → Said
 unnumbered_header s =
     where_accepted (unnumbered_judge s) (record { refusal = 0; p = (decode s).p; n = (decode s).n; a = (decode s).a; b = (decode s).b })
     (refused_header (unnumbered_judge s))

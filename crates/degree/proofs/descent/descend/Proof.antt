@@ -14,6 +14,8 @@ use Rattle.degrees.specs.Dynamics.{layered}
 use Rattle.degrees.proofs.Theorems.{short_set_is_small}
 use Rattle.exchange.specs.Solve.{SolvedBy}
 use Rattle.exchange.specs.declared.Solution.{Solution}
+use Rattle.std.specs.Prelude.{Ok}
+use Rattle.degree.specs.Shown.{degree_shown}
 use Rattle.degree.specs.Code.{first_most, model_with, Descending, tight_part, tableau_of, ConstantsShown}
 use Rattle.degree.proofs.RoundLaws.{descending_starts, heights_small, levels_small, risen_small}
 use Rattle.degree.proofs.AnswerLaws.{answer_found, degree_by_levels, degree_small}
@@ -251,11 +253,9 @@ returns c =
     let m = ended e in
     let r = c.found.ensures in
     λ Q shown full.
-    let w = m.loop-s.invariant.3 Q shown full in (
-      r.0,
-      answer_found _ _ _ _ Q _ _ _ _ _ _ _ _ w.0 m.loop-s.s w.1 e.loop-s-test.false c.found.result (rows_long c)
-          (r.3 _ (degree_by_levels _ _ _ _ Q _ _ _ _ _ _ _ _ w.0 m.loop-s.s w.1 e.loop-s-test.false)) r.1 r.2,
-    )
+    let w = m.loop-s.invariant.3 Q shown full in
+    answer_found _ _ _ _ Q _ _ _ _ _ _ _ _ w.0 m.loop-s.s w.1 e.loop-s-test.false (degree_shown (Ok c.found.result)) (rows_long c)
+    (r.2 _ (degree_by_levels _ _ _ _ Q _ _ _ _ _ _ _ _ w.0 m.loop-s.s w.1 e.loop-s-test.false)) r.0 r.1
 
 pub descend_spec : {M : Type 1} → statement M
 descend_spec =

@@ -46,7 +46,7 @@ cast_degree : tie.Need-overflow_cast-degree
 cast_degree c = omega (arith, left c, (begun c.before.before.before).requires.1.1)
 
 returns : tie.Need-returns
-returns c = let m = c.before in (refl, refl, refl, λ d e. omega (arith, e, c.sum-2.ensures, m.sum.ensures, m.sum_powers.ensures))
+returns c = let m = c.before in (refl, refl, λ d e. omega (arith, e, c.sum-2.ensures, m.sum.ensures, m.sum_powers.ensures))
 
 pub found_spec : {M : Type 1} → statement M
 found_spec = tie.close (tie.spec sum_powers_requires sum_requires add_most sum_requires_2 sub_degree cast_degree returns)

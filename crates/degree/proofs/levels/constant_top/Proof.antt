@@ -1,7 +1,7 @@
 -- `degree::levels::constant_top` meets its contract. The invariant: the top of the columns below x. The measure is what is left. Assumes nothing.
 use Prim.Native.Nat.{◌+◌, ◌-◌, ◌≤◌}
 use mathlib.Core.Path.{◌≡◌}
-use mathlib.Core.Logic.{◌≢◌, ⊎_elim}
+use mathlib.Core.Logic.{◌≢◌}
 use lib.ListN.{get_or}
 use Rattle.degree.specs.Code.{Top}
 use Rattle.degree.proofs.TopLaws.{top_none, top_more, top_same}

@@ -7,7 +7,6 @@ use Rattle.columns.specs.Words.Bytes.{bytes_of_length}
 use Rattle.format.specs.Lists.{over, over_room}
 use Rattle.format.specs.OverLaws.{over_room_fits}
 use Rattle.format.specs.File.RowSizes.{parameter_size_most}
-use Rattle.open_models.specs.Open.{set_place, clear_place}
 use Rattle.editing.specs.declared.edit.Edit.{Edit}
 use Rattle.editing.specs.Edits.{meant, columns_done}
 use Rattle.editing.specs.Areas.{EditRoom, row_done, bytes_done}

@@ -22,9 +22,9 @@ there f =
     let some : # width (members (whole f.loop-rest.rest)) ≢ 0 = eqb-false _ 0 (sym f.is_empty.ensures ∙ f.loop-rest-test.true) in
     rw f.first-j.ensures (least_there width _ some)
 
-module _ (f : After-first-j) (G : Given f.args.p f.args.n f.args.b (row_numbers f.args.parameters.now))
-    (m : Offers f.args.p f.args.n f.args.a f.args.b (row_numbers f.args.parameters.now) (members (whole f.args.offered)) f.args.t.now f.args.owner.now G) where
-  abbrev so_far : Offering f.args.p f.args.n f.args.a f.args.b (row_numbers f.args.parameters.now) G f.loop-rest.t f.loop-rest.owner (members (whole f.loop-rest.rest)) (members (whole f.loop-rest.placed))
+module _ (f : After-first-j) (G : Given f.args.model.now.p f.args.model.now.n f.args.model.now.b (row_numbers f.args.model.now.parameters.now))
+    (m : Offers f.args.model.now.p f.args.model.now.n f.args.model.now.a f.args.model.now.b (row_numbers f.args.model.now.parameters.now) (members (whole f.args.offered)) f.args.state.now.cells f.args.state.now.owner G) where
+  abbrev so_far : Offering f.args.model.now.p f.args.model.now.n f.args.model.now.a f.args.model.now.b (row_numbers f.args.model.now.parameters.now) G f.loop-rest.state.cells f.loop-rest.state.owner (members (whole f.loop-rest.rest)) (members (whole f.loop-rest.placed))
   so_far = f.loop-rest.invariant.1 G m
 
   least : (x : ℕ) → x ∈ members (whole f.loop-rest.rest) → f.first-j.result ≤ x
@@ -32,8 +32,8 @@ module _ (f : After-first-j) (G : Given f.args.p f.args.n f.args.b (row_numbers 
 
 -- what placing it gives
 placing : (c : After-place) → let f = (goal.at.After-place c).After-first-j in let a = c.args in
-    (G : Given a.p a.n a.b (row_numbers a.parameters.now)) (m : Offers a.p a.n a.a a.b (row_numbers a.parameters.now) (members (whole a.offered)) a.t.now a.owner.now G)
-    → Placing a.p a.n a.a a.b (row_numbers a.parameters.now) G c.loop-rest.t c.loop-rest.owner c.place.new.t c.place.new.owner c.first-j.result c.place.result (so_far f G m).held
+    (G : Given a.model.now.p a.model.now.n a.model.now.b (row_numbers a.model.now.parameters.now)) (m : Offers a.model.now.p a.model.now.n a.model.now.a a.model.now.b (row_numbers a.model.now.parameters.now) (members (whole a.offered)) a.state.now.cells a.state.now.owner G)
+    → Placing a.model.now.p a.model.now.n a.model.now.a a.model.now.b (row_numbers a.model.now.parameters.now) G c.loop-rest.state.cells c.loop-rest.state.owner c.place.new.state.cells c.place.new.state.owner c.first-j.result c.place.result (so_far f G m).held
 placing c G m =
     let f = (goal.at.After-place c).After-first-j in
     let d = so_far f G m in

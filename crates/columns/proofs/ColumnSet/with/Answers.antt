@@ -1,0 +1,15 @@
+-- `columns::with` meets its contract. Assumes nothing.
+use borrow.Author.Rules.{rules}
+use Rattle.columns.specs.Words.Halves.{with_low, with_high}
+use Rattle.columns.specs.ColumnSets.{whole}
+use Rattle.columns.proofs.ColumnSet.with.Goals as goal
+
+pub returns-then-x-lt-WIDTH : goal.returns-then-x-lt-WIDTH
+unfolding whole
+returns-then-x-lt-WIDTH c = let a = c.args in
+    with_low a.self.low a.self.high c.with.result a.x (search rules) (search rules) c.if-x-lt-WIDTH.true c.with.ensures
+
+pub returns-else-x-lt-WIDTH : goal.returns-else-x-lt-WIDTH
+unfolding whole
+returns-else-x-lt-WIDTH c = let a = c.args in
+    with_high a.self.low a.self.high c.with-else-x-lt-WIDTH.result a.x (search rules) c.if-x-lt-WIDTH.false c.with-else-x-lt-WIDTH.ensures

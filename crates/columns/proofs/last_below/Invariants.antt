@@ -1,0 +1,8 @@
+-- The last of the rows below `all` that touches the set is the last of those below r. Assumes nothing.
+use Rattle.std.proofs.Common.{◌≡◌}
+use Rattle.columns.specs.Columns.{members, last_member}
+use Rattle.columns.specs.ColumnSets.{whole, row_numbers, rows_touching}
+use Rattle.columns.proofs.last_below.Given as goal
+
+abbrev pub invariant-loop-r : goal.invariant-loop-r
+invariant-loop-r l = let S = rows_touching (row_numbers l.words) (members (whole l.set)) in last_member l.end l.all S ≡ last_member l.end l.r S

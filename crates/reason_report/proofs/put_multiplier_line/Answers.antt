@@ -1,0 +1,10 @@
+-- `reason_report::put_multiplier_line` meets its contract. Assumes nothing.
+use Rattle.std.proofs.Common.{sym}
+use Rattle.text.specs.Text.{ascii}
+use Rattle.text.specs.PutLaws.{puts_as, puts_then}
+use Rattle.text.specs.TextLaws.{line_is}
+use Rattle.reason_report.proofs.put_multiplier_line.Goals as goal
+
+pub returns : goal.returns
+unfolding ascii
+returns c = puts_as (sym (line_is _ _)) (puts_then c.put_bytes-after_word.ensures (puts_then c.put_multipliers-after_items.ensures c.put_byte.ensures))
