@@ -178,7 +178,7 @@ pub fn put_degree(out: &mut [u8], answer: &Degree) -> Result<(), Refusal>
         return Err(Refusal::AreaShort);
     }
     out[..SET_AT].copy_from_slice(&answer.degree.to_le_bytes());
-    put_set(&mut out[SET_AT..], answer.constants);
+    put_set(&mut out[SET_AT..], answer.constants)?;
     out[ROWS_AT..DEGREE_LENGTH].copy_from_slice(&answer.rows);
     Ok(())
 }

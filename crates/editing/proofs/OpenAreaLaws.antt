@@ -139,14 +139,6 @@ module _ (s area : List ℕ) (bytes : AreBytes s) {k p n a b : ℕ} {t : Bool} {
         back_long = omega (arith, length-append (take set_bytes area) (part ++ drop (length area - set_bytes) (drop set_bytes area)), front_length)
 
         -- then the columns present are put
-        -- there is room for the set
-        pub put_zero : (set : ColumnSet) {y : ℕ} {area' : List ℕ} → PutRoom (bytes_of set_bytes (whole set)) back area' y → y ≡ 0
-        put_zero set {y} put =
-            let bs = bytes_of set_bytes (whole set) in
-            put.refusal_is
-            ∙ zero_unless (area_test (length bs) (length back)) area_short
-            ((area_reads (length bs) (length back)).1 (omega (arith, bytes_of_length set_bytes (whole set), length-append (take set_bytes area) (part ++ drop (length area - set_bytes) (drop set_bytes area)), length-take-le set_bytes area long)))
-
         pub opens : {set : ColumnSet} {y : ℕ} {area' : List ℕ} → Fits set → members (whole set) ≡ upto n → PutRoom (bytes_of set_bytes (whole set)) back area' y → OpenAreaCall s area y area'
         unfolding area_refusal open_bytes file_opened over
         opens {set} {y} {area'} f m put =

@@ -51,8 +51,7 @@ pub fn open_area(file: &[u8], area: &mut [u8]) -> Result<(), Refusal>
     // from here on the model has no numbers
     let model = sizes.model(&constants, &parameters);
     write_file(&model, &mut area[SET_BYTES..])?;
-    put_set(area, ColumnSet::below(sizes.n));
-    Ok(())
+    put_set(area, ColumnSet::below(sizes.n))
 }
 
 // The set with or without a column.
@@ -81,7 +80,8 @@ fn change_place(area: &mut [u8], at: usize, size: usize, c: usize, value: bool)
 {
     let end = at + size;
     let row = ColumnSet::of_bytes(&area[at..end]);
-    put_set_front(&mut area[at..], changed(row, c, value), size);
+    // there is room for it
+    let _ = put_set_front(&mut area[at..], changed(row, c, value), size);
 }
 
 // An edit made in the bytes of an area, of a model of n columns and a constant rows.
@@ -97,10 +97,10 @@ fn change_bytes(area: &mut [u8], n: usize, a: usize, present: ColumnSet, edit: E
             change_place(area, row_start(n, a, r), parameter_size(n), c, false);
         }
         Edit::TakeOff(_) => {
-            put_set(area, edit::changed_columns(present, edit));
+            let _ = put_set(area, edit::changed_columns(present, edit));
         }
         Edit::PutBack(_) => {
-            put_set(area, edit::changed_columns(present, edit));
+            let _ = put_set(area, edit::changed_columns(present, edit));
         }
     }
 }

@@ -96,7 +96,7 @@ fn back(rt: &impl Print, file: &[u8]) -> io::Result<()> {
     said::label(rt, b"written again")?;
     let length = written(rt, &model, &mut again)?;
     let same = check::same(file, said::front(&again, length));
-    println!(rt; "same bytes: {}", same as u8)?;
+    println!(rt; "same bytes: {}", u8::from(same))?;
     looked_into(rt, file)
 }
 

@@ -102,7 +102,7 @@ fn one_byte_more(rt: &impl Print) -> io::Result<()> {
     end_line(rt)?;
     println!(rt;
         "same bytes: {}",
-        check::same(&file, said::front(&out, 32)) as u8
+        u8::from(check::same(&file, said::front(&out, 32)))
     )?;
     label(rt, b"one byte more")?;
     refusal(rt, judge_file(&out))?;

@@ -40,7 +40,7 @@ pub fn length(rt: &impl Print, written: Result<usize, Refusal>) -> io::Result<()
 pub fn sizes(rt: &impl Print, read: Result<Sizes, Refusal>) -> io::Result<()> {
     match read {
         Ok(sizes) => {
-            let numbered = sizes.numbered as u8;
+            let numbered = u8::from(sizes.numbered);
             print!(rt;
                 " 0 {} {} {} {} {numbered}",
                 sizes.p, sizes.n, sizes.a, sizes.b

@@ -6,7 +6,9 @@ use native.Mathlib.Omega.{arith}
 use native.Mathlib.Nat.{le_of_eq}
 use lib.ListN.{length, take, drop, length-append, length-drop}
 use lib.Seq.{take_all}
-use Rattle.format.specs.Refusals.{PutRoom}
+use Rattle.format.specs.Refusals.{PutRoom, area_short}
+use Rattle.format.specs.RefusalLaws.{zero_unless}
+use Rattle.format.specs.TestLaws.{area_reads}
 use Rattle.format.specs.OverLaws.{over_room_fits, over_same, lend_next, Wrote, wrote_run, wrote_first, wrote_all}
 use Rattle.format.specs.File.Steps.{Put}
 
@@ -51,6 +53,10 @@ put_next {us} {bs} {d₀} {d} {e} {k} {j} p q =
 -- a run put by a function that tests for room, where there is room
 pub put_room : {bs d e : List ℕ} {r : ℕ} → PutRoom bs d e r → length bs ≤ length d → Put bs d e (length bs)
 put_room {bs} {d} p h = record { many_is = refl; bytes_are = p.bytes_are ∙ over_room_fits bs d h }
+
+-- and nothing is refused there
+pub room_accepts : {bs d e : List ℕ} {r : ℕ} → PutRoom bs d e r → length bs ≤ length d → r ≡ 0
+room_accepts p h = p.refusal_is ∙ zero_unless _ area_short ((area_reads _ _).1 h)
 
 -- an area stays as long as it is
 pub put_same : {bs d e : List ℕ} {k : ℕ} → Put bs d e k → length bs ≤ length d → length e ≡ length d

@@ -8,7 +8,7 @@ mod header;
 mod judge;
 mod numbers;
 mod reader;
-pub mod refusals;
+mod refusals;
 mod sets;
 
 pub use content::{parameters_within, two};

@@ -17,7 +17,7 @@ use blocks::{model_blocks, put_blocks};
 use columns::ColumnSet;
 use degree::{ModelPowers, model_degree, put_degree};
 use editing::{edit_model, name_edit, open_answer, open_model};
-use format::{Refusal, put_set, refusals};
+use format::{Refusal, put_set};
 use host::{put_answer, put_mixed};
 use layered::layered_rank;
 use limits::SET_BYTES;
@@ -170,7 +170,7 @@ pub fn harness_accepts(
     let read = read_claim(claim);
     let model = lent_model(p, n, a, b, constants, parameters, numbered, numbers);
     match model_acceptance(&model, &read) {
-        Ok(_) if claim.len() < CLAIM_LENGTH => refusals::AREA_SHORT,
+        Ok(_) if claim.len() < CLAIM_LENGTH => u32::from(Refusal::AreaShort),
         Ok(accepted) => number(put_acceptance(answer, accepted)),
         Err(refusal) => u32::from(refusal),
     }
@@ -242,7 +242,7 @@ pub fn harness_open(
 {
     let model = lent_model(p, n, a, b, constants, parameters, numbered, numbers);
     match open_model(&model) {
-        Ok(set) => put_set(present, set),
+        Ok(set) => number(put_set(present, set)),
         Err(refusal) => u32::from(refusal),
     }
 }
@@ -267,11 +267,11 @@ pub fn harness_edit(
         Err(refusal) => return u32::from(refusal),
     };
     if present.len() < SET_BYTES {
-        return refusals::AREA_SHORT;
+        return u32::from(Refusal::AreaShort);
     }
     let set = ColumnSet::of_bytes(&present[..SET_BYTES]);
     match edit_model(p, n, a, b, constants, parameters, set, edit) {
-        Ok(changed) => put_set(present, changed),
+        Ok(changed) => number(put_set(present, changed)),
         Err(refusal) => u32::from(refusal),
     }
 }

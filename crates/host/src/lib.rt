@@ -47,9 +47,10 @@ fn put_front(
 {
     out[0] = verdict;
     out[1] = rank;
-    put_set(&mut out[FIRST_SET..], first);
-    put_set(&mut out[SECOND_SET..], second);
-    put_set(&mut out[THIRD_SET..], third);
+    // there is room for each
+    let _ = put_set(&mut out[FIRST_SET..], first);
+    let _ = put_set(&mut out[SECOND_SET..], second);
+    let _ = put_set(&mut out[THIRD_SET..], third);
 }
 
 // The bytes of an answer to a layered model: verdict, rank, placed set, constant side, short set, and the column of each parameter row.

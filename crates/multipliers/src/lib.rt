@@ -69,6 +69,5 @@ pub fn put_multipliers(out: &mut [u8], answer: &Dependence) -> Result<(), Refusa
         return Err(Refusal::AreaShort);
     }
     out[0] = answer.outcome();
-    put_each(&mut out[1..], &answer.multipliers());
-    Ok(())
+    put_each(&mut out[1..], &answer.multipliers())
 }

@@ -105,9 +105,8 @@ pub fn put_reason(out: &mut [u8], answer: &Reason) -> Result<(), Refusal>
     if out.len() < REASON_LENGTH {
         return Err(Refusal::AreaShort);
     }
-    put_set(out, answer.set);
+    put_set(out, answer.set)?;
     out[SET_BYTES] = u8::from(answer.multipliers.is_some());
     let multipliers = answer.multipliers.unwrap_or([0; MOST_COLUMNS]);
-    put_each(&mut out[SET_BYTES + 1..], &multipliers);
-    Ok(())
+    put_each(&mut out[SET_BYTES + 1..], &multipliers)
 }

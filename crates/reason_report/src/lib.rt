@@ -40,7 +40,7 @@ fn put_report(out: &mut [u8], answer: &Result<Reason, Refusal>) -> usize
 {
     match answer {
         Ok(answer) => put_answer(out, answer),
-        Err(refusal) => put_refused_line(out, 0, u32::from(*refusal)),
+        Err(refusal) => put_refused_line(out, 0, *refusal),
     }
 }
 

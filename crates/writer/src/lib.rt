@@ -3,6 +3,7 @@
 
 ghost use Rattle.std.specs.Prelude.{◌≡◌, ◌*◌, ◌≤◌, length, take};
 ghost use Rattle.models.specs.Lent.{rows_lent};
+ghost use Rattle.format.specs.Refused.{refusal_of};
 ghost use Rattle.format.specs.Refusals.{PutRoom};
 ghost use Rattle.format.specs.File.Format.{number_fields_size, entry_bytes};
 ghost use Rattle.writer.specs.FileWritten.{WriteModelCall};
@@ -13,7 +14,7 @@ mod pen;
 
 use fields::put_file;
 use format::fields::{HEAD_BYTES, PRIME_BYTES, SIZES_BYTES, parameter_size};
-use format::{Refusal, judge_model, refusals};
+use format::{Refusal, judge_model};
 use models::LentModel;
 use pen::Pen;
 
@@ -56,14 +57,14 @@ fn numbers_length(model: &LentModel<'_>) -> usize
     length
 }
 
-// Two bytes for each number, the low one first, over the front of an area; or 8, and the area as it was.
-pub fn put_each(out: &mut [u8], numbers: &[u16]) -> u32
-    ensures { PutRoom (entry_bytes numbers.now) out.old out.new result }
+// Two bytes for each number, the low one first, over the front of an area; a shorter area is refused and left alone.
+pub fn put_each(out: &mut [u8], numbers: &[u16]) -> Result<(), Refusal>
+    ensures { PutRoom (entry_bytes numbers.now) out.old out.new (refusal_of result) }
 {
     if out.len() / 2 < numbers.len() {
-        return refusals::AREA_SHORT;
+        return Err(Refusal::AreaShort);
     }
     let mut pen = Pen::new(out);
     pen.entries(numbers);
-    0
+    Ok(())
 }

@@ -5,6 +5,7 @@ use Rattle.format.specs.OverLaws.{wrote_none, wrote_set, wrote_room, wrote_all}
 use Rattle.format.specs.File.Format.{entry_bytes}
 use Rattle.format.specs.File.BodyLaws.{entries_back}
 use Rattle.exchange.specs.DependenceCall.{outcome_of, multipliers_of}
+use Rattle.format.proofs.Puts.{room_left, room_accepts}
 use Rattle.host.proofs.AreaLaws.{put_refused, put_done}
 use Rattle.multipliers.specs.Bytes.{multipliers_length, dependence_bytes}
 use Rattle.multipliers.proofs.put_multipliers.Goals as goal
@@ -20,6 +21,7 @@ returns c =
     let many : length (multipliers_of d) ≡ most_columns = rw c.multipliers.ensures at count in
     let long : length m ≡ 2 * most_columns = omega (arith, many, (entries_back (multipliers_of d)).0) in
     let w = wrote_set (outcome_of d) m (wrote_none (outcome_of d ∷ m) c.args.out.now (omega (arith, long))) refl in
-    rw c.outcome.ensures
+    let entries = rw (c.multipliers.ensures, c.outcome.ensures) at c.put_each.ensures in
+    rw (c.outcome.ensures, room_accepts entries (room_left m [] w (sym (append-nil m))).1)
     (put_done multipliers_length (dependence_bytes d) _ c.if-out-lt-MULTIPLIERS_LENGTH.false
-    (wrote_all (wrote_room m [] _ (2 * most_columns) w (sym (append-nil m)) (rw (c.multipliers.ensures, c.outcome.ensures) at c.put_each.ensures.bytes_are) long) refl))
+    (wrote_all (wrote_room m [] _ (2 * most_columns) w (sym (append-nil m)) entries.bytes_are long) refl))

@@ -9,4 +9,4 @@ pub returns-in-Ok : goal.returns-in-Ok
 returns-in-Ok c = rw c.in-Ok.is (puts_as (sym (report_answer _ _ refl)) c.put_answer.ensures)
 
 pub returns-in-Err : goal.returns-in-Err
-returns-in-Err c = rw c.in-Err.is (puts_as (sym (report_refused _ _ (refusal_some _))) (rw c.from.ensures at c.put_refused_line.ensures))
+returns-in-Err c = rw c.in-Err.is (puts_as (sym (report_refused _ _ (refusal_some _))) c.put_refused_line.ensures)

@@ -4,4 +4,4 @@ use Rattle.text.proofs.put_refused_line.Goals as goal
 
 pub returns : goal.returns
 unfolding ascii refused_line
-returns c = c.put_number_line.ensures
+returns c = rw c.from.ensures at c.put_number_line.ensures

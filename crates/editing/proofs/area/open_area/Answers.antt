@@ -1,11 +1,10 @@
 -- `area::open_area`: the file is read, and its model written behind the columns present.
-use Rattle.std.proofs.Common.{rules, refl, ℕ, subst}
+use Rattle.std.proofs.Common.{rules, refl}
 use Rattle.std.proofs.lemmas.Result.{err_from_is_err_and}
 use Rattle.columns.specs.ColumnSets.{Fits}
 use Rattle.columns.specs.Words.Bytes.{AreBytes}
 use Rattle.format.proofs.Refused.{refusal_some}
-use Rattle.editing.proofs.OpenAreaLaws.{open_refused, open_short, unwritten, put_zero, opens}
-use Rattle.editing.specs.Areas.{OpenAreaCall}
+use Rattle.editing.proofs.OpenAreaLaws.{open_refused, open_short, unwritten, opens}
 use Rattle.editing.proofs.area.open_area.Goals as goal
 
 pub returns-in_err-sizes : goal.returns-in_err-sizes
@@ -32,6 +31,4 @@ returns c =
     let fits : Fits c.below.result = search (rules, c.below.type_inv) in
     let w = rw c.model-model.ensures at c.in_ok-write_file.ensures in
     let long = c.if-area-lt-SET_BYTES.false in
-    subst (λ (y : ℕ). OpenAreaCall c.args.file.now c.args.area.now y c.put_set.new.out)
-    (put_zero c.args.file.now c.args.area.now bytes c.in_ok-sizes.ensures refl long w refl c.below.result c.put_set.ensures)
-    (opens c.args.file.now c.args.area.now bytes c.in_ok-sizes.ensures refl long w refl fits c.below.ensures c.put_set.ensures)
+    opens c.args.file.now c.args.area.now bytes c.in_ok-sizes.ensures refl long w refl fits c.below.ensures c.put_set.ensures
