@@ -35,7 +35,7 @@ pub returns-in-Ok : goal.returns-in-Ok
 unfolding area_test refusal
 returns-in-Ok c =
     let h = of_handed (λ p n a b cs ws ns. AcceptanceCall p n a b cs ws ns c.read_claim-read.result (acceptance_shown (Ok c.in-Ok.field-0))) c.args.numbered c.args.numbers c.lent_model-model.ensures c.in-Ok.ensures in
-    short _ _ _ _ (sym h.is_refusal) (lt-leb _ _ c.if-claim-lt-CLAIM_LENGTH.true)
+    rw c.from.ensures (short _ _ _ _ (sym h.is_refusal) (lt-leb _ _ c.if-claim-lt-CLAIM_LENGTH.true))
 
 pub returns-in-Ok-2 : goal.returns-in-Ok-2
 unfolding refusal
@@ -51,4 +51,4 @@ pub returns-in-Err : goal.returns-in-Err
 unfolding refusal
 returns-in-Err c =
     let h = of_handed (λ p n a b cs ws ns. AcceptanceCall p n a b cs ws ns c.read_claim-read.result (acceptance_shown (Err c.in-Err.refusal))) c.args.numbered c.args.numbers c.lent_model-model.ensures c.in-Err.ensures in
-    rw c.from.ensures (refused_before _ _ _ _ _ _ h.is_refusal (refusal_some c.in-Err.refusal))
+    rw c.from-in-Err.ensures (refused_before _ _ _ _ _ _ h.is_refusal (refusal_some c.in-Err.refusal))

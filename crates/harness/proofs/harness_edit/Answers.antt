@@ -31,13 +31,13 @@ returns-in-Err c = rw c.from.ensures (kind_refused _ _ _ _ _ _ _ _ _ _ _ c.in-Er
 
 pub returns-then-present-lt-SET_BYTES : goal.returns-then-present-lt-SET_BYTES
 unfolding area_test
-returns-then-present-lt-SET_BYTES c = area_refused _ _ _ _ _ _ _ _ _ _ (sym c.in-Ok.ensures.is_refusal) (lt-leb _ _ c.if-present-lt-SET_BYTES.true)
+returns-then-present-lt-SET_BYTES c = rw c.from-then-present-lt-SET_BYTES.ensures (area_refused _ _ _ _ _ _ _ _ _ _ (sym c.in-Ok.ensures.is_refusal) (lt-leb _ _ c.if-present-lt-SET_BYTES.true))
 
 pub returns-in-Ok-edit_model : goal.returns-in-Ok-edit_model
 returns-in-Ok-edit_model c =
     let long = c.if-present-lt-SET_BYTES.false in
     let held = c.of_bytes-set.ensures.is_number ∙ shown c.args.present.now long in
-    edit_put _ _ _ _ _ _ _ _ _ _ (sym c.in-Ok.ensures.is_refusal) long _ held c.in-Ok.edit (named c.in-Ok.ensures) c.in-Ok-edit_model.ensures refl _ c.put_set.ensures
+    rw c.number.ensures (edit_put _ _ _ _ _ _ _ _ _ _ (sym c.in-Ok.ensures.is_refusal) long _ held c.in-Ok.edit (named c.in-Ok.ensures) c.in-Ok-edit_model.ensures refl _ c.put_set.ensures)
 
 pub returns-in-Err-edit_model : goal.returns-in-Err-edit_model
 returns-in-Err-edit_model c =

@@ -15,7 +15,7 @@ pub returns-in-Ok : goal.returns-in-Ok
 unfolding refusal
 returns-in-Ok c =
     let h = of_handed (λ p n a b cs ws ns. OpenCall p n a b cs ws ns (opened_shown (Ok c.in-Ok.set))) c.args.numbered c.args.numbers c.lent_model-model.ensures c.in-Ok.ensures in
-    rank_put (λ s. bytes_of set_bytes (whole s)) _ c.in-Ok.set h (set_put _ c.put_set.ensures)
+    rw c.number.ensures (rank_put (λ s. bytes_of set_bytes (whole s)) _ c.in-Ok.set h (set_put _ c.put_set.ensures))
 
 pub returns-in-Err : goal.returns-in-Err
 unfolding refusal
