@@ -13,7 +13,6 @@ use Rattle.rank.proofs.Layered.Duality.{rank_reached}
 use Rattle.rank.specs.Layered.Model.{Model, Assignment, Legal, Seat, legal, placing, size}
 use Rattle.rank.specs.Layered.Rank.{largest_assignment, last_seat, rank, seat}
 use Rattle.rank.proofs.Layered.Meaning.{chosen_seats, legal_seats, legal_true, seat_cases, seats_chosen, true_legal}
-use Rattle.rank.specs.Totals.{total}
 use Rattle.degrees.specs.Degrees.{Powers, AllPlaced, degree, power_at, weight}
 use Rattle.degrees.specs.Totals.{total_ext, total_zero}
 

@@ -1,6 +1,6 @@
 -- A round: with the levels of the touched rows and the heights on the set raised, no entry stands above its row's level, and the bound has fallen.
 -- Assumes nothing.
-use Rattle.std.specs.Prelude.{◌*◌, ◌+◌, ◌<◌, ℕ, ◌≤◌, Bool, false, true, ◌≢◌, refl, ◌≡◌}
+use Rattle.std.specs.Prelude.{◌*◌, ◌+◌, ◌<◌, ℕ, ◌≤◌, Bool, false, true, refl, ◌≡◌}
 use Rattle.std.proofs.lemmas.Bool.{false≢true}
 use Rattle.std.proofs.Math.Nat.{mul-le-mul}
 use native.Mathlib.Omega.{arith}

@@ -1,16 +1,13 @@
 -- No two listings differ. Assumes nothing.
 use Prim.Native.Nat.{ℕ, zero, suc, ◌≤◌, ◌<◌}
-use Rattle.std.specs.Prelude.{◌≡◌, Bool, not, ◌||◌}
+use Rattle.std.specs.Prelude.{◌≡◌, Bool, ◌||◌}
 use Rattle.std.proofs.Math.Path.{refl, ap, fun_ext}
 use Rattle.std.proofs.Common.{sym, ◌∙◌, subst, arith}
 use Rattle.std.proofs.Math.Decide.{dec_lt}
-use Rattle.counting.specs.Bools.{iff_eq}
 use Rattle.counting.specs.Sets.{Set, ◌∈◌, Some, any}
 use Rattle.counting.specs.Counts.{any_iff}
-use Rattle.columns.specs.Columns.{least}
-use Rattle.listings.specs.Offered.{offered}
-use Rattle.listings.specs.Blocks.{first_of, block, permitted, ListingBy, next_block, listed, blocks_by, block_count_by}
-use Rattle.listings.specs.Listings.Tests.{Block, block_iff, Permitted, permitted_iff, Next}
+use Rattle.listings.specs.Blocks.{first_of, block, permitted, ListingBy}
+use Rattle.listings.specs.Listings.Tests.{Permitted, permitted_iff, Next}
 
 module _ (n : ℕ) (E : Set) (before share : ℕ → ℕ → Bool) where
   module _ (m m' : ℕ) (B B' : ℕ → Set) (f : ListingBy n E before share m B) (f' : ListingBy n E before share m' B') where

@@ -17,7 +17,7 @@ use Rattle.rank.specs.Graph.States.{Placed, State, placed_iff, placed_of, placed
 use Rattle.rank.specs.Layered.Model.{Assignment, Legal, Model, Seat, constant, constants, is_constant, is_placed, out, placing, row, size}
 use Rattle.rank.proofs.Layered.Meaning.{seat_cases}
 use Rattle.rank.proofs.Layered.Restricting.{constant_part, constant_part_indep, constant_part_part, parts, row_part_count}
-use Rattle.rank.specs.Layered.Valid.{touch, touch_constant, touch_offered, touch_parameter}
+use Rattle.rank.specs.Layered.Valid.{touch_constant, touch_offered, touch_parameter}
 use Rattle.rank.specs.Layered.Seating.{Good}
 
 module _ (M : Model) where

@@ -12,7 +12,7 @@ use Rattle.rank.specs.Graph.Routes.{Route}
 use Rattle.rank.specs.Graph.Closed.{Closed, closed_count}
 use Rattle.rank.specs.Graph.Layers.{layer, layer_placed, source_in_layer}
 use Rattle.rank.specs.Graph.Augment.{drive}
-use Rattle.rank.specs.Layered.Model.{Assignment, Legal, Model, placing, row}
+use Rattle.rank.specs.Layered.Model.{Assignment, Legal, Model, placing}
 use Rattle.rank.specs.Layered.Seating.{Good, pivoting}
 use Rattle.rank.proofs.Layered.Assignments.{legal_in}
 

@@ -16,12 +16,12 @@ use Rattle.rank.specs.Linear.Independence.{Indep}
 use Rattle.rank.specs.Linear.Kernels.{indep_count, same_indep}
 use Rattle.rank.specs.Graph.States.{placed_of}
 use Rattle.rank.specs.Graph.Closed.{Closed, closed_total}
-use Rattle.rank.specs.Graph.Layers.{layer, layer_into, layer_placed, layers_reached, layers_unplaced, stable, unplaced}
+use Rattle.rank.specs.Graph.Layers.{layer, layer_into, layer_placed, layers_reached, layers_unplaced, unplaced}
 use Rattle.rank.specs.Layered.Model.{Assignment, Legal, Model, size}
 use Rattle.rank.specs.Layered.Rank.{constant_rank, rank, short, sum}
 use Rattle.rank.proofs.Layered.Meaning.{constant_rank_at, short_iff}
 use Rattle.rank.proofs.Layered.Duality.{rank_reached, size_le_rank, size_le_sum}
-use Rattle.rank.specs.Layered.Valid.{touch, touch_offered}
+use Rattle.rank.specs.Layered.Valid.{touch_offered}
 use Rattle.rank.specs.Layered.Seating.{Good}
 use Rattle.rank.proofs.Layered.Assignments.{assignment, assignment_legal, assignment_size, constant_rows, offered_owner, parameter_rows}
 use Rattle.rank.proofs.Layered.Augmenting.{StateOf}

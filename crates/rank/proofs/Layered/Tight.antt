@@ -17,7 +17,7 @@ use Rattle.rank.specs.Layered.Rank.{constant_rank, sum}
 use Rattle.rank.proofs.Layered.Meaning.{constant_rank_le}
 use Rattle.rank.proofs.Layered.Restricting.{constant_part, constant_part_indep, constant_part_part, constant_part_sub, parts, row_part, row_part_count, row_part_injects}
 use Rattle.rank.proofs.Layered.Duality.{rest_offered}
-use Rattle.rank.specs.Layered.Valid.{touch, touch_constant, touch_offered}
+use Rattle.rank.specs.Layered.Valid.{touch_constant, touch_offered}
 use Rattle.rank.specs.Layered.Seating.{Good}
 use Rattle.rank.proofs.Layered.Assignments.{assignment, assignment_legal, assignment_places, assignment_size, constant_owner, row_owner, row_touch}
 use Rattle.rank.proofs.Layered.Augmenting.{StateOf}

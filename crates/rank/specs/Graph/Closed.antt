@@ -8,9 +8,7 @@ use Rattle.counting.specs.Bools.{and_in, and_left, and_right}
 use Rattle.counting.specs.Sets.{#, Set, Some, ◌∈◌, ◌∩◌, touching, ∁}
 use Rattle.counting.specs.Counts.{#-ext, #-split, #-∁, Touching, touching_iff}
 use Rattle.counting.specs.Injections.{Injects, inj_count}
-use Rattle.rank.specs.Linear.Tableaus.{owner}
 use Rattle.rank.specs.Graph.States.{Arc, Placed, State, Terminal, placed_iff, placed_of, placed?}
-use Rattle.rank.specs.Layered.Valid.{touch}
 
 -- K has no terminal column, and no arc leaves it
 pub record Closed {n N : ℕ} (s : State n N) (K : Set) : Type 0 where

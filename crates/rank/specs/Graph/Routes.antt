@@ -6,10 +6,7 @@ use Rattle.std.proofs.Common.{◌∙◌, ap}
 use Rattle.std.proofs.Math.Decide.{ℕ_discrete}
 use native.Mathlib.Omega.{arith}
 use Rattle.counting.specs.Bools.{not_true}
-use Rattle.rank.specs.Linear.Systems.{untouched}
-use Rattle.rank.specs.Linear.Tableaus.{owner}
 use Rattle.rank.specs.Graph.States.{Arc, Moved, Placed, State, Terminal, terminal?}
-use Rattle.rank.specs.Layered.Valid.{touch}
 
 -- a route from x to a terminal column, k arcs long, whose inner columns are not terminal
 pub data Route {n N : ℕ} (s : State n N) : ℕ → ℕ → Type 0 where

@@ -9,7 +9,7 @@ use Rattle.rank.specs.Linear.Kernels.{Same, same_refl}
 use Rattle.rank.specs.Linear.Tableaus.{Tableau}
 use Rattle.rank.specs.Graph.States.{Moved, State}
 use Rattle.rank.specs.Graph.Augment.{Pivoting}
-use Rattle.rank.specs.Layered.Model.{Model, row}
+use Rattle.rank.specs.Layered.Model.{Model}
 use Rattle.rank.specs.Layered.Valid.{Valid, free, seat_valid, seated, seated_keeps, state, touch}
 
 module _ (M : Model) where
