@@ -1,6 +1,7 @@
 -- What the code's arrays mean, and what its functions do to them.
 pub mod Admission
 pub mod Cells
+pub mod PivotRows
 pub mod Scanning
 pub mod Searching
 pub mod Held

@@ -20,13 +20,15 @@ fn vacated(y: u8, x: u8, n: u8) -> u8
     if y == x { n } else { y }
 }
 
-// The row that the column x owns, if any, becomes free. All rows are written, so that the loop runs on vectors.
+// The row that the column x owns, if any, becomes free. All rows are written, also those that the model does not have, so that the
+// loop runs on whole vectors.
 fn vacate(state: &mut State, model: &Admitted, x: usize)
     requires { Roomy model.now state.old × (x < model.now.n) }
     ensures { (state.new.cells ≡ state.old.cells) × (length state.new.owner ≡ lines) × Vacated model.now.n (lines_of model.now) x state.old.owner state.new.owner }
 {
-    for q in 0..model.a + model.b {
-        state.owner[q] = vacated(state.owner[q], x as u8, model.n as u8);
+    let (column, free) = (x as u8, model.n as u8);
+    for owner in state.owner.iter_mut() {
+        *owner = vacated(*owner, column, free);
     }
 }
 
