@@ -18,11 +18,8 @@ pub fn offer_all(state: &mut State, model: &Admitted, offered: ColumnSet) -> Col
     requires { Ready model.now state.old × InverseTable model.now.p model.now.inverses.now × ((G : Completed model.now) × Offers model.now.p model.now.n model.now.a model.now.b (rows_of model.now) (members (whole offered)) state.old.cells state.old.owner G) }
     ensures { Ready model.now state.new × ((G : Completed model.now) → Offers model.now.p model.now.n model.now.a model.now.b (rows_of model.now) (members (whole offered)) state.old.cells state.old.owner G → Offered-all model.now.p model.now.n model.now.a model.now.b (rows_of model.now) G state.new.cells state.new.owner (members (whole result))) }
 {
-    let mut rest = offered;
     let mut placed = ColumnSet::empty();
-    while !rest.is_empty() {
-        let j = rest.first();
-        rest = rest.without(j);
+    for j in offered {
         if seating::place(state, model, j) {
             placed = placed.with(j);
         }
