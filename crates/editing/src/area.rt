@@ -23,11 +23,8 @@ use writer::write_file;
 fn file_in(area: &[u8]) -> &[u8]
     ensures { result.now ≡ area_file area.now }
 {
-    let end = area.len();
-    if end < SET_BYTES {
-        return &area[end..];
-    }
-    &area[SET_BYTES..]
+    let at = area.len().min(SET_BYTES);
+    &area[at..]
 }
 
 // Why the file in an area is refused, if it is.
@@ -58,10 +55,7 @@ pub fn open_area(file: &[u8], area: &mut [u8]) -> Result<(), Refusal>
 fn changed(set: ColumnSet, c: usize, value: bool) -> ColumnSet
     ensures { whole result ≡ place_done (whole set) c value }
 {
-    if value {
-        return set.with(c);
-    }
-    set.without(c)
+    if value { set.with(c) } else { set.without(c) }
 }
 
 // Where in the area the body of parameter row r starts.
