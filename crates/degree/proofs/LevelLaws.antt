@@ -1,18 +1,18 @@
 -- The loops over levels, heights and tight entries: their invariants, each with how it starts and what a turn does to it. Assumes nothing.
 use Prim.Native.Nat.{ℕ, ◌+◌, ◌*◌, ◌<◌, ◌≤◌}
 use mathlib.Core.Path.{◌≡◌, refl, sym, ap, ◌∙◌}
-use mathlib.Core.Logic.{◌≢◌}
-use mathlib.Core.Bool.{Bool, false, not, ◌&&◌, cond}
+use mathlib.Core.Logic.{◌≢◌, ◌⊎◌, inl, inr}
+use mathlib.Core.Bool.{Bool, false, not, ◌&&◌, cond, true≢false}
 use mathlib.Core.List.{List}
 use native.Mathlib.Omega.{arith}
-use native.Mathlib.Decide.{ℕ_discrete}
+use native.Mathlib.Decide.{ℕ_discrete, dec_lt}
 use lib.Dec.{eqb}
-use lib.ListN.{length, get_or, length-set, replicate, get_or-replicate}
+use lib.ListN.{length, get_or, length-set, replicate, get_or-replicate, get_or-eq_default, length-replicate}
 use lib.ListN as ListN
 use lib.Seq.{get_or-set_same, get_or-set_other}
 use borrow.Author.Tests.{eqb-true, eq-eqb, ne_eqb}
 use Rattle.limits.specs.Limits.{most_columns}
-use Rattle.counting.specs.Bools.{not_true, iff_eq, and_in, and_right, in_not}
+use Rattle.counting.specs.Bools.{true?, not_true, iff_eq, and_in, and_right, in_not}
 use Rattle.counting.specs.Sets.{Set, ◌∈◌, ◌⊆◌}
 use Rattle.columns.specs.Columns.{members, removed}
 use Rattle.columns.specs.ColumnSets.{row_numbers, with_row}
@@ -61,6 +61,53 @@ written_more q f ns₀ ns v l e h = record {
   ];
   left = λ i m. get_or-set_other ns q i v 0 (λ z. omega arith) ∙ h.left i (omega arith);
 }
+
+-- ---- numbers changed at the columns of a set, which are taken one by one
+
+-- at the columns that are not left the numbers have been changed, and at no others
+pub record Visited (f : ℕ → ℕ) (set rest : Set) (ns₀ ns : List ℕ) : Type 0 where
+  pub same_length : length ns ≡ length ns₀
+  pub inside : rest ⊆ set
+  pub done : (x : ℕ) → x ∈ set → rest x ≡ false → get_or ns x 0 ≡ f x
+  pub left : (x : ℕ) → (set x ≡ false) ⊎ (x ∈ rest) → get_or ns x 0 ≡ get_or ns₀ x 0
+
+pub visited_start : (f : ℕ → ℕ) (set : Set) (ns : List ℕ) → Visited f set set ns ns
+visited_start f set ns = record {
+  same_length = refl;
+  inside = λ x e. e;
+  done = λ x e n. absurd (true≢false (sym e ∙ n));
+  left = λ x e. refl;
+}
+
+pub visited_more : (f : ℕ → ℕ) (set rest : Set) (ns₀ ns : List ℕ) (x v : ℕ) → x ∈ rest → x < length ns → v ≡ f x
+    → Visited f set rest ns₀ ns → Visited f set (removed rest x) ns₀ (ListN.set ns x v)
+visited_more f set rest ns₀ ns x v ex l e h = record {
+  same_length = length-set ns x v ∙ h.same_length;
+  inside = λ z m. h.inside z (removed_old rest x z m);
+  done = λ z m n. elim (ℕ_discrete z x) [
+    | yes d ↦ rw d (get_or-set_same ns x v 0 l ∙ e)
+    | no nd ↦ get_or-set_other ns x z v 0 nd ∙ h.done z m (sym (beside rest x z nd) ∙ n)
+  ];
+  left = λ z k. elim (ℕ_discrete z x) [
+    | yes d ↦ absurd (elim k [ inl n ↦ true≢false (sym (h.inside x ex) ∙ rw d at n) | inr n ↦ removed_gone rest x z n d ])
+    | no nd ↦ get_or-set_other ns x z v 0 nd ∙ h.left z (elim k [ inl n ↦ inl n | inr n ↦ inr (removed_old rest x z n) ])
+  ];
+}
+
+-- where none is left, they are changed on the set
+pub visited_done : (f : ℕ → ℕ) (set rest : Set) (ns₀ ns : List ℕ) → ((x : ℕ) → x ∈ rest → ⊥) → Visited f set rest ns₀ ns
+    → (x : ℕ) → get_or ns x 0 ≡ cond (set x) (f x) (get_or ns₀ x 0)
+visited_done f set rest ns₀ ns none h x = elim (true? (set x)) [
+  | yes e ↦ h.done x e (not_true (rest x) (none x)) ∙ sym (ap (λ (b : Bool). cond b (f x) (get_or ns₀ x 0)) e)
+  | no ne ↦ let e : set x ≡ false = not_true (set x) ne in h.left x (inl e) ∙ sym (ap (λ (b : Bool). cond b (f x) (get_or ns₀ x 0)) e)
+]
+
+-- a list of zeros has no other number
+pub zeros : (k x : ℕ) → get_or {A = ℕ} (replicate k 0) x 0 ≡ 0
+zeros k x = elim (dec_lt x k) [
+  | yes l ↦ get_or-replicate {A = ℕ} k x 0 0 l
+  | no nl ↦ get_or-eq_default {A = ℕ} (replicate k 0) 0 (omega (arith, length-replicate {A = ℕ} k 0))
+]
 
 -- ---- how far the heights can be raised
 
