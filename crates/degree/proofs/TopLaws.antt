@@ -39,9 +39,6 @@ all_fails n P i l e = not_true (all n P) (λ a. true≢false (sym ((all_iff n P)
 
 -- ---- the largest of the first columns
 
-pub top_none : (S : ℕ → Type 0) (f : ℕ → ℕ) → Top 0 S f 0
-top_none S f = record { bounds = λ x m e. absurd (omega arith); reached = λ z. absurd (omega arith) }
-
 -- one column more: the largest of what it was and what that column has
 pub top_next : {S : ℕ → Type 0} {f : ℕ → ℕ} {t k : ℕ} (t' : ℕ) → t ≤ t' → (S k → f k ≤ t') → (t < t' → S k × (f k ≡ t')) → Top k S f t → Top (k + 1) S f t'
 top_next {S} {f} {t} {k} t' l here more h = record {
@@ -76,12 +73,6 @@ top_of_row {n} {k} from cs {f} {t} e room h =
 pub record Seeking (n : ℕ) (set rest : Set) (f : ℕ → ℕ) (t : ℕ) : Type 0 where
   pub inside : rest ⊆ set
   pub top : Top n (λ x. (x ∈ set) × (rest x ≡ false)) f t
-
-pub seeking_start : (n : ℕ) (set : Set) (f : ℕ → ℕ) → Seeking n set set f 0
-seeking_start n set f = record {
-  inside = λ x e. e;
-  top = record { bounds = λ x m e. absurd (true≢false (sym e.0 ∙ e.1)); reached = λ z. absurd (omega arith) };
-}
 
 -- a column that is not left after x is taken out was not left, or is x
 gone : (rest : Set) (x y : ℕ) → y ≢ x → removed rest x y ≡ false → rest y ≡ false

@@ -109,6 +109,7 @@ pub fn rise(levels: &[u16], tops: &[u16]) -> u16
     least
 }
 
+#[tactic(auto, unfolding(crate::specs::Code::touches))]
 fn raised_level(level: u16, top: u16, rise: u16) -> u16
     requires { level + rise < 65536 }
     ensures { result ≡ cond (touches level top) (level + rise) level }
