@@ -7,19 +7,20 @@ use mathlib.Core.Bool.{Bool, true, false, not, ◌||◌, true≢false}
 use mathlib.Core.List.{List}
 use lib.Dec.{leb}
 use native.Mathlib.Omega.{arith}
-use native.Mathlib.Decide.{ℕ_discrete}
-use lib.ListN.{length, get_or}
+use native.Mathlib.Decide.{ℕ_discrete, dec_lt}
+use lib.ListN.{length, get_or, take, drop}
 use lib.ListN as ListN
-use lib.Seq.{get_or-set_same, get_or-set_other}
+use Rattle.std.proofs.Common.{length-drop}
+use lib.Seq.{get_or-set_same, get_or-set_other, get_or-take, get_or-drop, length-take-le}
 use borrow.Author.Tests.{le-leb, leb-true}
 use Rattle.counting.specs.Bools.{not_true, implied, implies}
 use Rattle.counting.specs.Sets.{Set, all, ◌∈◌, ◌⊆◌}
 use Rattle.counting.specs.Counts.{all_iff}
-use Rattle.columns.specs.Columns.{members, removed, within}
+use Rattle.columns.specs.Columns.{width, members, removed, within}
 use Rattle.columns.specs.Words.Operations.{within_iff}
 use Rattle.columns.specs.Words.SetLaws.{removed_old, removed_gone, removed_other}
 use Rattle.degree.specs.Answers.{most_power}
-use Rattle.degree.specs.Code.{Top}
+use Rattle.degree.specs.Code.{Top, ParameterRow}
 
 -- ---- an array is filled
 
@@ -38,21 +39,14 @@ all_fails n P i l e = not_true (all n P) (λ a. true≢false (sym ((all_iff n P)
 
 -- ---- the largest of the first columns
 
-pub top_none : (S : ℕ → Type 0) (f : ℕ → ℕ) → Top 0 S f 0
-top_none S f = record { bounds = λ x m e. absurd (omega arith); reached = λ z. absurd (omega arith) }
-
--- it is larger where the next column has more,
-pub top_more : {S : ℕ → Type 0} {f : ℕ → ℕ} {t k : ℕ} → S k → t < f k → Top k S f t → Top (k + 1) S f (f k)
-top_more {S} {f} {t} {k} s l h = record {
-  bounds = λ x m e. elim (ℕ_discrete x k) [ yes d ↦ rw d (omega arith) | no nd ↦ omega (arith, h.bounds x (omega arith) e) ];
-  reached = λ z. (k, omega arith, (s, refl));
-}
-
--- and the same where not
-pub top_same : {S : ℕ → Type 0} {f : ℕ → ℕ} {t k : ℕ} → (S k → f k ≤ t) → Top k S f t → Top (k + 1) S f t
-top_same {S} {f} {t} {k} l h = record {
-  bounds = λ x m e. elim (ℕ_discrete x k) [ yes d ↦ rw d (l (rw d at e)) | no nd ↦ h.bounds x (omega arith) e ];
-  reached = λ z. let w = h.reached z in (w.0, omega (arith, w.1), w.2);
+-- one column more: the largest of what it was and what that column has
+pub top_next : {S : ℕ → Type 0} {f : ℕ → ℕ} {t k : ℕ} (t' : ℕ) → t ≤ t' → (S k → f k ≤ t') → (t < t' → S k × (f k ≡ t')) → Top k S f t → Top (k + 1) S f t'
+top_next {S} {f} {t} {k} t' l here more h = record {
+  bounds = λ x m e. elim (ℕ_discrete x k) [ yes d ↦ rw d (here (rw d at e)) | no nd ↦ omega (arith, h.bounds x (omega arith) e) ];
+  reached = λ z. elim (dec_lt t t') [
+    | yes g ↦ (k, omega arith, more g)
+    | no ng ↦ let w = h.reached (omega arith) in let same : t ≡ t' = omega arith in (w.0, omega (arith, w.1), (w.2.0, w.2.1 ∙ same))
+  ];
 }
 
 -- of the same columns, said in another way
@@ -62,18 +56,23 @@ top_as to from h = record {
   reached = λ z. let w = h.reached z in (w.0, w.1, (to w.0 w.2.0, w.2.1));
 }
 
+-- of a row of constants that is lent alone
+pub top_of_row : {n k : ℕ} (from : ℕ) (cs : List ℕ) {f : ℕ → ℕ} {t : ℕ} → k ≡ n → from + n ≤ length cs
+    → Top (length (take k (drop from cs))) (λ x. get_or (take k (drop from cs)) x 0 ≢ 0) f t → Top n (λ x. get_or cs (from + x) 0 ≢ 0) f t
+top_of_row {n} {k} from cs {f} {t} e room h =
+    let long : length (take k (drop from cs)) ≡ n = rw e (length-take-le n (drop from cs) (omega (arith, length-drop from cs))) in
+    let same : (x : ℕ) → x < n → get_or (take k (drop from cs)) x 0 ≡ get_or cs (from + x) 0 = λ x l. get_or-take k (drop from cs) x 0 (omega arith) ∙ get_or-drop from cs x 0 in
+    record {
+      bounds = λ x l nz. h.bounds x (omega (arith, long)) (λ z. nz (sym (same x l) ∙ z));
+      reached = λ z. let w = h.reached z in let l : w.0 < n = omega (arith, w.1, long) in (w.0, l, ((λ q. w.2.0 (same w.0 l ∙ q)), w.2.1));
+    }
+
 -- ---- the largest of a set
 
 -- t is the largest of the columns of a set that are not left
 pub record Seeking (n : ℕ) (set rest : Set) (f : ℕ → ℕ) (t : ℕ) : Type 0 where
   pub inside : rest ⊆ set
   pub top : Top n (λ x. (x ∈ set) × (rest x ≡ false)) f t
-
-pub seeking_start : (n : ℕ) (set : Set) (f : ℕ → ℕ) → Seeking n set set f 0
-seeking_start n set f = record {
-  inside = λ x e. e;
-  top = record { bounds = λ x m e. absurd (true≢false (sym e.0 ∙ e.1)); reached = λ z. absurd (omega arith) };
-}
 
 -- a column that is not left after x is taken out was not left, or is x
 gone : (rest : Set) (x y : ℕ) → y ≢ x → removed rest x y ≡ false → rest y ≡ false
@@ -83,21 +82,17 @@ gone rest x y ne e = not_true (rest y) (λ k. true≢false (sym (removed_other r
 still : (rest : Set) (x y : ℕ) → rest y ≡ false → removed rest x y ≡ false
 still rest x y e = not_true (removed rest x y) (λ k. true≢false (sym (removed_old rest x y k) ∙ e))
 
-pub seeking_more : {n : ℕ} {set rest : Set} {f : ℕ → ℕ} {t : ℕ} (x : ℕ) → x < n → x ∈ rest → t < f x → Seeking n set rest f t → Seeking n set (removed rest x) f (f x)
-seeking_more {n} {set} {rest} {f} {t} x l ex m h = record {
+-- one column is taken out: the largest of what it was and what that column has
+pub seeking_next : {n : ℕ} {set rest : Set} {f : ℕ → ℕ} {t : ℕ} (x t' : ℕ) → x < n → x ∈ rest → t ≤ t' → f x ≤ t' → (t < t' → f x ≡ t')
+    → Seeking n set rest f t → Seeking n set (removed rest x) f t'
+seeking_next {n} {set} {rest} {f} {t} x t' l ex m here more h = record {
   inside = λ y e. h.inside y (removed_old rest x y e);
   top = record {
-    bounds = λ y k e. elim (ℕ_discrete y x) [ yes d ↦ rw d (omega arith) | no nd ↦ omega (arith, h.top.bounds y k (e.0, gone rest x y nd e.1)) ];
-    reached = λ z. (x, l, ((h.inside x ex, not_true (removed rest x x) (λ k. removed_gone rest x x k refl)), refl));
-  };
-}
-
-pub seeking_same : {n : ℕ} {set rest : Set} {f : ℕ → ℕ} {t : ℕ} (x : ℕ) → f x ≤ t → Seeking n set rest f t → Seeking n set (removed rest x) f t
-seeking_same {n} {set} {rest} {f} {t} x m h = record {
-  inside = λ y e. h.inside y (removed_old rest x y e);
-  top = record {
-    bounds = λ y k e. elim (ℕ_discrete y x) [ yes d ↦ rw d m | no nd ↦ h.top.bounds y k (e.0, gone rest x y nd e.1) ];
-    reached = λ z. let w = h.top.reached z in (w.0, w.1, ((w.2.0.0, still rest x w.0 w.2.0.1), w.2.1));
+    bounds = λ y k e. elim (ℕ_discrete y x) [ yes d ↦ rw d here | no nd ↦ omega (arith, h.top.bounds y k (e.0, gone rest x y nd e.1)) ];
+    reached = λ z. elim (dec_lt t t') [
+      | yes g ↦ (x, l, ((h.inside x ex, not_true (removed rest x x) (λ k. removed_gone rest x x k refl)), more g))
+      | no ng ↦ let w = h.top.reached (omega arith) in let same : t ≡ t' = omega arith in (w.0, w.1, ((w.2.0.0, still rest x w.0 w.2.0.1), w.2.1 ∙ same))
+    ];
   };
 }
 
@@ -110,6 +105,18 @@ seeking_done {n} {set} {rest} none h = top_as (λ x e. e.0) (λ x e. (e, not_tru
 -- a part of a row is within n too
 pub within_part : (n v w : ℕ) → members v ⊆ members w → within n w ≡ true → within n v ≡ true
 within_part n v w s h = (within_iff n v).1 (λ x l e. (within_iff n w).0 h x l (s x e))
+
+-- what the areas have of a column of the row
+pub record RowColumn (n from x : ℕ) (pp heights : List ℕ) : Type 0 where
+  pub below : x < n
+  pub power_lent : from + x < length pp
+  pub height_lent : x < length heights
+  pub height_low : get_or heights x 0 ≤ 60000
+
+pub row_column : {n w from : ℕ} {pp heights : List ℕ} (x : ℕ) → ParameterRow n w from pp heights → x < width → x ∈ members w → RowColumn n from x pp heights
+row_column {n} {w} {from} {pp} {heights} x r lx e =
+    let l : x < n = (within_iff n w).0 r.row_within x lx e in
+    record { below = l; power_lent = omega (arith, r.powers_lent); height_lent = omega (arith, r.heights_lent); height_low = r.heights_low x l }
 
 module _ {n : ℕ} {row : Set} {f : ℕ → ℕ} {t : ℕ} (powers : ℕ → ℕ) (same : (x : ℕ) → x < n → f x ≡ powers x) (h : Top n (λ x. x ∈ row) f t) where
   -- none of its powers is above the limit, where their top is not

@@ -27,6 +27,12 @@ pub record Tops (n a b : ℕ) (cs ws pp : List ℕ) (set : Set) (weights heights
   pub parameters : (r : ℕ) → r < b
       → Top n (λ x. (x ∈ members (get_or ws r 0)) × (x ∈ set)) (λ x. get_or pp (r * n + x) 0 + get_or heights x 0) (get_or tops (a + r) 0)
 
+-- t is that of row q, of both kinds
+abbrev pub LineTop : (n a : ℕ) (cs ws pp : List ℕ) (set : Set) (weights heights : List ℕ) (q t : ℕ) → Type 0
+LineTop n a cs ws pp set weights heights q t =
+    (q < a → Top n (λ x. get_or cs (q * n + x) 0 ≢ 0) (λ x. get_or weights x 0) t)
+    × ((r : ℕ) → q ≡ a + r → Top n (λ x. (x ∈ members (get_or ws r 0)) × (x ∈ set)) (λ x. get_or pp (r * n + x) 0 + get_or heights x 0) t)
+
 -- the rows of both kinds, a and b of them, with their powers; and weights and heights of the columns
 pub record Lines (n a b : ℕ) (cs ws pp weights heights : List ℕ) : Type 0 where
   pub columns : n ≤ most_columns

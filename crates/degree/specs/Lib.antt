@@ -3,3 +3,4 @@ pub mod Shown
 pub mod Answers
 pub mod Bytes
 pub mod Code
+pub mod States

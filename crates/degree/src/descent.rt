@@ -1,45 +1,37 @@
 // The descent: levels and heights that bound every total, lowered round by round until an assignment on the tight entries reaches them.
-ghost use Rattle.std.specs.Prelude.{ℕ, Ok, ◌+◌, ◌<◌, ◌≤◌, ◌≡◌, List, get_or};
+ghost use Rattle.std.specs.Prelude.{ℕ, Ok, ◌+◌, ◌<◌, ◌≤◌, ◌≡◌, get_or};
+ghost use Rattle.counting.specs.Sets.{◌∈◌};
 ghost use Rattle.columns.specs.Columns.{members};
-ghost use Rattle.columns.specs.ColumnSets.{whole, row_numbers};
+ghost use Rattle.columns.specs.ColumnSets.{whole};
 ghost use Rattle.rank.specs.Modulus.{field_of};
 ghost use Rattle.rank.specs.Layered.Rank.{rank, sum};
 ghost use Rattle.rank.specs.Totals.{total};
-ghost use Rattle.degrees.specs.Degrees.{listed_powers};
 ghost use Rattle.degrees.specs.Dynamics.{layered};
 ghost use Rattle.exchange.specs.Solve.{SolvedBy};
 ghost use Rattle.degree.specs.Shown.{degree_shown};
 ghost use Rattle.degree.specs.Answers.{DegreeAnswered};
-ghost use Rattle.degree.specs.Code.{model_with, Ready, Descending, tight_part, ConstantsShown, Summed};
+ghost use Rattle.degree.specs.Code.{ConstantsShown, Summed};
+ghost use Rattle.degree.specs.States.{dynamic_of, powers_of, ReadyModel, DescendingModel, tight_model};
 
+use crate::state::{Bounds, PoweredModel};
 use crate::{Degree, levels};
 use columns::ColumnSet;
 use exchange::{Solution, reduce, solve};
-use limits::MOST_COLUMNS;
+use limits::MOST_CONSTANTS;
 use models::LentModel;
 
 // The solver's answer to the tight part.
-fn solve_tight(
-    p: u32,
-    n: usize,
-    a: usize,
-    b: usize,
-    constants: &[u16],
-    parameters: &[u64],
-    columnpowers: &[u8],
-    parameterpowers: &[u8],
-    levels: &[u16],
-    heights: &[u16],
-) -> Solution
-    requires { (Q : ℕ → ℕ → (field_of p).F) × (rp : List ℕ) × (k : ℕ) × Descending p n a b Q (row_numbers parameters.now) rp columnpowers.now parameterpowers.now constants.now levels.now heights.now k }
-    ensures { (Q : ℕ → ℕ → (field_of p).F) (rp : List ℕ) (k : ℕ) → Descending p n a b Q (row_numbers parameters.now) rp columnpowers.now parameterpowers.now constants.now levels.now heights.now k → SolvedBy (tight_part p n a b Q (row_numbers parameters.now) rp columnpowers.now parameterpowers.now constants.now levels.now heights.now) result }
+fn solve_tight(model: &PoweredModel<'_>, constants: &[u16], bounds: &Bounds) -> Solution
+    requires { (Q : ℕ → ℕ → (field_of model.now.p).F) × (k : ℕ) × DescendingModel model.now Q constants.now bounds.now k }
+    ensures { (Q : ℕ → ℕ → (field_of model.now.p).F) (k : ℕ) → DescendingModel model.now Q constants.now bounds.now k → SolvedBy (tight_model model.now Q constants.now bounds.now) result }
 {
-    let all = ColumnSet::below(n);
-    let weights = levels::weights(all, columnpowers, heights, n);
-    let tight = levels::tight_constants(constants, &weights, levels, n, a);
-    let rows = levels::tight_parameters(parameters, parameterpowers, heights, levels, n, a, b);
-    let model = LentModel::unnumbered(p, n, a, b, &tight, &rows);
-    let Some(s) = solve(&model, all) else {
+    let all = ColumnSet::below(model.n);
+    let weights = levels::weights(all, model.powers.columns, &bounds.heights);
+    let mut tight = [0u16; MOST_CONSTANTS];
+    levels::tight_constants(&mut tight, model, constants, &weights, &bounds.levels);
+    let rows = levels::tight_parameters(model, bounds);
+    let part = LentModel::unnumbered(model.p, model.n, model.a, model.b, &tight, &rows);
+    let Some(s) = solve(&part, all) else {
         unreachable!()
     };
     s
@@ -48,56 +40,40 @@ fn solve_tight(
 // A round, on the short set of the tight part: the rows are reduced at its tight entries; the levels of the rows that touch it and the
 // heights on it are raised. How far.
 fn turn(
-    p: u32,
-    n: usize,
-    a: usize,
-    b: usize,
+    model: &PoweredModel<'_>,
     constants: &mut [u16],
-    parameters: &[u64],
-    columnpowers: &[u8],
-    parameterpowers: &[u8],
-    levels: &mut [u16],
-    heights: &mut [u16],
+    bounds: &mut Bounds,
     short: ColumnSet,
 ) -> u16
-    requires { (Q : ℕ → ℕ → (field_of p).F) × (rp : List ℕ) × (k : ℕ) × Descending p n a b Q (row_numbers parameters.now) rp columnpowers.now parameterpowers.now constants.old levels.old heights.old k × (sum (tight_part p n a b Q (row_numbers parameters.now) rp columnpowers.now parameterpowers.now constants.old levels.old heights.old) (members (whole short)) < n) }
-    ensures { (Q : ℕ → ℕ → (field_of p).F) (rp : List ℕ) (k : ℕ) → Descending p n a b Q (row_numbers parameters.now) rp columnpowers.now parameterpowers.now constants.old levels.old heights.old k → sum (tight_part p n a b Q (row_numbers parameters.now) rp columnpowers.now parameterpowers.now constants.old levels.old heights.old) (members (whole short)) < n → (1 ≤ result) × Descending p n a b Q (row_numbers parameters.now) rp columnpowers.now parameterpowers.now constants.new levels.new heights.new (k + result) }
+    requires { ((x : ℕ) → x ∈ members (whole short) → x < model.now.n) × ((Q : ℕ → ℕ → (field_of model.now.p).F) × (k : ℕ) × DescendingModel model.now Q constants.old bounds.old k × (sum (tight_model model.now Q constants.old bounds.old) (members (whole short)) < model.now.n)) }
+    ensures { (Q : ℕ → ℕ → (field_of model.now.p).F) (k : ℕ) → DescendingModel model.now Q constants.old bounds.old k → sum (tight_model model.now Q constants.old bounds.old) (members (whole short)) < model.now.n → (1 ≤ result) × DescendingModel model.now Q constants.new bounds.new (k + result) }
 {
-    let weights = levels::weights(short, columnpowers, heights, n);
-    reduce(p, n, a, &weights, levels, constants);
-    let tops = levels::tops(
-        constants,
+    let weights = levels::weights(short, model.powers.columns, &bounds.heights);
+    reduce(
+        model.p,
+        model.n,
+        model.a,
         &weights,
-        parameters,
-        parameterpowers,
-        heights,
-        short,
-        n,
-        a,
-        b,
+        &bounds.levels,
+        constants,
     );
-    let rise = levels::rise(levels, &tops, n);
-    levels::raise_levels(levels, &tops, rise, n);
-    levels::raise_heights(heights, short, rise, n);
+    let tops = levels::tops(model, constants, &weights, &bounds.heights, short);
+    let rise = levels::rise(&bounds.levels, &tops);
+    levels::raise_levels(&mut bounds.levels, &tops, rise, model.n);
+    levels::raise_heights(&mut bounds.heights, short, rise);
     rise
 }
 
 // The answer, from levels and heights that an assignment on the tight entries reaches.
-fn found(
-    n: usize,
-    a: usize,
-    rowpowers: &[u8],
-    levels: &[u16],
-    heights: &[u16],
-    s: Solution,
-) -> Degree
-    requires { Summed n a rowpowers.now levels.now heights.now × ((d : ℕ) × (d < 65536) × (d + total n (λ x. get_or heights.now x 0) ≡ total a (λ i. get_or rowpowers.now i 0) + total n (λ q. get_or levels.now q 0))) }
-    ensures { (result.constants ≡ s.constants) × (result.rows ≡ s.rows) × ((d : ℕ) → d + total n (λ x. get_or heights.now x 0) ≡ total a (λ i. get_or rowpowers.now i 0) + total n (λ q. get_or levels.now q 0) → result.degree ≡ d) }
+fn found(model: &PoweredModel<'_>, bounds: &Bounds, s: Solution) -> Degree
+    requires { Summed model.now.n model.now.a model.now.powers.rows.now bounds.now.levels bounds.now.heights × ((d : ℕ) × (d < 65536) × (d + total model.now.n (λ x. get_or bounds.now.heights x 0) ≡ total model.now.a (λ i. get_or model.now.powers.rows.now i 0) + total model.now.n (λ q. get_or bounds.now.levels q 0))) }
+    ensures { (result.constants ≡ s.constants) × (result.rows ≡ s.rows) × ((d : ℕ) → d + total model.now.n (λ x. get_or bounds.now.heights x 0) ≡ total model.now.a (λ i. get_or model.now.powers.rows.now i 0) + total model.now.n (λ q. get_or bounds.now.levels q 0) → result.degree ≡ d) }
 {
     let constants = s.constants;
     let rows = s.rows;
-    let most = levels::sum_powers(rowpowers, a) + levels::sum(levels, n);
-    let degree = (most - levels::sum(heights, n)) as u16;
+    let most = levels::sum_powers(model.powers.rows, model.a)
+        + levels::sum(&bounds.levels, model.n);
+    let degree = (most - levels::sum(&bounds.heights, model.n)) as u16;
     Degree {
         degree,
         constants,
@@ -105,74 +81,30 @@ fn found(
     }
 }
 
-pub fn descend(
-    p: u32,
-    n: usize,
-    a: usize,
-    b: usize,
-    constants: &mut [u16],
-    parameters: &[u64],
-    rowpowers: &[u8],
-    columnpowers: &[u8],
-    parameterpowers: &[u8],
-) -> Degree
-    requires { Ready p n a b constants.old (row_numbers parameters.now) rowpowers.now columnpowers.now parameterpowers.now × ((Q : ℕ → ℕ → (field_of p).F) × ConstantsShown p n a Q constants.old × (rank (layered (model_with p n a b Q (row_numbers parameters.now) rowpowers.now columnpowers.now parameterpowers.now)) ≡ n)) }
-    ensures { (Q : ℕ → ℕ → (field_of p).F) → ConstantsShown p n a Q constants.old → rank (layered (model_with p n a b Q (row_numbers parameters.now) rowpowers.now columnpowers.now parameterpowers.now)) ≡ n → DegreeAnswered (layered (model_with p n a b Q (row_numbers parameters.now) rowpowers.now columnpowers.now parameterpowers.now)) (listed_powers n rowpowers.now columnpowers.now parameterpowers.now) (degree_shown (Ok result)) }
+// The first levels and heights, over which every total stays.
+fn first_bounds(model: &PoweredModel<'_>, constants: &[u16]) -> Bounds
+    requires { ReadyModel model.now constants.now }
+    ensures { (Q : ℕ → ℕ → (field_of model.now.p).F) → ConstantsShown model.now.p model.now.n model.now.a Q constants.now → rank (layered (dynamic_of model.now Q)) ≡ model.now.n → DescendingModel model.now Q constants.now result 0 }
 {
-    let mut heights = levels::first_heights(columnpowers, parameters, parameterpowers, n, b);
-    let all = ColumnSet::below(n);
-    let weights = levels::weights(all, columnpowers, &heights, n);
-    let mut levels = levels::tops(
-        constants,
-        &weights,
-        parameters,
-        parameterpowers,
-        &heights,
-        all,
-        n,
-        a,
-        b,
-    );
+    let heights = levels::first_heights(model);
+    let all = ColumnSet::below(model.n);
+    let weights = levels::weights(all, model.powers.columns, &heights);
+    let levels = levels::tops(model, constants, &weights, &heights, all);
+    Bounds { levels, heights }
+}
+
+// The degree, and an assignment that reaches it. What the rounds have raised is counted, and is never much, so they end.
+pub fn descend(model: &PoweredModel<'_>, constants: &mut [u16]) -> Degree
+    requires { ReadyModel model.now constants.old × ((Q : ℕ → ℕ → (field_of model.now.p).F) × ConstantsShown model.now.p model.now.n model.now.a Q constants.old × (rank (layered (dynamic_of model.now Q)) ≡ model.now.n)) }
+    ensures { (Q : ℕ → ℕ → (field_of model.now.p).F) → ConstantsShown model.now.p model.now.n model.now.a Q constants.old → rank (layered (dynamic_of model.now Q)) ≡ model.now.n → DegreeAnswered (layered (dynamic_of model.now Q)) (powers_of model.now) (degree_shown (Ok result)) }
+{
+    let mut bounds = first_bounds(model, constants);
     let mut risen: u32 = 0;
-    let mut s = solve_tight(
-        p,
-        n,
-        a,
-        b,
-        constants,
-        parameters,
-        columnpowers,
-        parameterpowers,
-        &levels,
-        &heights,
-    );
-    while s.rank != n {
-        let rise = turn(
-            p,
-            n,
-            a,
-            b,
-            constants,
-            parameters,
-            columnpowers,
-            parameterpowers,
-            &mut levels,
-            &mut heights,
-            s.short,
-        );
-        risen = risen + rise as u32;
-        s = solve_tight(
-            p,
-            n,
-            a,
-            b,
-            constants,
-            parameters,
-            columnpowers,
-            parameterpowers,
-            &levels,
-            &heights,
-        );
+    loop {
+        let s = solve_tight(model, constants, &bounds);
+        if s.rank == model.n {
+            return found(model, &bounds, s);
+        }
+        risen = risen + u32::from(turn(model, constants, &mut bounds, s.short));
     }
-    found(n, a, rowpowers, &levels, &heights, s)
 }

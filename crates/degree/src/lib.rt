@@ -7,7 +7,6 @@ ghost use Rattle.std.proofs.Math.Option.{none};
 ghost use Rattle.limits.specs.Limits.{most_columns, most_rows, most_constants};
 ghost use Rattle.columns.specs.ColumnSets.{row_numbers};
 ghost use Rattle.rank.specs.Modulus.{field_of};
-ghost use Rattle.degrees.specs.Degrees.{listed_powers};
 ghost use Rattle.degrees.specs.Dynamics.{layered};
 ghost use Rattle.format.specs.Refused.{refusal_of};
 ghost use Rattle.format.specs.TestLaws.{Accepted};
@@ -15,11 +14,13 @@ ghost use Rattle.host.specs.AreaCall.{PutOver};
 ghost use Rattle.degree.specs.Shown.{degree_shown};
 ghost use Rattle.degree.specs.Answers.{DegreeAsked, DegreeModelCall, DegreeFileCall};
 ghost use Rattle.degree.specs.Bytes.{degree_length, degree_bytes};
-ghost use Rattle.degree.specs.Code.{model_with, ConstantsShown, FirstRefusal};
+ghost use Rattle.degree.specs.Code.{ConstantsShown, FirstRefusal};
+ghost use Rattle.degree.specs.States.{dynamic_of, powers_of};
 
 mod descent;
 mod levels;
 mod powers;
+mod state;
 
 use columns::{ColumnSet, MOST_WORDS};
 use exchange::solve;
@@ -27,6 +28,7 @@ use format::{Refusal, judge_model, put_set};
 use limits::{MOST_CONSTANTS, MOST_ROWS, NO_COLUMN, SET_BYTES};
 use loader::read_rows;
 use models::LentModel;
+use state::PoweredModel;
 
 // The degree; and an assignment that reaches it: the columns on the constant side, and the column of each parameter row,
 // `NO_COLUMN` for the rows that the model does not have.
@@ -62,43 +64,32 @@ fn areas_hold(n: usize, a: usize, b: usize, powers: &ModelPowers<'_>) -> bool
 }
 
 // The answer about a model that is judged, with areas of powers that hold them. The constants are changed.
-fn ask(
-    p: u32,
-    n: usize,
-    a: usize,
-    b: usize,
-    constants: &mut [u16],
-    parameters: &[u64],
-    powers: &ModelPowers<'_>,
-) -> Result<Degree, Refusal>
-    requires { Accepted p n a b constants.old (row_numbers parameters.now) none × (a ≤ length powers.now.rows.now) × (n ≤ length powers.now.columns.now) × (b * n ≤ length powers.now.parameters.now) }
-    ensures { (Q : ℕ → ℕ → (field_of p).F) → ConstantsShown p n a Q constants.old → DegreeAsked (layered (model_with p n a b Q (row_numbers parameters.now) powers.now.rows.now powers.now.columns.now powers.now.parameters.now)) (listed_powers n powers.now.rows.now powers.now.columns.now powers.now.parameters.now) (degree_shown result) }
+fn ask(model: &PoweredModel<'_>, constants: &mut [u16]) -> Result<Degree, Refusal>
+    requires { Accepted model.now.p model.now.n model.now.a model.now.b constants.old (row_numbers model.now.parameters.now) none × (model.now.a ≤ length model.now.powers.rows.now) × (model.now.n ≤ length model.now.powers.columns.now) × (model.now.b * model.now.n ≤ length model.now.powers.parameters.now) }
+    ensures { (Q : ℕ → ℕ → (field_of model.now.p).F) → ConstantsShown model.now.p model.now.n model.now.a Q constants.old → DegreeAsked (layered (dynamic_of model.now Q)) (powers_of model.now) (degree_shown result) }
 {
-    if a + b != n {
+    if model.a + model.b != model.n {
         return Err(Refusal::NoDegree);
     }
-    if !powers::are_low(parameters, powers, n, a, b) {
+    if !powers::are_low(model) {
         return Err(Refusal::NoDegree);
     }
-    let all = ColumnSet::below(n);
-    let model = LentModel::unnumbered(p, n, a, b, constants, parameters);
-    let Some(s) = solve(&model, all) else {
+    let all = ColumnSet::below(model.n);
+    let lent = LentModel::unnumbered(
+        model.p,
+        model.n,
+        model.a,
+        model.b,
+        constants,
+        model.parameters,
+    );
+    let Some(s) = solve(&lent, all) else {
         unreachable!()
     };
-    if s.rank != n {
+    if s.rank != model.n {
         return Err(Refusal::NoDegree);
     }
-    Ok(descent::descend(
-        p,
-        n,
-        a,
-        b,
-        constants,
-        parameters,
-        powers.rows,
-        powers.columns,
-        powers.parameters,
-    ))
+    Ok(descent::descend(model, constants))
 }
 
 // The first k constants.
@@ -138,15 +129,15 @@ pub fn model_degree(model: &LentModel<'_>, powers: &ModelPowers<'_>) -> Result<D
     }
     judged?;
     let mut constants = copied(model.constants, model.a * model.n);
-    ask(
-        model.p,
-        model.n,
-        model.a,
-        model.b,
-        &mut constants,
-        model.parameters,
-        powers,
-    )
+    let powered = PoweredModel {
+        p: model.p,
+        n: model.n,
+        a: model.a,
+        b: model.b,
+        parameters: model.parameters,
+        powers: *powers,
+    };
+    ask(&powered, &mut constants)
 }
 
 // The same of the model in a file, or the file's refusal.
@@ -159,15 +150,15 @@ pub fn file_degree(file: &[u8], powers: &ModelPowers<'_>) -> Result<Degree, Refu
     if !areas_hold(sizes.n, sizes.a, sizes.b, powers) {
         return Err(Refusal::AreaShort);
     }
-    ask(
-        sizes.p,
-        sizes.n,
-        sizes.a,
-        sizes.b,
-        &mut constants,
-        &parameters,
-        powers,
-    )
+    let powered = PoweredModel {
+        p: sizes.p,
+        n: sizes.n,
+        a: sizes.a,
+        b: sizes.b,
+        parameters: &parameters,
+        powers: *powers,
+    };
+    ask(&powered, &mut constants)
 }
 
 // The bytes of an answer: the degree in two, the constant side, and the column of each parameter row.

@@ -8,9 +8,8 @@ ghost use Rattle.rank.specs.ListedModel.{parameter_at};
 ghost use Rattle.degree.specs.Answers.{most_power};
 ghost use Rattle.degree.specs.Code.{lists_low};
 
-use crate::ModelPowers;
 use crate::levels::parameter_top;
-use columns::ColumnSet;
+use crate::state::PoweredModel;
 use limits::MOST_COLUMNS;
 
 // The largest power.
@@ -25,29 +24,26 @@ fn first_low(powers: &[u8], k: usize) -> bool
 }
 
 // Whether no parameter has a power above the largest; where there is none, the power is not read.
-fn parameters_low(parameters: &[u64], powers: &[u8], n: usize, b: usize) -> bool
-    requires { (n ≤ most_columns) × (b * n ≤ length powers.now) × ((r : ℕ) → r < b → within n (get_or (row_numbers parameters.now) r 0) ≡ true) }
-    ensures { result ≡ all b (λ r. all n (λ x. not (parameter_at (row_numbers parameters.now) r x) || leb (get_or powers.now (r * n + x) 0) most_power)) }
+fn parameters_low(model: &PoweredModel<'_>) -> bool
+    requires { (model.now.n ≤ most_columns) × (model.now.b * model.now.n ≤ length model.now.powers.parameters.now) × ((r : ℕ) → r < model.now.b → within model.now.n (get_or (row_numbers model.now.parameters.now) r 0) ≡ true) }
+    ensures { result ≡ all model.now.b (λ r. all model.now.n (λ x. not (parameter_at (row_numbers model.now.parameters.now) r x) || leb (get_or model.now.powers.parameters.now (r * model.now.n + x) 0) most_power)) }
 {
     let heights = [0u16; MOST_COLUMNS];
-    for r in 0..b {
-        let row = columns::row(parameters, r);
-        if parameter_top(row, powers, r * n, &heights, n) > MOST_POWER as u16 {
+    for r in 0..model.b {
+        let row = columns::row(model.parameters, r);
+        let top = parameter_top(row, model.powers.parameters, r * model.n, &heights);
+        if top > u16::from(MOST_POWER) {
             return false;
         }
     }
     true
 }
 
-pub fn are_low(parameters: &[u64], powers: &ModelPowers<'_>, n: usize, a: usize, b: usize) -> bool
-    requires { (a ≤ length powers.now.rows.now) × (n ≤ length powers.now.columns.now) × (n ≤ most_columns) × (b * n ≤ length powers.now.parameters.now) × ((r : ℕ) → r < b → within n (get_or (row_numbers parameters.now) r 0) ≡ true) }
-    ensures { result ≡ lists_low n a b (row_numbers parameters.now) powers.now.rows.now powers.now.columns.now powers.now.parameters.now }
+pub fn are_low(model: &PoweredModel<'_>) -> bool
+    requires { (model.now.a ≤ length model.now.powers.rows.now) × (model.now.n ≤ length model.now.powers.columns.now) × (model.now.n ≤ most_columns) × (model.now.b * model.now.n ≤ length model.now.powers.parameters.now) × ((r : ℕ) → r < model.now.b → within model.now.n (get_or (row_numbers model.now.parameters.now) r 0) ≡ true) }
+    ensures { result ≡ lists_low model.now.n model.now.a model.now.b (row_numbers model.now.parameters.now) model.now.powers.rows.now model.now.powers.columns.now model.now.powers.parameters.now }
 {
-    if !first_low(powers.rows, a) {
-        return false;
-    }
-    if !first_low(powers.columns, n) {
-        return false;
-    }
-    parameters_low(parameters, powers.parameters, n, b)
+    first_low(model.powers.rows, model.a)
+        && first_low(model.powers.columns, model.n)
+        && parameters_low(model)
 }

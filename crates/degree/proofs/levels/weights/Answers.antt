@@ -1,21 +1,20 @@
--- `degree::levels::weights` meets its contract. Assumes nothing.
-use Rattle.std.proofs.Common.{◌≡◌, ◌+◌, cond, arith, rules, get_or}
-use Rattle.columns.specs.Columns.{members}
-use Rattle.columns.specs.ColumnSets.{whole}
-use Rattle.degree.proofs.TopLaws.{filled_more}
+-- `degree::levels::weights` meets its contract: each turn weighs one column, and after the last none is left. Assumes nothing.
+use Rattle.std.proofs.Common.{ℕ, arith}
+use Rattle.std.proofs.Math.ListN.{length-replicate}
+use Rattle.limits.specs.Limits.{most_columns}
+use Rattle.columns.specs.Words.SetLaws.{nothing_in_none}
+use Rattle.degree.proofs.LevelLaws.{visited_more, visited_done, zeros}
 use Rattle.degree.proofs.levels.weights.Goals as goal
-
-pub loop-x-init : goal.loop-x-init
-loop-x-init c = (search rules, λ x l. absurd (omega arith))
 
 pub loop-x-preserved : goal.loop-x-preserved
 loop-x-preserved c =
-    let l = c.loop-x in
-    let a = c.args in
-    (search rules, filled_more (λ x w. w ≡ cond (members (whole a.set) x) (get_or a.powers.now x 0 + get_or a.heights.now x 0) 0) l.out l.x _ (omega (arith, l.invariant.0)) l.invariant.1 c.weight_at.ensures)
+    let turn = c.in-Some.ensures.steps in
+    let h = c.loop-x.invariant in
+    let there = c.requires c.in-Some.x (h.inside _ turn.there) in
+    rw turn.others (visited_more _ _ _ _ _ c.in-Some.x _ turn.there (omega (arith, there, h.same_length, length-replicate {A = ℕ} most_columns 0)) (omega arith) h)
 
 pub returns : goal.returns
 returns c =
-    let l = c.loop-x in
-    let done : l.x ≡ c.args.n = omega arith in
-    rw done at l.invariant.1
+    λ n x l.
+    let done = visited_done _ _ _ _ _ (nothing_in_none _ c.in-None.ensures.steps.0) c.loop-x.invariant x in
+    rw zeros at done
