@@ -12,13 +12,10 @@ pub fn is_zero_where_free(state: &State, model: &Admitted, x: usize) -> bool
     requires { Roomy model.now state.now × (x < model.now.n) }
     ensures { ZeroWhereFree model.now.n model.now.a x state.now.cells state.now.owner result }
 {
-    for q in 0..model.a {
-        let y = usize::from(state.owner[q]);
-        if y >= model.n && state.cells[q * STRIDE + x] != 0 {
-            return false;
-        }
-    }
-    true
+    (0..model.a).all(|q| {
+        let is_free = usize::from(state.owner[q]) >= model.n;
+        !is_free || state.cells[q * STRIDE + x] == 0
+    })
 }
 
 // At the owner of each row the entry of column x there, and 0 at every other column.
