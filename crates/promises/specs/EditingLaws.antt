@@ -21,7 +21,7 @@ use Rattle.rank.specs.Layered.Rank.{placed, verdict}
 use Rattle.rank.proofs.Theorems.{placed_has_a_legal_assignment}
 use Rattle.rank.proofs.Layered.ColumnOrder.{placed_below}
 use Rattle.listed_models.specs.ListedModel.{listed_at}
-use Rattle.format.specs.Refusals.{unless, first_refusal, row_beyond, row_test, refusal}
+use Rattle.format.specs.Refusals.{unless, first_refusal, row_beyond, row_test}
 use Rattle.format.specs.RefusalLaws.{where_refused, accepted_value, unless_zero}
 use Rattle.format.specs.TestLaws.{row_reads}
 use Rattle.layered.specs.Shown.{Answer}

@@ -1,6 +1,6 @@
 -- The numbers of an accepted model's parameters: each names one place, no other entry of their area counts, and without them the model is the same. Assumes nothing.
 use Prim.Native.Nat.{ℕ, zero, suc, ◌+◌, ◌-◌, ◌*◌, ◌≤◌, ◌<◌}
-use Rattle.std.specs.Prelude.{◌≡◌, false, not, length, get_or, take, drop, eqb}
+use Rattle.std.specs.Prelude.{◌≡◌, not, length, get_or, take, drop, eqb}
 use Rattle.std.proofs.Math.Path.{refl, sym, ap, ap₂}
 use Rattle.std.proofs.Common.{◌∙◌, ⊎_elim, zero-mul, mul-le-mul_right, length-take, length-drop, get_or-take, get_or-drop, take-take, eqb-true, eq-eqb}
 use Rattle.std.proofs.Math.Bool.{true, cond}

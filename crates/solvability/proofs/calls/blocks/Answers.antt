@@ -1,6 +1,6 @@
 -- `calls::blocks`: the file is answered, and then its answer written.
 use Rattle.std.specs.Prelude.{[], Ok}
-use Rattle.std.proofs.Common.{rules, arith, refl, sym, ◌∙◌, length}
+use Rattle.std.proofs.Common.{refl, sym}
 use Rattle.std.proofs.lemmas.Result.{err_from_is_err_and}
 use Rattle.format.proofs.Refused.{refusal_some}
 use Rattle.layered.specs.FileModel.{file_model}

@@ -1,6 +1,6 @@
 -- `calls::multipliers`: both areas are tested, the file answered, and then its answer written.
-use Rattle.std.specs.Prelude.{[], Ok}
-use Rattle.std.proofs.Common.{rules, arith, refl, sym, ap, ◌∙◌, ◌≡◌, ◌≤◌, ℕ, List, true, length, take}
+use Rattle.std.specs.Prelude.{Ok}
+use Rattle.std.proofs.Common.{arith, sym, ap, ◌∙◌, ◌≡◌, ◌≤◌, ℕ, List, true, length, take}
 use Rattle.std.proofs.lemmas.Result.{err_from_is_err_and}
 use Rattle.format.proofs.Refused.{refusal_some}
 use borrow.Author.Tests.{lt-leb}
@@ -8,7 +8,6 @@ use lib.Seq.{take_all, length-take-le}
 use Rattle.limits.specs.Limits.{set_bytes}
 use Rattle.columns.specs.Bytes.{number}
 use Rattle.columns.specs.Columns.{room_bytes, members}
-use Rattle.columns.specs.ColumnSets.{whole}
 use Rattle.format.specs.Refusals.{unless, area_short, area_test}
 use Rattle.format.specs.RefusalLaws.{then_zero, zero_then, zero_unless}
 use Rattle.format.specs.TestLaws.{area_reads}
