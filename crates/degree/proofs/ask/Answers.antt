@@ -18,9 +18,6 @@ use Rattle.format.specs.declared.refusals.Refusal.TheVariants.{NoDegree}
 use Rattle.degree.proofs.ask.Goals.{After-solve, In-Some, Else-s-model}
 use Rattle.degree.proofs.ask.Goals as goal
 
-pub overflow_add-model : goal.overflow_add-model
-overflow_add-model c = let h = c.requires.0 in omega (arith, h.a_most, h.b_most)
-
 pub returns-then-model : goal.returns-then-model
 returns-then-model c =
     let m = c.args.model.now in
