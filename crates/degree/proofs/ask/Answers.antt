@@ -21,7 +21,7 @@ use Rattle.degree.proofs.ask.Goals as goal
 pub returns-then-model : goal.returns-then-model
 returns-then-model c =
     let m = c.args.model.now in
-    λ Q shown. call_refused (rows_refused m.p m.n m.a m.b Q (row_numbers m.parameters.now) m.powers.rows.now m.powers.columns.now m.powers.parameters.now c.if-model.true) (λ z. omega arith) (degree_refused NoDegree)
+    λ Q shown. call_refused (rows_refused m.p m.n m.a m.b Q (row_numbers m.parameters.now) m.powers.rows.now m.powers.columns.now m.powers.parameters.now (λ e. absurd (omega arith))) (λ z. omega arith) (degree_refused NoDegree)
 
 pub are_low-requires : goal.are_low-requires
 are_low-requires c = let h = c.requires.0 in (c.requires.1, c.requires.2, h.n_most, c.requires.3, accepted_within h)
