@@ -10,8 +10,7 @@ use native.Mathlib.Omega.{arith}
 use native.Mathlib.Decide.{ℕ_discrete, dec_lt}
 use lib.ListN.{length, get_or, take, drop}
 use lib.ListN as ListN
-use Rattle.std.proofs.Common.{length-drop}
-use lib.Seq.{get_or-set_same, get_or-set_other, get_or-take, get_or-drop, length-take-le}
+use lib.Seq.{get_or-set_same, get_or-set_other}
 use borrow.Author.Tests.{le-leb, leb-true}
 use Rattle.counting.specs.Bools.{not_true, implied, implies}
 use Rattle.counting.specs.Sets.{Set, all, ◌∈◌, ◌⊆◌}
@@ -55,17 +54,6 @@ top_as to from h = record {
   bounds = λ x m e. h.bounds x m (from x e);
   reached = λ z. let w = h.reached z in (w.0, w.1, (to w.0 w.2.0, w.2.1));
 }
-
--- of a row of constants that is lent alone
-pub top_of_row : {n k : ℕ} (from : ℕ) (cs : List ℕ) {f : ℕ → ℕ} {t : ℕ} → k ≡ n → from + n ≤ length cs
-    → Top (length (take k (drop from cs))) (λ x. get_or (take k (drop from cs)) x 0 ≢ 0) f t → Top n (λ x. get_or cs (from + x) 0 ≢ 0) f t
-top_of_row {n} {k} from cs {f} {t} e room h =
-    let long : length (take k (drop from cs)) ≡ n = rw e (length-take-le n (drop from cs) (omega (arith, length-drop from cs))) in
-    let same : (x : ℕ) → x < n → get_or (take k (drop from cs)) x 0 ≡ get_or cs (from + x) 0 = λ x l. get_or-take k (drop from cs) x 0 (omega arith) ∙ get_or-drop from cs x 0 in
-    record {
-      bounds = λ x l nz. h.bounds x (omega (arith, long)) (λ z. nz (sym (same x l) ∙ z));
-      reached = λ z. let w = h.reached z in let l : w.0 < n = omega (arith, w.1, long) in (w.0, l, ((λ q. w.2.0 (same w.0 l ∙ q)), w.2.1));
-    }
 
 -- ---- the largest of a set
 

@@ -69,14 +69,12 @@ fn found(model: &PoweredModel<'_>, bounds: &Bounds, s: Solution) -> Degree
     requires { Summed model.now.n model.now.a model.now.powers.rows.now bounds.now.levels bounds.now.heights × ((d : ℕ) × (d < 65536) × (d + total model.now.n (λ x. get_or bounds.now.heights x 0) ≡ total model.now.a (λ i. get_or model.now.powers.rows.now i 0) + total model.now.n (λ q. get_or bounds.now.levels q 0))) }
     ensures { (result.constants ≡ s.constants) × (result.rows ≡ s.rows) × ((d : ℕ) → d + total model.now.n (λ x. get_or bounds.now.heights x 0) ≡ total model.now.a (λ i. get_or model.now.powers.rows.now i 0) + total model.now.n (λ q. get_or bounds.now.levels q 0) → result.degree ≡ d) }
 {
-    let constants = s.constants;
     let rows = s.rows;
     let most = levels::sum_powers(model.powers.rows, model.a)
         + levels::sum(&bounds.levels, model.n);
-    let degree = (most - levels::sum(&bounds.heights, model.n)) as u16;
     Degree {
-        degree,
-        constants,
+        degree: (most - levels::sum(&bounds.heights, model.n)) as u16,
+        constants: s.constants,
         rows,
     }
 }

@@ -71,6 +71,7 @@ fn line_top(
     parameter_top(row, model.powers.parameters, r * model.n, heights)
 }
 
+// The tops of all rows over the set.
 pub fn tops(
     model: &PoweredModel<'_>,
     constants: &[u16],
@@ -109,6 +110,7 @@ pub fn rise(levels: &[u16], tops: &[u16]) -> u16
     least
 }
 
+// The level of a row with this top over the set, when those that touch the set are raised.
 #[tactic(auto, unfolding(crate::specs::Code::touches))]
 fn raised_level(level: u16, top: u16, rise: u16) -> u16
     requires { level + rise < 65536 }
@@ -120,6 +122,7 @@ fn raised_level(level: u16, top: u16, rise: u16) -> u16
     level
 }
 
+// The levels of the rows that touch the set are raised.
 pub fn raise_levels(levels: &mut [u16], tops: &[u16], rise: u16, lines: usize)
     requires { (lines ≤ length levels.old) × (lines ≤ length tops.now) × ((q : ℕ) → q < lines → get_or levels.old q 0 + rise < 65536) }
     ensures { LevelsRaised lines tops.now rise levels.old levels.new }
@@ -129,6 +132,7 @@ pub fn raise_levels(levels: &mut [u16], tops: &[u16], rise: u16, lines: usize)
     }
 }
 
+// The heights on the set are raised.
 pub fn raise_heights(heights: &mut [u16], set: ColumnSet, rise: u16)
     requires { (x : ℕ) → x ∈ members (whole set) → (x < length heights.old) × (get_or heights.old x 0 + rise < 65536) }
     ensures { (n : ℕ) → HeightsRaised n (members (whole set)) rise heights.old heights.new }
@@ -180,6 +184,7 @@ fn at_level(row: ColumnSet, powers: &[u8], from: usize, heights: &[u16], level: 
     kept
 }
 
+// The tight entries of the parameters.
 pub fn tight_parameters(model: &PoweredModel<'_>, bounds: &Bounds) -> [u64; MOST_WORDS]
     requires { (model.now.n ≤ most_columns) × (model.now.b ≤ most_rows) × (model.now.a + model.now.b ≤ most_columns) × ((r : ℕ) → r < model.now.b → within model.now.n (get_or (row_numbers model.now.parameters.now) r 0) ≡ true) × (model.now.b * model.now.n ≤ length model.now.powers.parameters.now) × ((x : ℕ) → x < model.now.n → get_or bounds.now.heights x 0 ≤ 60000) }
     ensures { TightParameters model.now.n model.now.a model.now.b (row_numbers model.now.parameters.now) model.now.powers.parameters.now bounds.now.heights bounds.now.levels (row_numbers result) }
@@ -198,7 +203,7 @@ pub fn tight_parameters(model: &PoweredModel<'_>, bounds: &Bounds) -> [u64; MOST
     out
 }
 
-// The sum of the first k numbers.
+// The sum of the first k numbers,
 pub fn sum(numbers: &[u16], k: usize) -> u32
     requires { (k ≤ length numbers.now) × (k ≤ most_columns) × ((i : ℕ) → i < k → get_or numbers.now i 0 ≤ 65535) }
     ensures { result ≡ total k (λ i. get_or numbers.now i 0) }
@@ -206,6 +211,7 @@ pub fn sum(numbers: &[u16], k: usize) -> u32
     numbers[..k].iter().map(|number| u32::from(*number)).sum()
 }
 
+// and of the first k powers.
 pub fn sum_powers(powers: &[u8], k: usize) -> u32
     requires { (k ≤ length powers.now) × (k ≤ most_columns) × ((i : ℕ) → i < k → get_or powers.now i 0 ≤ 15) }
     ensures { result ≡ total k (λ i. get_or powers.now i 0) }
@@ -221,6 +227,7 @@ fn lower(height: u16, power: u8) -> u16
     height.min(16 - u16::from(power))
 }
 
+// The heights at which no power of the row stands above 16.
 fn lower_row(heights: &mut [u16], row: ColumnSet, powers: &[u8], from: usize)
     requires { (length heights.old ≡ most_columns) × ((x : ℕ) → x ∈ members (whole row) → (x < most_columns) × (from + x < length powers.now) × (get_or powers.now (from + x) 0 ≤ 15)) × Low most_columns heights.old }
     ensures { (length heights.new ≡ length heights.old) × Low most_columns heights.new }

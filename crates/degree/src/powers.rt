@@ -39,6 +39,7 @@ fn parameters_low(model: &PoweredModel<'_>) -> bool
     true
 }
 
+// Whether no power that is read is above the largest.
 pub fn are_low(model: &PoweredModel<'_>) -> bool
     requires { (model.now.a ≤ length model.now.powers.rows.now) × (model.now.n ≤ length model.now.powers.columns.now) × (model.now.n ≤ most_columns) × (model.now.b * model.now.n ≤ length model.now.powers.parameters.now) × ((r : ℕ) → r < model.now.b → within model.now.n (get_or (row_numbers model.now.parameters.now) r 0) ≡ true) }
     ensures { result ≡ lists_low model.now.n model.now.a model.now.b (row_numbers model.now.parameters.now) model.now.powers.rows.now model.now.powers.columns.now model.now.powers.parameters.now }

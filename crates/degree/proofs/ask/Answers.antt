@@ -18,13 +18,10 @@ use Rattle.format.specs.declared.refusals.Refusal.TheVariants.{NoDegree}
 use Rattle.degree.proofs.ask.Goals.{After-solve, In-Some, Else-s-model}
 use Rattle.degree.proofs.ask.Goals as goal
 
-pub overflow_add-model : goal.overflow_add-model
-overflow_add-model c = let h = c.requires.0 in omega (arith, h.a_most, h.b_most)
-
 pub returns-then-model : goal.returns-then-model
 returns-then-model c =
     let m = c.args.model.now in
-    λ Q shown. call_refused (rows_refused m.p m.n m.a m.b Q (row_numbers m.parameters.now) m.powers.rows.now m.powers.columns.now m.powers.parameters.now c.if-model.true) (λ z. omega arith) (degree_refused NoDegree)
+    λ Q shown. call_refused (rows_refused m.p m.n m.a m.b Q (row_numbers m.parameters.now) m.powers.rows.now m.powers.columns.now m.powers.parameters.now (λ e. absurd (omega arith))) (λ z. omega arith) (degree_refused NoDegree)
 
 pub are_low-requires : goal.are_low-requires
 are_low-requires c = let h = c.requires.0 in (c.requires.1, c.requires.2, h.n_most, c.requires.3, accepted_within h)

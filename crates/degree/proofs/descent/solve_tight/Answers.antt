@@ -1,8 +1,7 @@
 -- `degree::descent::solve_tight`: the tight part is a model, and the solver's answer is its.
 use Rattle.std.proofs.Common.{rules, arith, ◌≡◌, ℕ, ◌<◌, ◌≤◌, length, get_or, true, sym, ap, ◌∙◌}
 use mathlib.Core.Bool.{true≢false}
-use native.Mathlib.Nat.{mul-le-mul}
-use Rattle.limits.specs.Limits.{most_rows, most_columns, most_constants}
+use Rattle.limits.specs.Limits.{most_rows, most_constants}
 use Rattle.counting.specs.Sets.{Set}
 use Rattle.columns.specs.ColumnSets.{row_numbers}
 use Rattle.columns.specs.Words.Rows.{most_words_rows}
@@ -24,15 +23,6 @@ weights-weights-requires c =
     λ x e.
     let l : x < n = (upto_iff n x (omega (arith, d.ready.columns))).0 (sym (ap (λ (S : Set). S x) c.below-all.ensures) ∙ e) in
     (omega (arith, l, d.ready.columns), omega (arith, l, d.ready.column_powers_lent), omega (arith, l, d.height_count, d.ready.columns), low (goal.at.weights-weights-requires c).Start x l)
-
-pub tight_constants-requires : goal.tight_constants-requires
-tight_constants-requires c =
-    let m = c.args.model.now in
-    let d = c.requires.2 in
-    let rows : m.a ≤ most_rows = omega (arith, d.ready.square, d.ready.columns) in
-    let few = mul-le-mul {n₂ = most_rows} {m₂ = most_columns} rows d.ready.columns in
-    let many : length c.weights-weights.result ≡ most_columns = search (rules, c.weights-weights.type_inv) in
-    (d.ready.columns, rows, few, d.ready.constants_lent, omega (arith, many, d.ready.columns), omega (arith, d.level_count, d.ready.square, d.ready.columns))
 
 pub tight_parameters-rows-requires : goal.tight_parameters-rows-requires
 tight_parameters-rows-requires c =

@@ -14,9 +14,6 @@ use Rattle.degree.proofs.levels.first_heights.Goals as goal
 pub loop-r-init : goal.loop-r-init
 loop-r-init c = record { same_length = search rules; low = low_start most_columns (omega arith) }
 
-pub overflow_mul-r : goal.overflow_mul-r
-overflow_mul-r c = let m = c.args.model.now in omega (arith, row_within c.loop-r.r m.b m.n (omega arith), c.requires.1.powers_lent)
-
 pub lower_row-requires : goal.lower_row-requires
 lower_row-requires c =
     let m = c.args.model.now in
@@ -40,6 +37,3 @@ lower_row-requires-2 c =
       (λ x e. let z : 0 + x ≡ x = omega arith in (omega (arith, below x e, d.columns), omega (arith, below x e, d.column_powers_lent), rw z (d.column_powers_low x (below x e)))),
       c.loop-r.invariant.low,
     )
-
-pub returns : goal.returns
-returns c = λ x l. c.lower_row-2.ensures.1 x (omega (arith, c.requires.1.columns))

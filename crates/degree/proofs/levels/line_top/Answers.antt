@@ -1,20 +1,14 @@
 -- `degree::levels::line_top` meets its contract, by what the tops of both kinds ensure. Assumes nothing.
 use Rattle.std.proofs.Common.{ℕ, ◌≡◌, ◌≤◌, ◌<◌, ◌+◌, ◌*◌, ◌-◌, arith, sym, ap, ◌∙◌, subst, get_or}
-use native.Mathlib.Nat.{mul-le-mul}
-use Rattle.limits.specs.Limits.{most_columns}
 use Rattle.counting.specs.Bools.{and_in, and_left, and_right}
 use Rattle.counting.specs.Sets.{Set, ◌∩◌, ◌∈◌}
 use Rattle.columns.specs.Columns.{members}
 use Rattle.columns.specs.ColumnSets.{whole, row_numbers}
 use Rattle.exchange.proofs.CellLaws.{row_within}
 use Rattle.degree.specs.Code.{Top, ParameterRow}
-use Rattle.degree.proofs.TopLaws.{top_as, top_of_row, within_part}
-use Rattle.degree.proofs.levels.line_top.Goals.{Start, After-intersection-row}
+use Rattle.degree.proofs.TopLaws.{top_as, within_part}
+use Rattle.degree.proofs.levels.line_top.Goals.{After-intersection-row}
 use Rattle.degree.proofs.levels.line_top.Goals as goal
-
--- the place of a row of n entries
-few : (c : Start) (q : ℕ) → q < c.args.model.now.a + c.args.model.now.b → q * c.args.model.now.n ≤ most_columns * most_columns
-few c q l = mul-le-mul {n₂ = most_columns} {m₂ = most_columns} (omega (arith, c.requires.0.lines)) c.requires.0.columns
 
 -- the columns of the row in the set
 met : (c : After-intersection-row) (x : ℕ) → let m = c.args.model.now in
@@ -35,15 +29,6 @@ row_lent c l =
       heights_lent = lines.heights_lent;
       heights_low = lines.heights_low;
     }
-
-pub overflow_mul-from : goal.overflow_mul-from
-overflow_mul-from c = omega (arith, few (goal.at.overflow_mul-from c).Start c.args.q c.requires.1)
-
-pub returns-then-q-model : goal.returns-then-q-model
-returns-then-q-model c = ((λ l. top_of_row _ _ (omega arith) (omega (arith, row_within c.args.q c.args.model.now.a c.args.model.now.n l, c.requires.0.constants_lent)) c.constant_top.ensures), λ r e. absurd (omega arith))
-
-pub overflow_mul-r : goal.overflow_mul-r
-overflow_mul-r c = omega (arith, few (goal.at.overflow_mul-r c).Start (c.args.q - c.args.model.now.a) (omega (arith, c.requires.1)))
 
 pub parameter_top-requires : goal.parameter_top-requires
 parameter_top-requires c = (c.args.model.now.n, row_lent (goal.at.parameter_top-requires c).After-intersection-row c.if-q-model.false)

@@ -24,9 +24,6 @@ row_lent c =
       heights_low = s.5;
     }
 
-pub overflow_mul-r : goal.overflow_mul-r
-overflow_mul-r c = let m = c.args.model.now in omega (arith, row_within c.loop-r.r m.b m.n (omega arith), c.requires.4)
-
 pub at_level-row-requires : goal.at_level-row-requires
 at_level-row-requires c = (c.args.model.now.n, row_lent (goal.at.at_level-row-requires c).After-row)
 

@@ -1,5 +1,5 @@
 -- `degree::levels::tops` meets its contract: each turn writes the top of one row. Assumes nothing.
-use Rattle.std.proofs.Common.{◌+◌, ◌∙◌, arith, refl}
+use Rattle.std.proofs.Common.{◌∙◌, arith}
 use Rattle.std.proofs.Math.ListN.{length-set}
 use Rattle.columns.specs.Columns.{members}
 use Rattle.columns.specs.ColumnSets.{whole, row_numbers}
@@ -17,8 +17,3 @@ loop-q-preserved c =
       done = filled_more (LineTop m.n m.a a.constants.now (row_numbers m.parameters.now) m.powers.parameters.now (members (whole a.set)) a.weights.now a.heights.now) l.out l.q _
           (omega (arith, l.invariant.same_length, c.requires.lines)) l.invariant.done c.line_top.ensures;
     }
-
-pub returns : goal.returns
-returns c =
-    let h = c.loop-q.invariant in
-    record { constants = λ h' m. (h.done h' (omega arith)).0 m; parameters = λ r m. (h.done (c.args.model.now.a + r) (omega arith)).1 r refl }

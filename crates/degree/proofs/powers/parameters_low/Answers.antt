@@ -22,7 +22,7 @@ row_lent c =
     let l : c.loop-r.r < m.b = omega arith in
     record {
       columns = c.requires.0;
-      row_within = ap (within m.n) c.row-row.ensures ∙ c.requires.2 c.loop-r.r l;
+      row_within = ap (within m.n) c.row-row.ensures ∙ c.requires.2 _ (omega arith);
       powers_lent = omega (arith, row_within c.loop-r.r m.b m.n l, c.requires.1);
       heights_lent = c.requires.0;
       heights_low = λ x k. omega (arith, zeros most_columns x);
