@@ -16,7 +16,7 @@ use Rattle.columns.specs.Bytes.{bytes_of}
 use Rattle.columns.specs.Columns.{members}
 use Rattle.columns.specs.ColumnSets.{whole, set_of}
 use Rattle.columns.specs.declared.ColumnSet.{ColumnSet}
-use Rattle.rank.specs.Layered.Model.{Model, Seat, out, constant, row, Assignment, is_placed, is_constant, constants, Legal, legal}
+use Rattle.rank.specs.Layered.Model.{Model, Seat, out, constant, row, Assignment, is_placed, is_constant, Legal, legal}
 use Rattle.rank.proofs.Layered.Meaning.{true_legal}
 use Rattle.listed_models.specs.ListedModel.{listed_model}
 use Rattle.degrees.specs.Degrees.{Powers, AllPlaced, degree, listed_powers, weight}
