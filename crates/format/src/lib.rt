@@ -15,5 +15,5 @@ pub use content::{parameters_within, two};
 pub use handed_over::judge_model;
 pub use header::{Header, judge_file, read_header, read_unnumbered_header};
 pub use judge::is_numbered;
-pub use refusals::Refusal;
+pub use refusals::{Refusal, number};
 pub use sets::{put_set, put_set_front};

@@ -1,6 +1,6 @@
 // The refusals, by their causes.
 ghost use Rattle.std.specs.Prelude.{◌≡◌};
-ghost use Rattle.format.specs.Refused.{refusal_number};
+ghost use Rattle.format.specs.Refused.{refusal_number, refusal_of};
 
 // Why a call refuses. Each refusal has a number, from 1; 0 says that nothing is refused.
 #[derive(Clone, Copy, PartialEq, Eq)]
@@ -50,5 +50,15 @@ impl From<Refusal> for u32 {
             Refusal::AlreadySo => 14,
             Refusal::NoDegree => 16,
         }
+    }
+}
+
+// The number of what a call gives: 0, or that of the refusal.
+pub fn number(given: Result<(), Refusal>) -> u32
+    ensures { result ≡ refusal_of given }
+{
+    match given {
+        Ok(()) => 0,
+        Err(refusal) => u32::from(refusal),
     }
 }

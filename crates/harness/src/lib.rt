@@ -17,7 +17,7 @@ use blocks::{model_blocks, put_blocks};
 use columns::ColumnSet;
 use degree::{ModelPowers, model_degree, put_degree};
 use editing::{edit_model, name_edit, open_answer, open_model};
-use format::{Refusal, put_set};
+use format::{Refusal, number, put_set};
 use host::{put_answer, put_mixed};
 use layered::layered_rank;
 use limits::SET_BYTES;
@@ -51,16 +51,6 @@ fn lent_model<'a>(
         constants,
         parameters,
         numbers,
-    }
-}
-
-// The number that says whether a call was refused, and why.
-fn number(given: Result<(), Refusal>) -> u32
-    ensures { result ≡ refusal_of given }
-{
-    match given {
-        Ok(()) => 0,
-        Err(refusal) => u32::from(refusal),
     }
 }
 

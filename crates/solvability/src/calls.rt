@@ -14,23 +14,13 @@ use blocks::{file_blocks, put_blocks};
 use columns::ColumnSet;
 use degree::{DEGREE_LENGTH, ModelPowers, file_degree, put_degree};
 use editing::{answer_area, edit_area, judge_area, open_area};
-use format::{Refusal, judge_file};
+use format::{Refusal, judge_file, number};
 use host::{ANSWER_LENGTH, MIXED_LENGTH, put_answer, put_mixed};
 use layered::layered_file;
 use limits::SET_BYTES;
 use mixed::mixed_file;
 use multipliers::{MULTIPLIERS_LENGTH, file_multipliers, put_multipliers};
 use reason::{REASON_LENGTH, file_reason, put_reason};
-
-// 0, or the number of the refusal.
-fn number(given: Result<(), Refusal>) -> u32
-    ensures { result ≡ refusal_of given }
-{
-    match given {
-        Ok(()) => 0,
-        Err(refusal) => u32::from(refusal),
-    }
-}
 
 // Judges the file, then the area; where both are accepted, writes the answer to the layered model over the front of the area.
 pub fn wundreska_check(file: &[u8], answer: &mut [u8]) -> u32
