@@ -7,6 +7,7 @@ use mathlib.Core.List.{List, [], ◌∷◌}
 use native.Mathlib.Decide.{ℕ_discrete}
 use borrow.Author.Tests.{eq-eqb, ne_eqb}
 use native.Mathlib.Omega.{arith}
+use denote.Ref.{Bor}
 use lib.ListN.{get_or, take}
 use Rattle.std.specs.Prelude.{Result, Ok, Err, IsErrAnd}
 use Rattle.std.proofs.lemmas.Result.{err_from_is_err_and}
@@ -182,7 +183,10 @@ header_accepted s e = sym (said_passed _ 0 (sym e) refl)
 pub two_body : (s b : List ℕ) → b ≡ take 2 s → get_or b 0 0 + 256 * get_or b 1 0 ≡ number b
 two_body s b e = rw e (two_number s)
 
-module _ {A : Type 0} (rows : ℕ → ℕ × ℕ × ℕ → Piece A) (s : List ℕ) where
+module _ {A : Type 0} (rows : ℕ → ℕ × ℕ × ℕ → Piece A) (file : Bor (List ℕ)) where
+  abbrev s : List ℕ
+  s = file.now
+
   abbrev size_part : ℕ → Piece ((ℕ × ℕ × ℕ) × A)
   size_part p = seq sizes_field (λ z. rows p z)
 
@@ -192,23 +196,23 @@ module _ {A : Type 0} (rows : ℕ → ℕ × ℕ × ℕ → Piece A) (s : List �
   pub prime_refused : (e : Refusal) → refusal_number e ≡ first_refusal (prime_field.tests s) → refusal_number e ≡ first_refusal (closed whole_file s)
   prime_refused e q = seq_refused prime_field size_part s _ q (refused_some e)
 
-  module _ {p : ℕ} {sizes : Reader} (i : Judgement (prime_field.tests s) (PrimeRead s) (Ok (p, sizes))) where
+  module _ {p : ℕ} {sizes : Reader} (i : Judgement (prime_field.tests s) (PrimeRead file) (Ok (p, sizes))) where
     pub sizes_refused : (e : Refusal) → refusal_number e ≡ first_refusal (sizes_field.tests sizes.rest.now) → refusal_number e ≡ first_refusal (closed whole_file s)
     sizes_refused e q =
-        let r = rw i.given.rest_is at q in
+        let r = rw i.given.rest_is.bytes_are at q in
         seq_passed prime_field size_part s _ (sym i.refusal_is) (seq_refused sizes_field (λ z. rows (prime_field.dec s) z) (second s) _ r (refused_some e))
 
-    module _ {h : Header} {behind : Reader} (j : Judgement (sizes_field.tests sizes.rest.now) (SizesRead p sizes.rest.now) (Ok (h, behind))) where
+    module _ {h : Header} {behind : Reader} (j : Judgement (sizes_field.tests sizes.rest.now) (SizesRead p sizes.rest) (Ok (h, behind))) where
       pub said_p : h.p ≡ prime_field.dec s
       said_p = j.given.p_is ∙ i.given.p_is
 
       pub said_sizes : (h.n, h.a, h.b) ≡ sizes_field.dec (second s)
-      said_sizes = j.given.sizes_are ∙ ap sizes_field.dec i.given.rest_is
+      said_sizes = j.given.sizes_are ∙ ap sizes_field.dec i.given.rest_is.bytes_are
 
       pub heads_passed : (k : ℕ) → k ≡ first_refusal (closed (rows h.p (h.n, h.a, h.b)) behind.rest.now) → k ≡ first_refusal (closed whole_file s)
       heads_passed k q =
-          let t = j.given.rest_is ∙ ap sizes_field.rest i.given.rest_is in
-          let z : first_refusal (sizes_field.tests (second s)) ≡ 0 = ap (λ (u : List ℕ). first_refusal (sizes_field.tests u)) (sym i.given.rest_is) ∙ sym j.refusal_is in
+          let t = j.given.rest_is.bytes_are ∙ ap sizes_field.rest i.given.rest_is.bytes_are in
+          let z : first_refusal (sizes_field.tests (second s)) ≡ 0 = ap (λ (u : List ℕ). first_refusal (sizes_field.tests u)) (sym i.given.rest_is.bytes_are) ∙ sym j.refusal_is in
           let r : first_refusal (closed (rows h.p (h.n, h.a, h.b)) behind.rest.now) ≡ first_refusal (closed (rows (prime_field.dec s) (sizes_field.dec (second s))) (third s)) =
           rw (said_p, said_sizes, t) refl in
           seq_passed prime_field size_part s k (sym i.refusal_is) (seq_passed sizes_field (λ y. rows (prime_field.dec s) y) (second s) k z (q ∙ r))

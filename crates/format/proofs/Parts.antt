@@ -8,6 +8,7 @@ use lib.ListN.{length, take, drop, length-drop}
 use lib.Seq.{drop-drop, drop-nil}
 use Rattle.format.specs.ListLaws.{tail_part}
 use Rattle.format.specs.Refusals.{head_bytes, said_length}
+use Rattle.format.specs.File.Format.{parameter_tag, parameter_body, parameter_row}
 use Rattle.format.specs.File.Piece.{Body, Piece, field, many_rest, said_rest, said_rests, PartAt, LastPart}
 
 -- u is what s holds from some place on
@@ -81,3 +82,9 @@ part_next {u} {holds} {lent} {m} {r} p f k h e q area start =
 -- a front of a part is a part that starts there
 pub part_front : {start : ℕ} {u holds : List ℕ} {lent m r : Bor (List ℕ)} → PartAt start u lent m → r.now ≡ holds → r.ref_ptr.0 ≡ m.ref_ptr.0 → r.ref_ptr.1 ≡ m.ref_ptr.1 → PartAt start holds lent r
 part_front p e area start = record { bytes_are = e; same_area = area ∙ p.same_area; start_is = start ∙ p.start_is; length_is = ap length e }
+
+-- what follows a parameter row
+module _ (n : ℕ) where
+  pub row_ends : (s : List ℕ) → Ends ((parameter_row n).rest s) s
+  unfolding parameter_row
+  row_ends s = field_ends parameter_tag (parameter_body n) s

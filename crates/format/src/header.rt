@@ -22,7 +22,7 @@ pub struct Header {
 
 // The field of p: p, and what follows the field.
 pub fn prime_field(file: &[u8]) -> Result<(u32, &[u8]), Refusal>
-    ensures { Judgement (prime_field.tests file.now) (PrimeParts file.now) result }
+    ensures { Judgement (prime_field.tests file.now) (PrimeParts file.entry) result }
 {
     let (body, rest) = judge_head(file, PRIME_TAG, PRIME_BYTES)?;
     let p = two(body[0], body[1]);
@@ -34,7 +34,7 @@ pub fn prime_field(file: &[u8]) -> Result<(u32, &[u8]), Refusal>
 
 // The field of n, a, b, in a file of this p: the header, and what follows the field.
 pub fn sizes_field(sizes: &[u8], p: u32) -> Result<(Header, &[u8]), Refusal>
-    ensures { Judgement (sizes_field.tests sizes.now) (SizesParts p sizes.now) result }
+    ensures { Judgement (sizes_field.tests sizes.now) (SizesParts p sizes.entry) result }
 {
     let (body, rest) = judge_head(sizes, SIZES_TAG, SIZES_BYTES)?;
     let n = body[0];

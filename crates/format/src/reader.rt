@@ -26,14 +26,14 @@ impl<'a> Reader<'a> {
     }
 
     pub fn prime(self) -> Result<(u32, Reader<'a>), Refusal>
-        ensures { Judgement (prime_field.tests self.entry.rest.now) (PrimeRead self.entry.rest.now) result }
+        ensures { Judgement (prime_field.tests self.entry.rest.now) (PrimeRead self.entry.rest) result }
     {
         let (p, rest) = prime_field(self.rest)?;
         Ok((p, Reader { rest }))
     }
 
     pub fn sizes(self, p: u32) -> Result<(Header, Reader<'a>), Refusal>
-        ensures { Judgement (sizes_field.tests self.entry.rest.now) (SizesRead p self.entry.rest.now) result }
+        ensures { Judgement (sizes_field.tests self.entry.rest.now) (SizesRead p self.entry.rest) result }
     {
         let (header, rest) = sizes_field(self.rest, p)?;
         Ok((header, Reader { rest }))

@@ -13,7 +13,7 @@ use Rattle.format.specs.declared.reader.Reader.{Reader}
 use Rattle.format.specs.Lists.{over}
 use Rattle.format.specs.Numbers.{parameter_count, picked, spread}
 use Rattle.format.specs.Refusals.{first_refusal, where_accepted}
-use Rattle.format.specs.File.Piece.{field_bytes, closed, said_body, said_rest, said_bodies, said_rests}
+use Rattle.format.specs.File.Piece.{field_bytes, closed, said_body, said_rest, said_bodies, said_rests, LastPart}
 use Rattle.format.specs.File.Format.{entries, entry_bytes, constant_tag, parameter_tag, number_tag, parameter_size, prime_field, sizes_field, parameter_row, row_fields, Said, refused_header}
 
 -- ---- judged: what the fields say, or a refusal alone
@@ -36,22 +36,22 @@ rows_said s h = or_refused (first_refusal (closed (row_fields h.p (h.n, h.a, h.b
 unfoldable pub next_said : List ℕ → Said → Said
 next_said s h = where_accepted h.refusal (cond (eqb h.p 0) (prime_said s) (cond (eqb h.n 0) (sizes_said s h) (rows_said s h))) h
 
--- the field of p judged: p, and what follows it
-pub record PrimeParts (s : List ℕ) (parts : ℕ × Bor (List ℕ)) : Type 0 where
-  pub p_is : parts.0 ≡ prime_field.dec s
-  pub rest_is : parts.1.now ≡ prime_field.rest s
+-- the field of p judged: p, and what follows it, which is the last part of the bytes lent
+pub record PrimeParts (s : Bor (List ℕ)) (parts : ℕ × Bor (List ℕ)) : Type 0 where
+  pub p_is : parts.0 ≡ prime_field.dec s.now
+  pub rest_is : LastPart (prime_field.rest s.now) s parts.1
 
--- that of the sizes, in a file of this p: the header, and what follows it
-pub record SizesParts (p : ℕ) (s : List ℕ) (parts : Header × Bor (List ℕ)) : Type 0 where
+-- that of the sizes, in a file of this p: the header, and what follows it, the last part too
+pub record SizesParts (p : ℕ) (s : Bor (List ℕ)) (parts : Header × Bor (List ℕ)) : Type 0 where
   pub p_is : parts.0.p ≡ p
-  pub sizes_are : (parts.0.n, parts.0.a, parts.0.b) ≡ sizes_field.dec s
-  pub rest_is : parts.1.now ≡ sizes_field.rest s
+  pub sizes_are : (parts.0.n, parts.0.a, parts.0.b) ≡ sizes_field.dec s.now
+  pub rest_is : LastPart (sizes_field.rest s.now) s parts.1
 
 -- the same with a reader of what follows
-abbrev pub PrimeRead : List ℕ → ℕ × Reader → Type 0
+abbrev pub PrimeRead : Bor (List ℕ) → ℕ × Reader → Type 0
 PrimeRead s parts = PrimeParts s (parts.0, parts.1.rest)
 
-abbrev pub SizesRead : ℕ → List ℕ → Header × Reader → Type 0
+abbrev pub SizesRead : ℕ → Bor (List ℕ) → Header × Reader → Type 0
 SizesRead p s parts = SizesParts p s (parts.0, parts.1.rest)
 
 -- a parameter row judged: its set, and what follows it

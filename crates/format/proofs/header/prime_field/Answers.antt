@@ -24,4 +24,4 @@ unfolding prime_field
 returns c =
     let j = c.in_ok-body.ensures in
     let p = c.two-p.ensures.0 ∙ two_body _ c.in_ok-body.body.now j.given.body_is in
-    gives (content_passed prime_tag prime_body j (zero_unless _ _ (ap prime_test (sym p) ∙ sym c.if-not-prime_within.ensures))) (record { p_is = p ∙ ap number j.given.body_is; rest_is = j.given.rest_is.bytes_are })
+    gives (content_passed prime_tag prime_body j (zero_unless _ _ (ap prime_test (sym p) ∙ sym c.if-not-prime_within.ensures))) (record { p_is = p ∙ ap number j.given.body_is; rest_is = j.given.rest_is })

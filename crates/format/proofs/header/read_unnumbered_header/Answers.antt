@@ -11,21 +11,21 @@ unfolding unnumbered_judge unnumbered_fields unnumbered_sizes
 returns-in_err-p c =
     let s = c.args.file.now in
     let i = rw c.open.ensures at c.in_err-p.ensures in
-    said_handed _ c.from_residual.ensures.1 (prime_refused unnumbered_rows s _ i.refusal_is ∙ sym (unnumbered_header_refusal s))
+    said_handed _ c.from_residual.ensures.1 (prime_refused unnumbered_rows c.args.file _ i.refusal_is ∙ sym (unnumbered_header_refusal s))
 
 pub returns-in_err-header : goal.returns-in_err-header
 unfolding unnumbered_judge unnumbered_fields unnumbered_sizes
 returns-in_err-header c =
     let s = c.args.file.now in
     let i = rw c.open.ensures at c.in_ok-p.ensures in
-    said_handed _ c.from_residual-in_err-header.ensures.1 (sizes_refused unnumbered_rows s i _ c.in_err-header.ensures.refusal_is ∙ sym (unnumbered_header_refusal s))
+    said_handed _ c.from_residual-in_err-header.ensures.1 (sizes_refused unnumbered_rows c.args.file i _ c.in_err-header.ensures.refusal_is ∙ sym (unnumbered_header_refusal s))
 
 pub returns-in_err-unnumbered_rows : goal.returns-in_err-unnumbered_rows
 unfolding unnumbered_judge unnumbered_fields unnumbered_sizes
 returns-in_err-unnumbered_rows c =
     let s = c.args.file.now in
     let i = rw c.open.ensures at c.in_ok-p.ensures in
-    said_handed _ c.from_residual-in_err-unnumbered_rows.ensures.1 (heads_passed unnumbered_rows s i c.in_ok-header.ensures _ c.in_err-unnumbered_rows.ensures ∙ sym (unnumbered_header_refusal s))
+    said_handed _ c.from_residual-in_err-unnumbered_rows.ensures.1 (heads_passed unnumbered_rows c.args.file i c.in_ok-header.ensures _ c.in_err-unnumbered_rows.ensures ∙ sym (unnumbered_header_refusal s))
 
 pub returns : goal.returns
 unfolding unnumbered_judge unnumbered_fields unnumbered_sizes fields size_fields decode
@@ -33,5 +33,5 @@ returns c =
     let s = c.args.file.now in
     let i = rw c.open.ensures at c.in_ok-p.ensures in
     let j = c.in_ok-header.ensures in
-    let e = heads_passed unnumbered_rows s i j _ c.in_ok-unnumbered_rows.ensures in
-    said_ok _ _ (unnumbered_header_accepted s (sym e)) (said_p unnumbered_rows s i j) (said_sizes unnumbered_rows s i j)
+    let e = heads_passed unnumbered_rows c.args.file i j _ c.in_ok-unnumbered_rows.ensures in
+    said_ok _ _ (unnumbered_header_accepted s (sym e)) (said_p unnumbered_rows c.args.file i j) (said_sizes unnumbered_rows c.args.file i j)

@@ -21,4 +21,4 @@ returns c =
     let g = c.in_ok-body.ensures in
     let t = rw (c.from.ensures, c.from-2.ensures, c.from-3.ensures) at c.if-not-sizes_within.ensures in
     gives (content_passed sizes_tag sizes_body g (zero_unless _ _ (sym t)))
-    (record { p_is = refl; sizes_are = ap sizes_body.dec g.given.body_is; rest_is = g.given.rest_is.bytes_are })
+    (record { p_is = refl; sizes_are = ap sizes_body.dec g.given.body_is; rest_is = g.given.rest_is })
