@@ -92,11 +92,11 @@ module _ (s : List ℕ) where
   abbrev pub all_said : Said
   all_said = let z = sizes_field.dec second in record { refusal = 0; p = prime_field.dec s; n = z.0; a = z.1; b = z.2 }
 
-  prime_rest : first_refusal (prime_field.tests s) ≡ 0 → said_rest s ≡ second
+  pub prime_rest : first_refusal (prime_field.tests s) ≡ 0 → said_rest s ≡ second
   unfolding prime_field
   prime_rest e = rest_due prime_tag prime_body.size s (then_zero (head_tests prime_tag prime_body.size s) _ e).0
 
-  sizes_rest : first_refusal (sizes_field.tests second) ≡ 0 → said_rest second ≡ third
+  pub sizes_rest : first_refusal (sizes_field.tests second) ≡ 0 → said_rest second ≡ third
   unfolding sizes_field
   sizes_rest e = rest_due sizes_tag sizes_body.size second (then_zero (head_tests sizes_tag sizes_body.size second) _ e).0
 
@@ -131,7 +131,7 @@ module _ (s : List ℕ) where
       ∙ refused_file s k (seq_refused prime_field size_fields s k refl z) z
 
   module _ (e : first_refusal (prime_field.tests s) ≡ 0) where
-    prime_passes : prime_said s ≡ p_said
+    pub prime_passes : prime_said s ≡ p_said
     unfolding prime_said
     prime_passes = sym (said_passed p_said 0 (sym e) refl)
 
@@ -146,7 +146,7 @@ module _ (s : List ℕ) where
         ∙ refused_file s k (seq_passed prime_field size_fields s k e (seq_refused sizes_field (row_fields (prime_field.dec s)) second k refl z)) z
 
     module _ (f : first_refusal (sizes_field.tests second) ≡ 0) where
-      sizes_pass : sizes_said second p_said ≡ all_said
+      pub sizes_pass : sizes_said second p_said ≡ all_said
       unfolding sizes_said
       sizes_pass = sym (said_passed all_said 0 (sym f) refl)
 
