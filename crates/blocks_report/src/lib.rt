@@ -66,7 +66,7 @@ fn put_answer(out: &mut [u8], blocks: &Blocks, answer: &Answer) -> usize
     ensures { Puts (blocks_text (verdict_code answer.now.verdict) answer.now.rank (blocks_shown (Ok blocks.now))) out.old 0 out.new result }
 {
     let after_blocks = put_block_lines(out, 0, &blocks.numbers, blocks.count);
-    let after_verdict = put_verdict_line(out, after_blocks, answer.verdict);
+    let after_verdict = put_verdict_line(out, after_blocks, u8::from(answer.verdict));
     put_number_line(out, after_verdict, b"rank", usize::from(answer.rank))
 }
 

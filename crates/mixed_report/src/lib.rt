@@ -47,7 +47,7 @@ fn put_report(out: &mut [u8], answer: &Result<MixedAnswer, Refusal>) -> usize
 fn put_answer(out: &mut [u8], answer: &MixedAnswer) -> usize
     ensures { Puts (mixed_answer_text (mixed_shown (Ok answer.now))) out.old 0 out.new result }
 {
-    let after_verdict = put_verdict_line(out, 0, answer.verdict);
+    let after_verdict = put_verdict_line(out, 0, u8::from(answer.verdict));
     let after_rank = put_number_line(out, after_verdict, b"rank", usize::from(answer.rank));
     let after_rows = put_column_line(out, after_rank, b"rows", answer.rows);
     let after_columns = put_column_line(out, after_rows, b"columns", answer.columns);

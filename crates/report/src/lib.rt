@@ -54,7 +54,7 @@ fn put_report(out: &mut [u8], answer: &Result<Answer, Refusal>) -> usize
 fn put_answer(out: &mut [u8], answer: &Answer) -> usize
     ensures { Puts (answer_text (answer_shown (Ok answer.now))) out.old 0 out.new result }
 {
-    let after_verdict = put_verdict_line(out, 0, answer.verdict);
+    let after_verdict = put_verdict_line(out, 0, u8::from(answer.verdict));
     let after_rank = put_number_line(out, after_verdict, b"rank", usize::from(answer.rank));
     let after_constants = put_column_line(out, after_rank, b"constants", answer.constants);
     let after_parameters = put_row_line(out, after_constants, &answer.rows);

@@ -6,13 +6,11 @@
 ghost use Rattle.std.specs.Prelude.{◌≡◌, [], ◌∷◌, ◌+◌, ◌-◌, ◌*◌, ◌≤◌, ◌<◌};
 ghost use Rattle.columns.specs.Columns.{members};
 ghost use Rattle.columns.specs.ColumnSets.{whole};
-ghost use Rattle.models.specs.Verdicts.{verdict_code};
 ghost use Rattle.format.specs.Refused.{refusal_number};
 ghost use Rattle.text.specs.Text.{decimal, line, item, pair_item, pair_unless, column_items, verdict_line, refused_line, Puts, Prints, number_below};
 
 use columns::ColumnSet;
 use format::Refusal;
-use models::Verdict;
 
 // The text over the front of the area, and how many bytes it has; or the refusal of an area that is too short for it.
 pub fn print(text: &[u8], out: &mut [u8]) -> Result<usize, Refusal>
@@ -25,14 +23,16 @@ pub fn print(text: &[u8], out: &mut [u8]) -> Result<usize, Refusal>
 }
 
 // A verdict as its word.
-pub fn put_verdict_line(out: &mut [u8], at: usize, verdict: Verdict) -> usize
-    ensures { Puts (verdict_line (verdict_code verdict)) out.old at out.new result }
+pub fn put_verdict_line(out: &mut [u8], at: usize, verdict: u8) -> usize
+    ensures { Puts (verdict_line verdict) out.old at out.new result }
 {
-    match verdict {
-        Verdict::Open => put_bytes(out, at, b"verdict open\n"),
-        Verdict::Determined => put_bytes(out, at, b"verdict determined\n"),
-        Verdict::Surplus => put_bytes(out, at, b"verdict surplus\n"),
+    if verdict == 1 {
+        return put_bytes(out, at, b"verdict determined\n");
     }
+    if verdict == 2 {
+        return put_bytes(out, at, b"verdict surplus\n");
+    }
+    put_bytes(out, at, b"verdict open\n")
 }
 
 // A refusal's number.

@@ -7,5 +7,6 @@ use Rattle.blocks_report.proofs.put_answer.Goals as goal
 pub returns : goal.returns
 unfolding blocks_text ascii
 returns c =
-    let rank = rw c.from.ensures at c.put_number_line.ensures in
-    puts_then c.put_block_lines-after_blocks.ensures (puts_then c.put_verdict_line-after_verdict.ensures rank)
+    let verdict = rw c.from.ensures at c.put_verdict_line-after_verdict.ensures in
+    let rank = rw c.from-2.ensures at c.put_number_line.ensures in
+    puts_then c.put_block_lines-after_blocks.ensures (puts_then verdict rank)

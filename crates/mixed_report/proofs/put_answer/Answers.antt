@@ -7,5 +7,6 @@ use Rattle.mixed_report.proofs.put_answer.Goals as goal
 pub returns : goal.returns
 unfolding mixed_answer_text ascii
 returns c =
-    let rank = rw c.from.ensures at c.put_number_line-after_rank.ensures in
-    puts_then c.put_verdict_line-after_verdict.ensures (puts_then rank (puts_then c.put_column_line-after_rows.ensures (puts_then c.put_column_line-after_columns.ensures c.put_column_line.ensures)))
+    let verdict = rw c.from.ensures at c.put_verdict_line-after_verdict.ensures in
+    let rank = rw c.from-2.ensures at c.put_number_line-after_rank.ensures in
+    puts_then verdict (puts_then rank (puts_then c.put_column_line-after_rows.ensures (puts_then c.put_column_line-after_columns.ensures c.put_column_line.ensures)))

@@ -1,18 +1,18 @@
 -- `text::put_verdict_line` meets its contract. Assumes nothing.
-use Rattle.std.proofs.Common.{arith, refl, sym}
+use Rattle.std.proofs.Common.{sym}
 use Rattle.text.specs.Text.{ascii}
 use Rattle.text.specs.PutLaws.{puts_as}
 use Rattle.text.specs.TextLaws.{verdict_determined, verdict_surplus, verdict_open}
 use Rattle.text.proofs.put_verdict_line.Goals as goal
 
-pub returns-in-Open : goal.returns-in-Open
+pub returns-then-verdict-eq1 : goal.returns-then-verdict-eq1
 unfolding ascii
-returns-in-Open c = rw c.in-Open.is (puts_as (sym (verdict_open 0 (λ e. omega arith) (λ e. omega arith))) c.put_bytes.ensures)
+returns-then-verdict-eq1 c = puts_as (sym (verdict_determined _ c.if-verdict-eq1.true)) c.put_bytes.ensures
 
-pub returns-in-Determined : goal.returns-in-Determined
+pub returns-then-verdict-eq2 : goal.returns-then-verdict-eq2
 unfolding ascii
-returns-in-Determined c = rw c.in-Determined.is (puts_as (sym (verdict_determined 1 refl)) c.put_bytes-in-Determined.ensures)
+returns-then-verdict-eq2 c = puts_as (sym (verdict_surplus _ c.if-verdict-eq2.true)) c.put_bytes-then-verdict-eq2.ensures
 
-pub returns-in-Surplus : goal.returns-in-Surplus
+pub returns : goal.returns
 unfolding ascii
-returns-in-Surplus c = rw c.in-Surplus.is (puts_as (sym (verdict_surplus 2 refl)) c.put_bytes-in-Surplus.ensures)
+returns c = puts_as (sym (verdict_open _ c.if-verdict-eq1.false c.if-verdict-eq2.false)) c.put_bytes-2.ensures
