@@ -1,9 +1,9 @@
-// A model held open: opened, edited and answered. Of a model handed over the constants are lent, the parameter rows lent and changed in
-// place, and the columns present are a set by value; of one in an area all of it lies in the area's bytes.
+// A model held open: opened, edited and answered. Of a model handed over the constants are lent, and the parameter rows and the columns
+// present lent and changed in place; of one in an area all of it lies in the area's bytes.
 #![tactic(auto)]
 
 ghost use Rattle.layered.specs.Shown.{answer_shown};
-ghost use Rattle.editing.specs.Shown.{opened_shown, edited_shown};
+ghost use Rattle.editing.specs.Shown.{opened_shown, edited_shown, made_shown};
 ghost use Rattle.editing.specs.Calls.{OpenModelCall, EditCall, AnswerModelCall};
 
 use columns::ColumnSet;
@@ -25,8 +25,25 @@ pub fn open_model(model: &LentModel<'_>) -> Result<ColumnSet, Refusal>
     Ok(ColumnSet::below(model.n))
 }
 
-// An edit of an open model, and the columns then present. Where it is refused, what is held is as it was.
+// An edit of an open model. Where it is refused, what is held is as it was.
 pub fn edit_model(
+    p: u32,
+    n: usize,
+    a: usize,
+    b: usize,
+    constants: &[u16],
+    parameters: &mut [u64],
+    present: &mut ColumnSet,
+    edit: Edit,
+) -> Result<(), Refusal>
+    ensures { EditCall p n a b constants.now parameters.old present.old edit (edited_shown present.new result) parameters.new }
+{
+    *present = make_edit(p, n, a, b, constants, parameters, *present, edit)?;
+    Ok(())
+}
+
+// The rows changed by an edit, and the columns then present, where it is not refused.
+fn make_edit(
     p: u32,
     n: usize,
     a: usize,
@@ -36,7 +53,7 @@ pub fn edit_model(
     present: ColumnSet,
     edit: Edit,
 ) -> Result<ColumnSet, Refusal>
-    ensures { EditCall p n a b constants.now parameters.old present edit (edited_shown present result) parameters.new }
+    ensures { EditCall p n a b constants.now parameters.old present edit (made_shown present result) parameters.new }
 {
     // an open model has no numbers
     judge_model(&LentModel::unnumbered(p, n, a, b, constants, parameters))?;

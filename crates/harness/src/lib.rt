@@ -18,14 +18,14 @@ use columns::ColumnSet;
 use degree::{ModelPowers, model_degree, put_degree};
 use editing::{edit_model, name_edit, open_answer, open_model};
 use format::{Refusal, number, put_set};
-use host::{put_answer, put_mixed};
+use host::{AnswerNumbers, MixedNumbers, put_answer, put_mixed};
 use layered::layered_rank;
 use limits::SET_BYTES;
 use loader::read_file;
 use mixed::mixed_rank;
 use models::LentModel;
-use multipliers::{model_multipliers, put_multipliers};
-use reason::{model_reason, put_reason};
+use multipliers::{MultipliersNumbers, model_multipliers, put_multipliers};
+use reason::{ReasonNumbers, model_reason, put_reason};
 use touching::touching_rows;
 use writer::write_file;
 
@@ -70,7 +70,7 @@ pub fn harness_layered(
 {
     let model = lent_model(p, n, a, b, constants, parameters, numbered, numbers);
     match layered_rank(&model) {
-        Ok(found) => number(put_answer(answer, &found)),
+        Ok(found) => number(put_answer(answer, &AnswerNumbers::of(&found))),
         Err(refusal) => u32::from(refusal),
     }
 }
@@ -91,7 +91,7 @@ pub fn harness_mixed(
 {
     let model = lent_model(p, n, a, b, constants, parameters, numbered, numbers);
     match mixed_rank(&model) {
-        Ok(found) => number(put_mixed(answer, &found)),
+        Ok(found) => number(put_mixed(answer, &MixedNumbers::of(&found))),
         Err(refusal) => u32::from(refusal),
     }
 }
@@ -115,7 +115,7 @@ pub fn harness_multipliers(
     let set = ColumnSet::of_bytes(held);
     let model = lent_model(p, n, a, b, constants, parameters, numbered, numbers);
     match model_multipliers(&model, set, column) {
-        Ok(found) => number(put_multipliers(answer, &found)),
+        Ok(found) => number(put_multipliers(answer, &MultipliersNumbers::of(&found))),
         Err(refusal) => u32::from(refusal),
     }
 }
@@ -137,7 +137,7 @@ pub fn harness_reason(
 {
     let model = lent_model(p, n, a, b, constants, parameters, numbered, numbers);
     match model_reason(&model, column) {
-        Ok(found) => number(put_reason(answer, &found)),
+        Ok(found) => number(put_reason(answer, &ReasonNumbers::of(&found))),
         Err(refusal) => u32::from(refusal),
     }
 }
@@ -259,9 +259,9 @@ pub fn harness_edit(
     if present.len() < SET_BYTES {
         return u32::from(Refusal::AreaShort);
     }
-    let set = ColumnSet::of_bytes(&present[..SET_BYTES]);
-    match edit_model(p, n, a, b, constants, parameters, set, edit) {
-        Ok(changed) => number(put_set(present, changed)),
+    let mut set = ColumnSet::of_bytes(&present[..SET_BYTES]);
+    match edit_model(p, n, a, b, constants, parameters, &mut set, edit) {
+        Ok(()) => number(put_set(present, set)),
         Err(refusal) => u32::from(refusal),
     }
 }
@@ -282,7 +282,7 @@ pub fn harness_answer(
     let set = ColumnSet::of_bytes(present);
     let model = LentModel::unnumbered(p, n, a, b, constants, parameters);
     match open_answer(&model, set) {
-        Ok(found) => number(put_answer(answer, &found)),
+        Ok(found) => number(put_answer(answer, &AnswerNumbers::of(&found))),
         Err(refusal) => u32::from(refusal),
     }
 }

@@ -100,6 +100,10 @@ module _ (least : ℕ) (bytes area : List ℕ) where
       let q : area_refusal [] [] least area ≡ 0 = area_passes [] [] least area l in
       record { is_number = sym q; if_refused = λ z. absurd (z q); if_accepted = λ _. w }
 
+-- bytes that are put are those of an answer that is the same
+pub put_same : {A : Type 0} (bytes : A → List ℕ) {s t : A} {least : ℕ} {area : List ℕ} {number : ℕ} {area' : List ℕ} → s ≡ t → PutOver least (bytes s) area number area' → PutOver least (bytes t) area number area'
+put_same bytes {least = least} {area = area} {number = number} {area' = area'} e w = subst (λ t. PutOver least (bytes t) area number area') e w
+
 -- the bytes of an answer, put into the area of a call whose other tests pass
 pub answer_put : {A : Type 0} {Holds : A → Type 0} (bytes : A → List ℕ) (before after : Tests) {least : ℕ} {area : List ℕ} {number : ℕ} {area' : List ℕ} (t : A) → Holds t
     → first_refusal before ≡ 0 → first_refusal after ≡ 0 → PutOver least (bytes t) area number area' → AreaCall before after least (WrittenOver Holds bytes) area number area'

@@ -2,9 +2,8 @@
 use Rattle.std.specs.Prelude.{ℕ, ◌+◌, ◌*◌, List, ◌∷◌}
 use Rattle.limits.specs.Limits.{most_columns}
 use Rattle.format.specs.File.Format.{entry_bytes}
-use Rattle.std.specs.Prelude.{Ok}
-use Rattle.exchange.specs.declared.Dependence.{Dependence}
-use Rattle.multipliers.specs.Shown.{Multipliers, multipliers_shown}
+use Rattle.multipliers.specs.Shown.{Multipliers}
+use Rattle.multipliers.specs.declared.MultipliersNumbers.{MultipliersNumbers}
 
 -- how many there are
 abbrev pub multipliers_length : ℕ
@@ -14,6 +13,6 @@ multipliers_length = 1 + 2 * most_columns
 abbrev pub multipliers_bytes : Multipliers → List ℕ
 multipliers_bytes r = r.outcome ∷ entry_bytes r.multipliers
 
--- those of an answer that the code gives
-abbrev pub dependence_bytes : Dependence → List ℕ
-dependence_bytes d = multipliers_bytes (multipliers_shown (Ok d))
+-- numbers that are put, as an answer; they refuse nothing
+abbrev pub multipliers_numbers : MultipliersNumbers → Multipliers
+multipliers_numbers r = record { refusal = 0; outcome = r.outcome; multipliers = r.multipliers }

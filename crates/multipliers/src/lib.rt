@@ -1,7 +1,7 @@
 // How a column depends on held columns, of a model handed over or in a file; and the bytes of the answer.
 #![tactic(auto)]
 
-ghost use Rattle.std.specs.Prelude.{[]};
+ghost use Rattle.std.specs.Prelude.{[], ◌≡◌, Ok};
 ghost use Rattle.std.proofs.Math.Option.{none};
 ghost use Rattle.models.specs.Lent.{constants_lent};
 ghost use Rattle.format.specs.Refused.{refusal_of};
@@ -9,7 +9,7 @@ ghost use Rattle.format.specs.TestLaws.{Accepted};
 ghost use Rattle.host.specs.AreaCall.{PutOver};
 ghost use Rattle.multipliers.specs.Shown.{multipliers_shown};
 ghost use Rattle.multipliers.specs.Answers.{Asked, MultipliersModelCall, MultipliersFileCall};
-ghost use Rattle.multipliers.specs.Bytes.{multipliers_length, dependence_bytes};
+ghost use Rattle.multipliers.specs.Bytes.{multipliers_length, multipliers_bytes, multipliers_numbers};
 
 use columns::{ColumnSet, MOST_WORDS};
 use exchange::{Dependence, column_dependence};
@@ -61,13 +61,32 @@ pub fn file_multipliers(file: &[u8], held: ColumnSet, column: usize) -> Result<D
     ask(&sizes.model(&constants, &parameters), held, column)
 }
 
+// What the bytes of an answer show: the number of the outcome, and the multipliers. Any numbers may stand in it.
+#[derive(Drop)]
+pub struct MultipliersNumbers {
+    pub outcome: u8,
+    pub multipliers: [u16; MOST_COLUMNS],
+}
+
+impl MultipliersNumbers {
+    // Those of an answer that a call gives.
+    pub fn of(given: &Dependence) -> MultipliersNumbers
+        ensures { multipliers_numbers result ≡ multipliers_shown (Ok given.now) }
+    {
+        MultipliersNumbers {
+            outcome: given.outcome(),
+            multipliers: given.multipliers(),
+        }
+    }
+}
+
 // The bytes of an answer: the outcome, and two for each multiplier.
-pub fn put_multipliers(out: &mut [u8], answer: &Dependence) -> Result<(), Refusal>
-    ensures { PutOver multipliers_length (dependence_bytes answer.now) out.old (refusal_of result) out.new }
+pub fn put_multipliers(out: &mut [u8], answer: &MultipliersNumbers) -> Result<(), Refusal>
+    ensures { PutOver multipliers_length (multipliers_bytes (multipliers_numbers answer.now)) out.old (refusal_of result) out.new }
 {
     if out.len() < MULTIPLIERS_LENGTH {
         return Err(Refusal::AreaShort);
     }
-    out[0] = answer.outcome();
-    put_each(&mut out[1..], &answer.multipliers())
+    out[0] = answer.outcome;
+    put_each(&mut out[1..], &answer.multipliers)
 }

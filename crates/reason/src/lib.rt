@@ -1,7 +1,7 @@
 // The reason for an unplaced column, of a model handed over or in a file; and the bytes of the answer.
 #![tactic(auto)]
 
-ghost use Rattle.std.specs.Prelude.{Ok};
+ghost use Rattle.std.specs.Prelude.{◌≡◌, Ok};
 ghost use Rattle.std.proofs.Math.Option.{none};
 ghost use Rattle.models.specs.Lent.{constants_lent, rows_lent};
 ghost use Rattle.format.specs.Refused.{refusal_of};
@@ -9,7 +9,7 @@ ghost use Rattle.format.specs.TestLaws.{Accepted};
 ghost use Rattle.host.specs.AreaCall.{PutOver};
 ghost use Rattle.reason.specs.Shown.{reason_shown};
 ghost use Rattle.reason.specs.Answers.{ReasonAsked, ReasonModelCall, ReasonFileCall};
-ghost use Rattle.reason.specs.Bytes.{reason_length, reason_bytes};
+ghost use Rattle.reason.specs.Bytes.{reason_length, reason_bytes, reason_numbers};
 ghost use Rattle.reason.specs.Code.{Unplaced, Explained};
 
 use columns::{ColumnSet, MOST_WORDS};
@@ -98,15 +98,36 @@ pub fn file_reason(file: &[u8], column: usize) -> Result<Reason, Refusal>
     ask(&sizes.model(&constants, &parameters), column)
 }
 
+// What the bytes of an answer show: the set, whether multipliers are given, and the multiplier of each column. Any numbers may stand in
+// it.
+#[derive(Drop)]
+pub struct ReasonNumbers {
+    pub set: ColumnSet,
+    pub given: bool,
+    pub multipliers: [u16; MOST_COLUMNS],
+}
+
+impl ReasonNumbers {
+    // Those of an answer that a call gives: each multiplier is 0 where none is given.
+    pub fn of(answer: &Reason) -> ReasonNumbers
+        ensures { reason_numbers result ≡ reason_shown (Ok answer.now) }
+    {
+        ReasonNumbers {
+            set: answer.set,
+            given: answer.multipliers.is_some(),
+            multipliers: answer.multipliers.unwrap_or([0; MOST_COLUMNS]),
+        }
+    }
+}
+
 // The bytes of an answer: the set, whether multipliers are given, and two for each multiplier.
-pub fn put_reason(out: &mut [u8], answer: &Reason) -> Result<(), Refusal>
-    ensures { PutOver reason_length (reason_bytes (reason_shown (Ok answer.now))) out.old (refusal_of result) out.new }
+pub fn put_reason(out: &mut [u8], answer: &ReasonNumbers) -> Result<(), Refusal>
+    ensures { PutOver reason_length (reason_bytes (reason_numbers answer.now)) out.old (refusal_of result) out.new }
 {
     if out.len() < REASON_LENGTH {
         return Err(Refusal::AreaShort);
     }
     put_set(out, answer.set)?;
-    out[SET_BYTES] = u8::from(answer.multipliers.is_some());
-    let multipliers = answer.multipliers.unwrap_or([0; MOST_COLUMNS]);
-    put_each(&mut out[SET_BYTES + 1..], &multipliers)
+    out[SET_BYTES] = u8::from(answer.given);
+    put_each(&mut out[SET_BYTES + 1..], &answer.multipliers)
 }

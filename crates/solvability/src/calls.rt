@@ -15,12 +15,12 @@ use columns::ColumnSet;
 use degree::{DEGREE_LENGTH, ModelPowers, file_degree, put_degree};
 use editing::{answer_area, edit_area, judge_area, open_area};
 use format::{Refusal, judge_file, number};
-use host::{ANSWER_LENGTH, MIXED_LENGTH, put_answer, put_mixed};
+use host::{ANSWER_LENGTH, AnswerNumbers, MIXED_LENGTH, MixedNumbers, put_answer, put_mixed};
 use layered::layered_file;
 use limits::SET_BYTES;
 use mixed::mixed_file;
-use multipliers::{MULTIPLIERS_LENGTH, file_multipliers, put_multipliers};
-use reason::{REASON_LENGTH, file_reason, put_reason};
+use multipliers::{MULTIPLIERS_LENGTH, MultipliersNumbers, file_multipliers, put_multipliers};
+use reason::{REASON_LENGTH, ReasonNumbers, file_reason, put_reason};
 
 // Judges the file, then the area; where both are accepted, writes the answer to the layered model over the front of the area.
 pub fn wundreska_check(file: &[u8], answer: &mut [u8]) -> u32
@@ -33,7 +33,7 @@ fn check(file: &[u8], answer: &mut [u8]) -> Result<(), Refusal>
     ensures { HostAnswer file.now answer.old (refusal_of result) answer.new }
 {
     let r = layered_file(file)?;
-    put_answer(answer, &r)
+    put_answer(answer, &AnswerNumbers::of(&r))
 }
 
 // The refusal of a call whose area is too short: the file's own comes first.
@@ -59,7 +59,7 @@ fn mixed(file: &[u8], answer: &mut [u8]) -> Result<(), Refusal>
         return refuse_area(file);
     }
     let r = mixed_file(file)?;
-    put_mixed(answer, &r)
+    put_mixed(answer, &MixedNumbers::of(&r))
 }
 
 // Judges the file, then both areas, then the columns that are named; where all are accepted, writes how the column depends on the held
@@ -81,7 +81,7 @@ fn multipliers(file: &[u8], held: &[u8], column: usize, answer: &mut [u8]) -> Re
     }
     let set = ColumnSet::of_bytes(&held[..SET_BYTES]);
     let r = file_multipliers(file, set, column)?;
-    put_multipliers(answer, &r)
+    put_multipliers(answer, &MultipliersNumbers::of(&r))
 }
 
 // Judges the file, then the area, then the column that is named; where all are accepted, writes the reason why the column is not placed
@@ -99,7 +99,7 @@ fn reason(file: &[u8], column: usize, answer: &mut [u8]) -> Result<(), Refusal>
         return refuse_area(file);
     }
     let r = file_reason(file, column)?;
-    put_reason(answer, &r)
+    put_reason(answer, &ReasonNumbers::of(&r))
 }
 
 // Judges the file, then both areas; where all are accepted, writes whether the claim is accepted over the front of the answer's area.
@@ -204,5 +204,5 @@ fn open_answer(area: &[u8], answer: &mut [u8]) -> Result<(), Refusal>
         return refuse_answer(area);
     }
     let r = answer_area(area)?;
-    put_answer(answer, &r)
+    put_answer(answer, &AnswerNumbers::of(&r))
 }

@@ -10,6 +10,7 @@ use Rattle.layered.specs.Answers.{RankCall, Refused, Answered}
 use Rattle.open_models.specs.Open.{Open, answer_refusal, open_model}
 use Rattle.host.specs.AnswerBytes.{answer_bytes}
 use Rattle.harness.specs.Calls.{holding_columns}
+use Rattle.host.proofs.AreaLaws.{put_same}
 use Rattle.harness.proofs.CallLaws.{rank_refused, rank_put}
 use Rattle.harness.proofs.harness_answer.Goals as goal
 
@@ -24,7 +25,7 @@ returns-in-Ok c =
     let h : Called (holding_columns a.p a.n a.a a.b a.constants.now (row_numbers a.parameters.now) (number (take room_bytes a.present.now))) (answer_shown (Ok c.in-Ok.found)) =
     rw (sym c.of_bytes-set.ensures.is_number) (rw c.unnumbered-model.ensures at c.in-Ok.ensures)
     in
-    rw c.number.ensures (rank_put answer_bytes _ (answer_shown (Ok c.in-Ok.found)) h c.put_answer.ensures)
+    rw c.number.ensures (rank_put answer_bytes _ (answer_shown (Ok c.in-Ok.found)) h (put_same answer_bytes c.of.ensures c.put_answer.ensures))
 
 pub returns-in-Err : goal.returns-in-Err
 unfolding answer_refusal

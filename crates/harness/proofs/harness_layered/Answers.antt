@@ -5,6 +5,7 @@ use Rattle.layered.specs.Shown.{answer_shown}
 use Rattle.layered.specs.Answers.{LayeredCall}
 use Rattle.host.specs.AnswerBytes.{answer_bytes}
 use Rattle.format.proofs.Refused.{refusal_some}
+use Rattle.host.proofs.AreaLaws.{put_same}
 use Rattle.harness.proofs.CallLaws.{of_handed, rank_refused, rank_put}
 use Rattle.harness.proofs.harness_layered.Goals as goal
 
@@ -12,7 +13,7 @@ pub returns-in-Ok : goal.returns-in-Ok
 unfolding refusal
 returns-in-Ok c =
     let h = of_handed (λ p n a b cs ws ns. LayeredCall p n a b cs ws ns (answer_shown (Ok c.in-Ok.found))) c.args.numbered c.args.numbers c.lent_model-model.ensures c.in-Ok.ensures in
-    rw c.number.ensures (rank_put answer_bytes _ (answer_shown (Ok c.in-Ok.found)) h c.put_answer.ensures)
+    rw c.number.ensures (rank_put answer_bytes _ (answer_shown (Ok c.in-Ok.found)) h (put_same answer_bytes c.of.ensures c.put_answer.ensures))
 
 pub returns-in-Err : goal.returns-in-Err
 unfolding refusal

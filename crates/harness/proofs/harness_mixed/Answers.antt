@@ -5,6 +5,7 @@ use Rattle.mixed.specs.Shown.{mixed_shown}
 use Rattle.mixed.specs.MixedAnswers.{MixedCall}
 use Rattle.host.specs.AnswerBytes.{mixed_bytes}
 use Rattle.format.proofs.Refused.{refusal_some}
+use Rattle.host.proofs.AreaLaws.{put_same}
 use Rattle.harness.proofs.CallLaws.{of_handed, rank_refused, rank_put}
 use Rattle.harness.proofs.harness_mixed.Goals as goal
 
@@ -12,7 +13,7 @@ pub returns-in-Ok : goal.returns-in-Ok
 unfolding mixed_refusal
 returns-in-Ok c =
     let h = of_handed (λ p n a b cs ws ns. MixedCall p n a b cs ws ns (mixed_shown (Ok c.in-Ok.found))) c.args.numbered c.args.numbers c.lent_model-model.ensures c.in-Ok.ensures in
-    rw c.number.ensures (rank_put mixed_bytes _ (mixed_shown (Ok c.in-Ok.found)) h c.put_mixed.ensures)
+    rw c.number.ensures (rank_put mixed_bytes _ (mixed_shown (Ok c.in-Ok.found)) h (put_same mixed_bytes c.of.ensures c.put_mixed.ensures))
 
 pub returns-in-Err : goal.returns-in-Err
 unfolding mixed_refusal

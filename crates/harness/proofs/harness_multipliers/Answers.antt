@@ -12,6 +12,7 @@ use Rattle.multipliers.specs.Shown.{Multipliers, multipliers_shown}
 use Rattle.multipliers.specs.Answers.{column_question, MultipliersRefused, MultipliersAnswered}
 use Rattle.multipliers.specs.Bytes.{multipliers_bytes}
 use Rattle.format.proofs.Refused.{refusal_some}
+use Rattle.host.proofs.AreaLaws.{put_same}
 use Rattle.harness.proofs.CallLaws.{of_handed, rank_refused, rank_put}
 use Rattle.harness.proofs.harness_multipliers.Goals as goal
 
@@ -23,7 +24,7 @@ Called held x p n a b cs ws ns r =
 pub returns-in-Ok : goal.returns-in-Ok
 returns-in-Ok c =
     let h = of_handed (λ p n a b cs ws ns. Called (number (take room_bytes c.args.held.now)) c.args.column p n a b cs ws ns (multipliers_shown (Ok c.in-Ok.found))) c.args.numbered c.args.numbers c.lent_model-model.ensures (rw (sym c.of_bytes-set.ensures.is_number) (c.in-Ok.ensures)) in
-    rw c.number.ensures (rank_put multipliers_bytes _ (multipliers_shown (Ok c.in-Ok.found)) h c.put_multipliers.ensures)
+    rw c.number.ensures (rank_put multipliers_bytes _ (multipliers_shown (Ok c.in-Ok.found)) h (put_same multipliers_bytes c.of.ensures c.put_multipliers.ensures))
 
 pub returns-in-Err : goal.returns-in-Err
 returns-in-Err c =

@@ -7,4 +7,4 @@ pub returns-then-out-lt-MIXED_LENGTH : goal.returns-then-out-lt-MIXED_LENGTH
 returns-then-out-lt-MIXED_LENGTH c = put_refused mixed_length _ _ c.if-out-lt-MIXED_LENGTH.true
 
 pub returns : goal.returns
-returns c = put_done mixed_length _ _ c.if-out-lt-MIXED_LENGTH.false (rw c.from.ensures at c.put_front.ensures)
+returns c = put_done mixed_length _ _ c.if-out-lt-MIXED_LENGTH.false c.put_front.ensures

@@ -1,6 +1,5 @@
 -- `reason::put_reason`: the set, behind it whether multipliers are given, and the multipliers. Assumes nothing.
 use Rattle.std.proofs.Common.{rules, arith, ◌≡◌, ◌≤◌, ℕ, ◌*◌, [], ◌∷◌, ◌++◌, append-nil, length, length-append, refl, sym, ap, ◌∙◌}
-use Rattle.std.specs.Prelude.{Ok, Option, None, Some, List, is_some, unwrap_or, replicate}
 use Rattle.limits.specs.Limits.{most_columns, set_bytes}
 use Rattle.counting.specs.Sets.{indicator}
 use Rattle.columns.specs.Bytes.{bytes_of}
@@ -12,17 +11,8 @@ use Rattle.format.specs.File.BodyLaws.{entries_back}
 use Rattle.format.proofs.Puts.{room_left, room_accepts}
 use Rattle.format.proofs.Refused.{refusal_some}
 use Rattle.host.proofs.AreaLaws.{put_refused, put_done}
-use Rattle.reason.specs.Shown.{reason_shown, are_given, given_multipliers}
-use Rattle.reason.specs.Bytes.{reason_length, reason_bytes}
+use Rattle.reason.specs.Bytes.{reason_length, reason_bytes, reason_numbers}
 use Rattle.reason.proofs.put_reason.Goals as goal
-
-given_is : (o : Option (List ℕ)) → is_some o ≡ are_given o
-given_is None = refl
-given_is (Some ms) = refl
-
-multipliers_is : (o : Option (List ℕ)) → unwrap_or o (replicate most_columns 0) ≡ given_multipliers o
-multipliers_is None = refl
-multipliers_is (Some ms) = refl
 
 pub returns-then-out-lt-REASON_LENGTH : goal.returns-then-out-lt-REASON_LENGTH
 returns-then-out-lt-REASON_LENGTH c = put_refused reason_length _ _ c.if-out-lt-REASON_LENGTH.true
@@ -35,18 +25,15 @@ returns-in_err-put_set c = absurd (refusal_some _ (room_accepts c.in_err-put_set
 pub returns : goal.returns
 unfolding indicator
 returns c =
-    let r = reason_shown (Ok c.args.answer.now) in
+    let r = reason_numbers c.args.answer.now in
     let room = c.if-out-lt-REASON_LENGTH.false in
-    let flag : c.from.result ≡ indicator r.given = c.from.ensures ∙ ap indicator (c.is_some.ensures ∙ given_is c.args.answer.now.multipliers) in
-    let ms : c.unwrap_or-multipliers.result ≡ r.multipliers = c.unwrap_or-multipliers.ensures ∙ multipliers_is c.args.answer.now.multipliers in
-    let many : length c.unwrap_or-multipliers.result ≡ most_columns = search (rules, c.unwrap_or-multipliers.type_inv) in
+    let many : length r.multipliers ≡ most_columns = search rules in
     let entries = entry_bytes r.multipliers in
     let set = bytes_of set_bytes (whole r.set) in
-    let long : length entries ≡ 2 * most_columns = omega (arith, (entries_back r.multipliers).0, ap length ms, many) in
+    let long : length entries ≡ 2 * most_columns = omega (arith, (entries_back r.multipliers).0, many) in
     let set_long = bytes_of_length set_bytes (whole r.set) in
     let fits : length (set ++ (indicator r.given ∷ entries)) ≤ length c.args.out.now = omega (arith, length-append set (indicator r.given ∷ entries), set_long, long, room) in
     let w = wrote_first (reason_bytes r) set (indicator r.given ∷ entries) set_bytes refl fits (c.in_ok-put_set.ensures.bytes_are ∙ over_room_fits set c.args.out.now (omega (arith, set_long, room))) set_long in
-    let w' = wrote_set c.from.result entries w (ap (λ (v : ℕ). v ∷ entries) (sym flag)) in
-    let put = rw ms at c.put_each.ensures in
-    rw (room_accepts put (room_left entries [] w' (sym (append-nil entries))).1)
-    (put_done reason_length (reason_bytes r) _ room (wrote_all (wrote_room entries [] _ (2 * most_columns) w' (sym (append-nil entries)) put.bytes_are long) refl))
+    let w' = wrote_set c.from.result entries w (ap (λ (v : ℕ). v ∷ entries) (sym c.from.ensures)) in
+    rw (room_accepts c.put_each.ensures (room_left entries [] w' (sym (append-nil entries))).1)
+    (put_done reason_length (reason_bytes r) _ room (wrote_all (wrote_room entries [] _ (2 * most_columns) w' (sym (append-nil entries)) c.put_each.ensures.bytes_are long) refl))

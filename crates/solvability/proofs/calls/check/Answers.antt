@@ -8,7 +8,7 @@ use Rattle.host.specs.AnswerBytes.{answer_length, answer_bytes, AnswerWritten}
 use Rattle.format.specs.Refusals.{first_refusal}
 use Rattle.format.specs.File.Piece.{closed}
 use Rattle.format.specs.File.Format.{fields, judge}
-use Rattle.host.proofs.AreaLaws.{refused_before, answer_put}
+use Rattle.host.proofs.AreaLaws.{refused_before, answer_put, put_same}
 use Rattle.layered.specs.Shown.{answer_shown}
 use Rattle.solvability.proofs.calls.check.Goals as goal
 
@@ -23,4 +23,4 @@ unfolding judge first_refusal
 returns c =
     let told = c.in_ok-r.ensures in
     let ok = sym told.is_refusal in
-    answer_put answer_bytes (closed fields c.args.file.now) [] (answer_shown (Ok c.in_ok-r.r)) (told.if_accepted ok) ok refl c.put_answer.ensures
+    answer_put answer_bytes (closed fields c.args.file.now) [] (answer_shown (Ok c.in_ok-r.r)) (told.if_accepted ok) ok refl (put_same answer_bytes c.of.ensures c.put_answer.ensures)

@@ -9,7 +9,7 @@ use Rattle.mixed.specs.MixedAnswers.{file_mixed, mixed_question}
 use Rattle.host.specs.AnswerBytes.{mixed_length, mixed_bytes, MixedWritten}
 use Rattle.format.specs.RefusalLaws.{then_zero}
 use Rattle.format.specs.File.Piece.{closed}
-use Rattle.host.proofs.AreaLaws.{refused_short, refused_around, answer_put}
+use Rattle.host.proofs.AreaLaws.{refused_short, refused_around, answer_put, put_same}
 use Rattle.solvability.proofs.calls.mixed.Goals as goal
 
 pub returns-then-answer-lt-MIXED_LENGTH : goal.returns-then-answer-lt-MIXED_LENGTH
@@ -29,4 +29,4 @@ returns c =
     let told = c.in_ok-r.ensures in
     let ok = sym told.is_refusal in
     let each = then_zero (closed fields a.file.now) (mixed_question a.file.now) ok in
-    answer_put mixed_bytes (closed fields a.file.now) (mixed_question a.file.now) (mixed_shown (Ok c.in_ok-r.r)) (told.if_accepted ok) each.0 each.1 c.put_mixed.ensures
+    answer_put mixed_bytes (closed fields a.file.now) (mixed_question a.file.now) (mixed_shown (Ok c.in_ok-r.r)) (told.if_accepted ok) each.0 each.1 (put_same mixed_bytes c.of.ensures c.put_mixed.ensures)

@@ -14,7 +14,7 @@ use Rattle.format.specs.TestLaws.{area_reads}
 use Rattle.format.specs.File.Piece.{closed}
 use Rattle.format.specs.File.Format.{fields, decode}
 use Rattle.host.specs.AreaCall.{WrittenOver}
-use Rattle.host.proofs.AreaLaws.{refused_short, refused_beside, refused_around, passed_beside, answer_put}
+use Rattle.host.proofs.AreaLaws.{refused_short, refused_beside, refused_around, passed_beside, answer_put, put_same}
 use Rattle.multipliers.specs.Shown.{multipliers_shown}
 use Rattle.multipliers.specs.Answers.{column_question, FileAnswered}
 use Rattle.multipliers.specs.Bytes.{multipliers_length, multipliers_bytes}
@@ -55,4 +55,4 @@ returns c =
     let ok = sym told.is_refusal in
     let each = then_zero (closed fields a.file.now) asked ok in
     answer_put multipliers_bytes (closed fields a.file.now) (multipliers_question a.file.now a.held.now a.column) (multipliers_shown (Ok c.in_ok-r.r)) (told.if_accepted ok) each.0
-    (zero_then (unless (area_test set_bytes (length a.held.now)) area_short) asked (zero_unless _ area_short passes) each.1) c.put_multipliers.ensures
+    (zero_then (unless (area_test set_bytes (length a.held.now)) area_short) asked (zero_unless _ area_short passes) each.1) (put_same multipliers_bytes c.of.ensures c.put_multipliers.ensures)

@@ -11,7 +11,7 @@ use Rattle.editing.specs.Areas.{area_file, area_open}
 use Rattle.host.specs.AnswerBytes.{answer_length, answer_bytes, AnswerWritten}
 use Rattle.format.specs.RefusalLaws.{then_zero}
 use Rattle.format.specs.File.Piece.{closed}
-use Rattle.host.proofs.AreaLaws.{refused_short, refused_around, answer_put}
+use Rattle.host.proofs.AreaLaws.{refused_short, refused_around, answer_put, put_same}
 use Rattle.solvability.proofs.calls.open_answer.Goals as goal
 
 pub returns-then-answer-lt-ANSWER_LENGTH : goal.returns-then-answer-lt-ANSWER_LENGTH
@@ -31,4 +31,4 @@ returns c =
     let told = c.in_ok-r.ensures in
     let ok = sym told.is_refusal in
     let each = then_zero (closed unnumbered_fields (area_file a.area.now)) (unless (present_test (area_open a.area.now)) column_beyond) ok in
-    answer_put answer_bytes (closed unnumbered_fields (area_file a.area.now)) (unless (present_test (area_open a.area.now)) column_beyond) (answer_shown (Ok c.in_ok-r.r)) (told.if_accepted ok) each.0 each.1 c.put_answer.ensures
+    answer_put answer_bytes (closed unnumbered_fields (area_file a.area.now)) (unless (present_test (area_open a.area.now)) column_beyond) (answer_shown (Ok c.in_ok-r.r)) (told.if_accepted ok) each.0 each.1 (put_same answer_bytes c.of.ensures c.put_answer.ensures)

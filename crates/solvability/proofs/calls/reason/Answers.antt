@@ -11,7 +11,7 @@ use Rattle.reason.specs.Answers.{reason_question, FileReason}
 use Rattle.reason.specs.Bytes.{reason_length, reason_bytes}
 use Rattle.format.specs.RefusalLaws.{then_zero}
 use Rattle.format.specs.File.Piece.{closed}
-use Rattle.host.proofs.AreaLaws.{refused_short, refused_around, answer_put}
+use Rattle.host.proofs.AreaLaws.{refused_short, refused_around, answer_put, put_same}
 use Rattle.solvability.proofs.calls.reason.Goals as goal
 
 pub returns-then-answer-lt-REASON_LENGTH : goal.returns-then-answer-lt-REASON_LENGTH
@@ -31,4 +31,4 @@ returns c =
     let told = c.in_ok-r.ensures in
     let ok = sym told.is_refusal in
     let each = then_zero (closed fields a.file.now) (reason_question (file_model a.file.now) a.column) ok in
-    answer_put reason_bytes (closed fields a.file.now) (reason_question (file_model a.file.now) a.column) (reason_shown (Ok c.in_ok-r.r)) (told.if_accepted ok) each.0 each.1 c.put_reason.ensures
+    answer_put reason_bytes (closed fields a.file.now) (reason_question (file_model a.file.now) a.column) (reason_shown (Ok c.in_ok-r.r)) (told.if_accepted ok) each.0 each.1 (put_same reason_bytes c.of.ensures c.put_reason.ensures)

@@ -1,10 +1,10 @@
--- `editing::edit_model`: the model is judged, then the edit, and then it is made.
+-- `editing::make_edit`: the model is judged, then the edit, and then it is made.
 use Rattle.std.proofs.Common.{rules, sym}
 use Rattle.std.proofs.lemmas.Result.{err_from_is_err_and}
 use Rattle.columns.specs.ColumnSets.{Fits}
 use Rattle.format.proofs.Refused.{refusal_some}
 use Rattle.editing.proofs.EditLaws.{model_refused, own_refused, edit_refused, edit_made}
-use Rattle.editing.proofs.edit_model.Goals as goal
+use Rattle.editing.proofs.make_edit.Goals as goal
 
 pub returns-in_err-judge_model : goal.returns-in_err-judge_model
 returns-in_err-judge_model c =
