@@ -1,6 +1,7 @@
 -- Bytes put one after another behind those that were put before. Assumes nothing.
-use Rattle.std.specs.Prelude.{ℕ, ◌+◌, ◌≤◌, ◌≡◌, List, [], ◌++◌, length, take, drop}
-use Rattle.std.proofs.Common.{arith, refl, sym, ap, ◌∙◌, subst, append_assoc, append-nil, length-append, length-drop, take_at, drop_at, drop-drop}
+use Rattle.std.specs.Prelude.{ℕ, ◌+◌, ◌-◌, ◌≤◌, ◌≡◌, List, [], ◌++◌, length, take, drop}
+use Rattle.std.proofs.Common.{arith, refl, sym, ap, ◌∙◌, subst, append_assoc, append-nil, length-append, length-drop, take_at, drop_at, drop-drop, take_all, le_of_eq}
+use lib.ListN.{drop_of_length-le}
 use Rattle.std.proofs.lemmas.List.{take-append-drop}
 use Rattle.std.proofs.Math.Seq.{length-take-le}
 use Rattle.writer.specs.declared.pen.Pen.{Pen}
@@ -95,3 +96,13 @@ put_long o f = omega (arith, o.at_is, f.at_is)
 -- a field put by a pen of its own
 pub put_field : {area : MutBor (List ℕ)} {bs out : List ℕ} {p q : Pen} → Opens area p → Puts bs p q → out ≡ q.area.now → Put bs area.now out q.at
 put_field o f e = record { many_is = put_long o f; bytes_are = put_over o f e }
+
+-- bytes put over the front of what is left of the area go behind those before
+pub put_left : (bs d e : List ℕ) (at : ℕ) → e ≡ over bs (take (length d - at) (drop at d)) → take at d ++ (e ++ drop (length d - at) (drop at d)) ≡ take at d ++ (bs ++ drop (at + length bs) d)
+unfolding over
+put_left bs d e at q =
+    let n = length-drop at d in
+    let left : take (length d - at) (drop at d) ≡ drop at d = take_all (length d - at) (drop at d) (le_of_eq n) in
+    let none : drop (length d - at) (drop at d) ≡ [] = drop_of_length-le (drop at d) (le_of_eq n) in
+    ap (λ (x : List ℕ). take at d ++ x)
+    (ap (λ (x : List ℕ). e ++ x) none ∙ append-nil e ∙ q ∙ ap (over bs) left ∙ ap (λ (x : List ℕ). bs ++ x) (drop-drop (length bs) at d))

@@ -93,9 +93,7 @@ fn put_parameter_row(out: &mut [u8], set: ColumnSet, n: usize) -> usize
     let size = parameter_size(n);
     let mut pen = Pen::new(out);
     pen.head(PARAMETER_TAG, size);
-    for k in 0..size {
-        pen.put(&[set.byte(k)]);
-    }
+    pen.set(set, size);
     pen.at
 }
 

@@ -1,9 +1,15 @@
 // The bytes of a field, written one behind another into the area that is lent for it.
-ghost use Rattle.std.specs.Prelude.{◌≡◌, ◌*◌, ◌<◌};
+ghost use Rattle.std.specs.Prelude.{◌≡◌, ◌*◌, ◌<◌, ◌≤◌};
 ghost use mathlib.Core.List.{[]};
+ghost use Rattle.limits.specs.Limits.{set_bytes};
+ghost use Rattle.columns.specs.Bytes.{bytes_of};
+ghost use Rattle.columns.specs.ColumnSets.{whole};
 ghost use Rattle.format.specs.File.Piece.{field_bytes};
 ghost use Rattle.format.specs.File.Format.{entry_bytes};
 ghost use Rattle.writer.specs.Putting.{Room, Puts, Opens};
+
+use columns::ColumnSet;
+use format::put_set_front;
 
 // An area, and where its next bytes go.
 #[derive(Drop)]
@@ -38,6 +44,16 @@ impl<'a> Pen<'a> {
         for number in numbers {
             self.put(&number.to_le_bytes());
         }
+    }
+
+    // The first bytes of a set, as many as named.
+    pub fn set(&mut self, set: ColumnSet, size: usize)
+        requires { (size ≤ set_bytes) × Room (bytes_of size (whole set)) self.old }
+        ensures { Puts (bytes_of size (whole set)) self.old self.new }
+    {
+        // there is room for them
+        let _ = put_set_front(&mut self.area[self.at..], set, size);
+        self.at += size;
     }
 
     // A field's head: its tag, and how long its body is.
