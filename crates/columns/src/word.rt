@@ -1,6 +1,6 @@
 // One word of a set: column x is in it if bit x is 1. Every function is total: a column that a word has no room for is in none, and
 // putting it into one changes nothing.
-ghost use Rattle.std.specs.Prelude.{◌≡◌, eqb, get_or, take};
+ghost use Rattle.std.specs.Prelude.{◌≡◌, ◌<◌, eqb, get_or, length, take};
 ghost use Rattle.counting.specs.Sets.{#};
 ghost use Rattle.columns.specs.Bytes.{number, bytes_of};
 ghost use Rattle.columns.specs.Columns.{word_width, word_bytes, members, upto_in, inserted_in, removed, moved_up_in, moved_down, least, within_in};
@@ -101,11 +101,23 @@ pub fn of_bytes(bytes: &[u8]) -> u64
 {
     match bytes.first_chunk() {
         Some(all) => u64::from_le_bytes(*all),
-        None => {
-            let mut padded = [0u8; BYTES];
-            padded[..bytes.len()].copy_from_slice(bytes);
-            u64::from_le_bytes(padded)
-        }
+        None => match bytes.split_first_chunk() {
+            Some((low, rest)) => u64::from(u32::from_le_bytes(*low)) | (few_bytes(rest) << 32),
+            None => few_bytes(bytes),
+        },
+    }
+}
+
+// The number that fewer than four bytes show.
+fn few_bytes(bytes: &[u8]) -> u64
+    requires { length bytes.now < 4 }
+    ensures { (result ≡ number bytes.now) × (result < 16777216) }
+{
+    match *bytes {
+        [] => 0,
+        [x] => u64::from(x),
+        [x, y] => u64::from_le_bytes([x, y, 0, 0, 0, 0, 0, 0]),
+        [x, y, z, ..] => u64::from_le_bytes([x, y, z, 0, 0, 0, 0, 0]),
     }
 }
 

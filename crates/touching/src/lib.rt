@@ -15,7 +15,11 @@ pub fn touching_rows(parameters: &[u64], n: usize, b: usize, set: ColumnSet) -> 
 {
     let end = columns::rows_below(parameters, b);
     let inside = set.intersection(ColumnSet::below(n));
-    (0..end)
-        .filter(|&r| columns::row(parameters, r).touches(inside))
-        .count()
+    let mut many: usize = 0;
+    for r in 0..end {
+        if columns::row(parameters, r).touches(inside) {
+            many += 1;
+        }
+    }
+    many
 }
