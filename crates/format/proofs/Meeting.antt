@@ -1,6 +1,6 @@
 -- Numbers met one after another, as loops meet them: those done are in the table, and others are still to be met. Assumes nothing.
 use mathlib.Core.Path.{◌≡◌, refl, sym, ap, ◌∙◌, subst}
-use mathlib.Core.Bool.{true, false, false≢true}
+use mathlib.Core.Bool.{Bool, true, false, false≢true}
 use Rattle.counting.specs.Bools.{not_true}
 use Rattle.format.specs.Numbers.{once}
 use mathlib.Core.List.{List, [], ◌++◌, append_assoc, append-nil}
@@ -29,6 +29,10 @@ module _ {all todo table₀ table : List ℕ} (m : Meeting all todo table₀ tab
 
   pub meeting_done : todo ≡ [] → Meets all table₀ table true
   meeting_done q = subst (λ (a : List ℕ). Meets a table₀ table true) (sym (append-nil m.done) ∙ ap (λ (t : List ℕ). m.done ++ t) (sym q) ∙ m.joined) m.met
+
+  -- the others are met at once
+  pub meeting_last : {table' : List ℕ} {r : Bool} → Meets todo table table' r → Meets all table₀ table' r
+  meeting_last {table'} {r} n = subst (λ (a : List ℕ). Meets a table₀ table' r) m.joined (meets_on m.met n)
 
 -- the same from an empty table on: whether all of them stand once
 pub record Met (all todo table : List ℕ) : Type 0 where

@@ -1,8 +1,11 @@
 -- The laws of tests and statements about every element of a list. Assumes nothing.
-use Rattle.std.specs.Prelude.{ℕ, zero, suc, ◌+◌, ◌-◌, ◌≤◌, ◌<◌, min, ◌≡◌, refl, ◌↔◌, Bool, true, false, ◌&&◌, List, [], ◌∷◌, length, get_or, take, drop}
+use Rattle.std.specs.Prelude.{ℕ, zero, suc, ◌+◌, ◌-◌, ◌≤◌, ◌<◌, min, max, ◌≡◌, refl, ◌↔◌, Bool, true, false, ◌&&◌, List, [], ◌∷◌, ◌++◌, length, get_or, take, drop, ltb}
 use Rattle.std.proofs.Common.{sym, ap, ◌∙◌, add-one, arith, length-take, length-drop, drop_of_length-le, take_all, drop-cons, get_or-take}
+use Rattle.std.proofs.Math.Bool.{and_assoc}
+use Rattle.std.proofs.Math.Nat.{zero-max}
+use Rattle.std.proofs.lemmas.Bool.Decides.{nat_tests}
 use Rattle.counting.specs.Bools.{and_in, and_left, and_right}
-use Rattle.std.specs.List.{list_all, range_with_len}
+use Rattle.std.specs.List.{list_all, range_with_len, fold}
 use Rattle.format.specs.Lists.{all_pass, All}
 
 -- a test of every element, by what the test of one says
@@ -42,6 +45,11 @@ pub all_pass_done : (f : ℕ → Bool) → all_pass f [] ≡ true
 unfolding all_pass
 all_pass_done f = refl
 
+pub all_pass_append : (f : ℕ → Bool) (xs ys : List ℕ) → all_pass f (xs ++ ys) ≡ all_pass f xs && all_pass f ys
+unfolding all_pass
+all_pass_append f [] ys = refl
+all_pass_append f (x ∷ xs) ys = ap (λ (b : Bool). f x && b) (all_pass_append f xs ys) ∙ sym (and_assoc (f x) (all_pass f xs) (all_pass f ys))
+
 -- a list by its first element and the rest
 pub first_rest : (xs : List ℕ) → 0 < length xs → xs ≡ get_or xs 0 0 ∷ drop 1 xs
 first_rest xs l = drop-cons xs 0 0 l
@@ -72,3 +80,17 @@ front_passes f b xs = go 0 (min b (length xs)) (omega arith)
     go : (r k : ℕ) → r + k ≡ min b (length xs) → list_all (λ i. f (get_or xs i 0)) (range_with_len r k) ≡ all_pass f (drop r (take b xs))
     go r zero e = sym (ap (all_pass f) (none_left b r xs (omega arith)))
     go r (suc k) e = ap (λ (t : Bool). f (get_or xs r 0) && t) (go (r + 1) k (omega arith)) ∙ sym (ap (all_pass f) (first_left b r xs (omega arith) (omega arith)))
+
+-- whether all are below p, by the largest of them and of a first one
+largest_from : (p a : ℕ) (xs : List ℕ) → ltb (fold max a xs) p ≡ ltb a p && all_pass (λ c. ltb c p) xs
+unfolding all_pass
+largest_from p a [] = grind (arith, nat_tests)
+largest_from p a (x ∷ xs) =
+    let both : ltb (max a x) p ≡ ltb a p && ltb x p = grind (arith, nat_tests) in
+    largest_from p (max a x) xs ∙ rw both (and_assoc (ltb a p) (ltb x p) (all_pass (λ c. ltb c p) xs))
+
+-- the same by the largest of them, where there is one
+pub largest_below : (p : ℕ) (xs : List ℕ) → 0 < length xs → ltb (fold max 0 xs) p ≡ all_pass (λ c. ltb c p) xs
+unfolding all_pass
+largest_below p [] l = absurd (omega arith)
+largest_below p (x ∷ xs) l = rw zero-max (largest_from p x xs)

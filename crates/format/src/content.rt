@@ -1,5 +1,6 @@
 // The contents of a model, from a file or handed over: a test of each kind.
-ghost use Rattle.std.specs.Prelude.{◌≡◌, ◌+◌, ◌*◌, ◌<◌, take, get_or};
+ghost use Rattle.std.specs.Prelude.{◌≡◌, ◌+◌, ◌*◌, ◌<◌, max, take, get_or};
+ghost use Rattle.std.specs.List.{fold};
 ghost use Rattle.columns.specs.ColumnSets.{row_numbers};
 ghost use Rattle.format.specs.Refusals.{prime_test, size_test, constant_test, parameter_test};
 ghost use Rattle.format.specs.File.Format.{entries};
@@ -34,18 +35,38 @@ pub fn sizes_within(n: usize, a: usize, b: usize) -> bool
     1 <= n && n <= MOST_COLUMNS && a <= MOST_ROWS && b <= MOST_ROWS
 }
 
-// Whether every entry of a row's body is below p.
+// Whether every entry of a row's body is below p. All of a row are compared with one another, and the largest with p.
 pub fn entries_below(body: &[u8], p: u32) -> bool
     ensures { result ≡ constant_test p (entries body.now) }
 {
-    body.chunks_exact(2).all(|pair| two(pair[0], pair[1]) < p)
+    body.len() < 2 || u32::from(largest_entry(body)) < p
 }
 
-// Whether every constant is below p.
+// The largest entry of a row's body, or 0 where it has none.
+fn largest_entry(body: &[u8]) -> u16
+    ensures { result ≡ fold max 0 (entries body.now) }
+{
+    body.chunks_exact(2).fold(0u16, |largest, pair| {
+        largest.max(u16::from_le_bytes([pair[0], pair[1]]))
+    })
+}
+
+// Whether every constant is below p: part by part, by the largest of each, so that a part with one that is not is the last one read.
 pub fn constants_below(constants: &[u16], p: u32) -> bool
     ensures { result ≡ constant_test p constants.now }
 {
-    constants.iter().all(|&constant| u32::from(constant) < p)
+    constants
+        .chunks(MOST_COLUMNS)
+        .all(|part| u32::from(largest_constant(part)) < p)
+}
+
+// The largest of some constants, or 0 where there is none.
+fn largest_constant(constants: &[u16]) -> u16
+    ensures { result ≡ fold max 0 constants.now }
+{
+    constants
+        .iter()
+        .fold(0u16, |largest, &constant| largest.max(constant))
 }
 
 // Whether none of the first b parameter rows, or of all that the area holds, has a parameter at column n or later.

@@ -39,8 +39,34 @@ fn meet(table: &mut [u64], lo: u8, hi: u8) -> bool
     true
 }
 
-// The same of each number of a field's body.
+// The same of four numbers.
+fn meet_four(table: &mut [u64], four: &[u8]) -> bool
+    requires { (length table.old ≡ table_words) × (length four.now ≡ 8) }
+    ensures { Meets (entries four.now) table.old table.new result }
+{
+    meet(table, four[0], four[1])
+        && meet(table, four[2], four[3])
+        && meet(table, four[4], four[5])
+        && meet(table, four[6], four[7])
+}
+
+// The same of each number of a field's body: four in a turn, and then the up to three that are left.
 pub fn meet_entries(table: &mut [u64], body: &[u8]) -> bool
+    requires { length table.old ≡ table_words }
+    ensures { Meets (entries body.now) table.old table.new result }
+{
+    let fours = body.chunks_exact(8);
+    let rest = fours.remainder();
+    for four in fours {
+        if !meet_four(table, four) {
+            return false;
+        }
+    }
+    meet_rest(table, rest)
+}
+
+// The same of the numbers that are left, one in a turn.
+fn meet_rest(table: &mut [u64], body: &[u8]) -> bool
     requires { length table.old ≡ table_words }
     ensures { Meets (entries body.now) table.old table.new result }
 {

@@ -1,15 +1,19 @@
 -- `content::entries_below` meets its contract. Assumes nothing.
-use Rattle.std.proofs.Common.{rules, tests, ltb, ap, ◌∙◌}
-use Rattle.std.proofs.lemmas.Iterator.Search.{all_from_yields_List}
+use borrow.Author.Tests.{lt-ltb}
+use Rattle.std.proofs.Common.{length, ltb, arith, sym, ap, ◌∙◌}
 use Rattle.format.specs.Refusals.{constant_test}
+use Rattle.format.specs.ListLaws.{all_pass_done, largest_below}
 use Rattle.format.specs.File.Format.{entries}
-use Rattle.format.specs.ListLaws.{all_pass_is}
-use Rattle.format.proofs.Entries.{pairs}
+use Rattle.format.proofs.Entries.{entries_next, entries_done}
 use Rattle.format.proofs.content.entries_below.Goals as goal
 
-pub returns : goal.returns
+pub returns-then-body-lt2 : goal.returns-then-body-lt2
 unfolding constant_test
-returns c =
-    let cut = c.chunks_exact.ensures in
-    all_from_yields_List (λ x. ltb x c.args.p) _ _ _ c.all.ensures.ran (pairs c.chunks_exact.result cut.size) (λ x b q k. search (rules, tests))
-    ∙ all_pass_is (λ x. ltb x c.args.p) _ ∙ ap (λ s. constant_test c.args.p (entries s)) cut.rest
+returns-then-body-lt2 c =
+    lt-ltb _ _ c.if-body-lt2.true ∙ sym (ap (constant_test c.args.p) (entries_done c.args.body.now c.if-body-lt2.true) ∙ all_pass_done (λ x. ltb x c.args.p))
+
+pub returns-else-body-lt2 : goal.returns-else-body-lt2
+unfolding constant_test
+returns-else-body-lt2 c =
+    let some = ap length (entries_next c.args.body.now c.if-body-lt2.false) in
+    ap (λ x. ltb x c.args.p) (c.from.ensures ∙ c.largest_entry.ensures) ∙ largest_below c.args.p (entries c.args.body.now) (omega (arith, some))
