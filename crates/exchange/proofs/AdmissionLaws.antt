@@ -31,8 +31,14 @@ use Rattle.exchange.specs.declared.state.State.{State}
 use Rattle.exchange.specs.Code.Held.{Given, model_of, ShowsConstants}
 use Rattle.exchange.proofs.CellLaws.{zeros_below, filled_below}
 
-pub below_largest : (p k top : ℕ) (cs : List ℕ) → 0 < p → k ≤ length cs → Largest (take k cs) (length (take k cs)) top → ltb top p ≡ all_below p k cs
-below_largest p k top cs pos lk h =
+pub below_largest : (p k top : ℕ) (cs : List ℕ) → 0 < p → Largest cs k top → ltb top p ≡ all_below p k cs
+below_largest p k top cs pos h = iff_eq (ltb top p) (all_below p k cs)
+    (λ e. (all_below_iff p k cs).1 (λ i l. omega (arith, ltb-true top p e, h.most i l)))
+    (λ e. lt-ltb top p (elim h.one [ inl z ↦ omega arith | inr w ↦ omega (arith, (all_below_iff p k cs).0 e w.0 w.1, w.2) ]))
+
+-- the same of the largest of the first k alone
+pub taken_below_largest : (p k top : ℕ) (cs : List ℕ) → 0 < p → k ≤ length cs → Largest (take k cs) (length (take k cs)) top → ltb top p ≡ all_below p k cs
+taken_below_largest p k top cs pos lk h =
     let long = length-take-le k cs lk in
     iff_eq (ltb top p) (all_below p k cs)
     (λ e. (all_below_iff p k cs).1 (λ i l. omega (arith, ltb-true top p e, h.most i (omega (arith, long)), get_or-take k cs i 0 l)))

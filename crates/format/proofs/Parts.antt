@@ -8,8 +8,10 @@ use lib.ListN.{length, take, drop, length-drop}
 use lib.Seq.{drop-drop, drop-nil}
 use Rattle.format.specs.ListLaws.{tail_part}
 use Rattle.format.specs.Refusals.{head_bytes, said_length}
-use Rattle.format.specs.File.Format.{parameter_tag, parameter_body, parameter_row}
-use Rattle.format.specs.File.Piece.{Body, Piece, field, many_rest, said_rest, said_rests, PartAt, LastPart}
+use mathlib.Core.Bool.{Bool, true, false, cond}
+use Rattle.format.specs.Numbers.{parameter_count}
+use Rattle.format.specs.File.Format.{parameter_tag, number_tag, parameter_body, number_body, parameter_row, number_field, numbered_row, and_its_numbers, numbered_rows, numbered_test, parameter_rows}
+use Rattle.format.specs.File.Piece.{Body, Piece, field, many_rest, chain_rest, said_rest, said_rests, PartAt, LastPart}
 
 -- u is what s holds from some place on
 pub record Ends (u s : List ℕ) : Type 0 where
@@ -49,6 +51,10 @@ pub many_ends : {A : Type 0} (P : Piece A) → ((s : List ℕ) → Ends (P.rest 
 many_ends P h zero s = ends_drop 0 s
 many_ends P h (suc k) s = ends_in (many_ends P h k (P.rest s)) (h s)
 
+pub chain_ends : {S A : Type 0} (P : S → Piece A) (step : S → A → S) → ((x : S) (s : List ℕ) → Ends ((P x).rest s) s) → (k : ℕ) (x : S) (s : List ℕ) → Ends (chain_rest P step k x s) s
+chain_ends P step h zero x s = ends_drop 0 s
+chain_ends P step h (suc k) x s = ends_in (chain_ends P step h k (step x ((P x).dec s)) ((P x).rest s)) (h x s)
+
 pub said_ends : (s : List ℕ) → Ends (said_rest s) s
 unfolding said_rest
 said_ends s = ends_in (ends_drop (said_length s) (drop head_bytes s)) (ends_drop head_bytes s)
@@ -83,8 +89,20 @@ part_next {u} {holds} {lent} {m} {r} p f k h e q area start =
 pub part_front : {start : ℕ} {u holds : List ℕ} {lent m r : Bor (List ℕ)} → PartAt start u lent m → r.now ≡ holds → r.ref_ptr.0 ≡ m.ref_ptr.0 → r.ref_ptr.1 ≡ m.ref_ptr.1 → PartAt start holds lent r
 part_front p e area start = record { bytes_are = e; same_area = area ∙ p.same_area; start_is = start ∙ p.start_is; length_is = ap length e }
 
--- what follows a parameter row
+-- what follows parameter rows, numbered or not
 module _ (n : ℕ) where
   pub row_ends : (s : List ℕ) → Ends ((parameter_row n).rest s) s
   unfolding parameter_row
   row_ends s = field_ends parameter_tag (parameter_body n) s
+
+  pub numbered_ends : (before s : List ℕ) → Ends ((numbered_row n before).rest s) s
+  unfolding number_field
+  numbered_ends before s = ends_in (field_ends number_tag (number_body (parameter_count n ((parameter_row n).dec s)) before) ((parameter_row n).rest s)) (row_ends s)
+
+  pub parameter_rows_ends : (b : ℕ) (s : List ℕ) → Ends ((parameter_rows n b).rest s) s
+  unfolding parameter_rows numbered_rows
+  parameter_rows_ends b s = by (numbered_test n b s)
+    where
+      by : (t : Bool) → Ends (cond t (chain_rest (numbered_row n) and_its_numbers b [] s) (many_rest (parameter_row n) b s)) s
+      by true = chain_ends (numbered_row n) and_its_numbers numbered_ends b [] s
+      by false = many_ends (parameter_row n) row_ends b s

@@ -9,7 +9,7 @@ use native.Mathlib.Decide.{ℕ_discrete}
 use Rattle.counting.specs.Bools.{not_true, iff_eq}
 use Rattle.counting.specs.Sets.{Set, ◌∈◌, #}
 use Rattle.columns.specs.Columns.{width, none, removed, least}
-use Rattle.columns.specs.Words.SetLaws.{removed_old, removed_gone, removed_other, least_there, nothing_in_none}
+use Rattle.columns.specs.Words.SetLaws.{removed_old, removed_gone, removed_other, least_there, nothing_in, nothing_in_none}
 use Rattle.columns.specs.Words.Operations.{least_first}
 use Rattle.text.specs.Text.{item, columns_from, column_items}
 
@@ -49,6 +49,11 @@ column_items_next S h =
     let low : (y : ℕ) → y < least width S → S y ≡ false = λ y l. not_true (S y) (λ e. omega (arith, least_first width S y (omega (arith, there.0)) e)) in
     ap (λ (cs : List ℕ). flat_map item cs) (columns_first width 0 (least width S) S (omega arith) there.0 there.1 low)
 
-pub column_items_none : (S : Set) → S ≡ none → column_items S ≡ []
+pub column_items_none : (S : Set) → # width S ≡ 0 → column_items S ≡ []
 unfolding column_items flat_map
-column_items_none S e = ap (λ (cs : List ℕ). flat_map item cs) (columns_none width 0 S (λ y l. not_true (S y) (nothing_in_none S e y)))
+column_items_none S h = ap (λ (cs : List ℕ). flat_map item cs) (columns_none width 0 S (λ y l. not_true (S y) (nothing_in width S h y l)))
+
+-- the same of the empty set
+pub column_items_empty : (S : Set) → S ≡ none → column_items S ≡ []
+unfolding column_items flat_map
+column_items_empty S e = ap (λ (cs : List ℕ). flat_map item cs) (columns_none width 0 S (λ y l. not_true (S y) (nothing_in_none S e y)))

@@ -101,15 +101,6 @@ pub picked_done : (S : Set) (row : List ℕ) → S ≡ columns.none → entry_by
 unfolding entry_bytes
 picked_done S row e = rw (e, picked_empty 0 row) refl
 
--- the bytes of a set one by one
-pub byte_next : (size w k b : ℕ) → k < size → size ≤ room_bytes → b ≡ get_or (bytes_of room_bytes w) k 0 → drop k (bytes_of size w) ≡ (b ∷ []) ++ drop (k + 1) (bytes_of size w)
-byte_next size w k b h m e =
-    let own : get_or (bytes_of size w) k 0 ≡ b = ap (λ (t : List ℕ). get_or t k 0) (sym (bytes_front size room_bytes w m)) ∙ get_or-take size (bytes_of room_bytes w) k 0 h ∙ sym e in
-    rw (drop-cons (bytes_of size w) k 0 (omega (arith, bytes_of_length size w)), own, add-one) refl
-
-pub bytes_done : (size w k : ℕ) → size ≤ k → drop k (bytes_of size w) ≡ []
-bytes_done size w k h = drop_of_length-le (bytes_of size w) {i = k} (omega (arith, bytes_of_length size w))
-
 -- ---- constant rows
 
 pub rows_taken : (n k left : ℕ) (s x t : List ℕ) → s ≡ x ++ t → length x ≡ n → left + 1 ≡ k → flat_map (constant_bytes n) (rows_of n k s) ≡ constant_bytes n x ++ flat_map (constant_bytes n) (rows_of n left t)

@@ -4,7 +4,7 @@ use Rattle.columns.specs.Turns.{left}
 use Rattle.columns.specs.Words.SetLaws.{nothing_in}
 use Rattle.text.specs.Text.{item}
 use Rattle.text.specs.PutLaws.{putting_next, putting_all}
-use Rattle.text.proofs.ColumnItems.{column_items_next, column_items_none}
+use Rattle.text.proofs.ColumnItems.{column_items_next, column_items_empty}
 use Rattle.text.proofs.put_columns.Goals as goal
 
 pub loop-x-preserved : goal.loop-x-preserved
@@ -15,4 +15,4 @@ loop-x-preserved c =
     putting_next (item c.in-Some.x) _ c.loop-x.invariant (rw (turn.others, turn.first) next) c.put_item-place.ensures
 
 pub returns : goal.returns
-returns c = putting_all c.loop-x.invariant (column_items_none _ c.in-None.ensures.steps.0)
+returns c = putting_all c.loop-x.invariant (column_items_empty _ c.in-None.ensures.steps.0)

@@ -12,7 +12,7 @@ use Rattle.columns.specs.ColumnSets.{whole}
 use Rattle.models.specs.Lent.{constants_lent, rows_lent}
 use Rattle.exchange.specs.Solve.{fitting}
 use Rattle.exchange.specs.SolveLaws.{Fitting, fitting_reads, at_last}
-use Rattle.exchange.proofs.AdmissionLaws.{below_largest}
+use Rattle.exchange.proofs.AdmissionLaws.{taken_below_largest}
 use Rattle.exchange.proofs.admission.is_admissible.Goals as goal
 use Rattle.exchange.proofs.admission.is_admissible.Goals.{Then-is_prime, then-fits, else-fits, then-within, else-within, then-model-lt65536, else-model-lt65536}
 
@@ -60,5 +60,5 @@ pub returns-then-is_prime : goal.returns-then-is_prime
 returns-then-is_prime c =
     let m = c.args.model.now in
     let h = passed (goal.at.returns-then-is_prime c).Then-is_prime in
-    rw c.from.ensures (below_largest m.p (m.a * m.n) c.largest.result (constants_lent m) (omega (arith, ((is_prime_reads m.p).0 h.prime).least)) (sizes (goal.at.returns-then-is_prime c).Then-is_prime).constants_lent c.largest.ensures)
+    rw c.from.ensures (taken_below_largest m.p (m.a * m.n) c.largest.result (constants_lent m) (omega (arith, ((is_prime_reads m.p).0 h.prime).least)) (sizes (goal.at.returns-then-is_prime c).Then-is_prime).constants_lent c.largest.ensures)
     ∙ at_last m.p m.n m.a m.b (whole c.args.offered) (constants_lent m) (rows_lent m) h.size h.inside (lt-ltb m.p 65536 h.short) h.prime
