@@ -1,6 +1,7 @@
--- What a file says before its rows, field after field, as the code goes through them. Assumes nothing.
+-- What a file says before its rows, field after field, as the code goes through them: what is due next, what each call gives, and that all of them
+-- together say what the file says. Assumes nothing.
 use Prim.Native.Nat.{ℕ, zero, suc, ◌+◌, ◌*◌}
-use mathlib.Core.Path.{◌≡◌, refl, sym, ap, ◌∙◌}
+use mathlib.Core.Path.{◌≡◌, refl, sym, ap, subst, ◌∙◌}
 use mathlib.Core.Logic.{◌≢◌, by_cases}
 use mathlib.Core.Bool.{Bool, true, false, cond}
 use mathlib.Core.List.{List, [], ◌∷◌}
@@ -9,19 +10,19 @@ use borrow.Author.Tests.{eq-eqb, ne_eqb}
 use native.Mathlib.Omega.{arith}
 use denote.Ref.{Bor}
 use lib.ListN.{get_or, take}
-use Rattle.std.specs.Prelude.{Result, Ok, Err, IsErrAnd}
+use Rattle.std.specs.Prelude.{Result, Ok, Err, IsErrAnd, IfOk}
 use Rattle.std.proofs.lemmas.Result.{err_from_is_err_and}
 use Rattle.columns.specs.Bytes.{number}
 use Rattle.format.specs.declared.header.Header.{Header}
 use Rattle.format.specs.declared.reader.Reader.{Reader}
 use Rattle.format.specs.declared.refusals.Refusal.{Refusal}
-use Rattle.format.specs.Refused.{refusal_number}
+use Rattle.format.specs.Refused.{refusal_number, refusal_of}
 use Rattle.format.specs.Refusals.{first_refusal}
 use Rattle.format.specs.RefusalLaws.{then_zero, unless_zero, where_refused, accepted_value}
 use Rattle.format.specs.TestLaws.{prime_reads, size_reads}
-use Rattle.format.specs.File.Piece.{Piece, seq, head_tests, closed, Judgement, said_rest}
+use Rattle.format.specs.File.Piece.{head_tests, closed, Judgement, said_rest}
 use Rattle.format.specs.File.Format.{prime_tag, sizes_tag, prime_body, sizes_body, prime_field, sizes_field, row_fields, size_fields, fields, judge, decode, Said, header, refused_header, Says, HeaderRead}
-use Rattle.format.specs.File.Steps.{or_refused, prime_said, sizes_said, rows_said, next_said, PrimeRead, SizesRead}
+use Rattle.format.specs.File.Steps.{or_refused, prime_said, sizes_said, rows_said, next_said, p_known, all_known, said_of, PrimeRead, SizesRead}
 use Rattle.format.proofs.Judging.{rest_due, refused_some, seq_refused, seq_passed}
 
 -- p of its two bytes
@@ -74,6 +75,17 @@ module _ (s : List ℕ) (h : Said) where
 
 -- ---- all of them
 
+-- behind the field of the sizes, and that n is one of its limits
+sizes_front : (t : List ℕ) → first_refusal (sizes_field.tests t) ≡ 0 → said_rest t ≡ sizes_field.rest t
+unfolding sizes_field
+sizes_front t e = rest_due sizes_tag sizes_body.size t (then_zero (head_tests sizes_tag sizes_body.size t) _ e).0
+
+n_front : (t : List ℕ) → first_refusal (sizes_field.tests t) ≡ 0 → (sizes_field.dec t).0 ≢ 0
+unfolding sizes_field
+n_front t e z =
+    let v = (size_reads _ _ _).0 (unless_zero _ _ (then_zero (head_tests sizes_tag sizes_body.size t) _ e).1) in
+    omega (arith, v.0)
+
 refused_file : (s : List ℕ) (k : ℕ) → k ≡ judge s → k ≢ 0 → refused_header k ≡ header s
 unfolding header
 refused_file s k e z = said_refused _ k e z
@@ -97,8 +109,7 @@ module _ (s : List ℕ) where
   prime_rest e = rest_due prime_tag prime_body.size s (then_zero (head_tests prime_tag prime_body.size s) _ e).0
 
   pub sizes_rest : first_refusal (sizes_field.tests second) ≡ 0 → said_rest second ≡ third
-  unfolding sizes_field
-  sizes_rest e = rest_due sizes_tag sizes_body.size second (then_zero (head_tests sizes_tag sizes_body.size second) _ e).0
+  sizes_rest e = sizes_front second e
 
   p_some : first_refusal (prime_field.tests s) ≡ 0 → prime_field.dec s ≢ 0
   unfolding prime_field
@@ -107,10 +118,7 @@ module _ (s : List ℕ) where
       omega (arith, v.least)
 
   n_some : first_refusal (sizes_field.tests second) ≡ 0 → (sizes_field.dec second).0 ≢ 0
-  unfolding sizes_field
-  n_some e z =
-      let v = (size_reads _ _ _).0 (unless_zero _ _ (then_zero (head_tests sizes_tag sizes_body.size second) _ e).1) in
-      omega (arith, v.0)
+  n_some e = n_front second e
 
   -- after a refusal nothing more is said
   stays : (k : ℕ) → k ≢ 0 → (t : List ℕ) → next_said t (refused_header k) ≡ refused_header k
@@ -177,65 +185,83 @@ pub header_accepted : (s : List ℕ) → judge s ≡ 0 → header s ≡ record {
 unfolding header
 header_accepted s e = sym (said_passed _ 0 (sym e) refl)
 
--- ---- a file judged: the fields of p and of the sizes, and then the rows, whatever fields these have
-
 -- two bytes as a number
 pub two_body : (s b : List ℕ) → b ≡ take 2 s → get_or b 0 0 + 256 * get_or b 1 0 ≡ number b
 two_body s b e = rw e (two_number s)
 
-module _ {A : Type 0} (rows : ℕ → ℕ × ℕ × ℕ → Piece A) (file : Bor (List ℕ)) where
-  abbrev s : List ℕ
-  s = file.now
+-- ---- what a call gives, in the form of what the fields say
 
-  abbrev size_part : ℕ → Piece ((ℕ × ℕ × ℕ) × A)
-  size_part p = seq sizes_field (λ z. rows p z)
+said_so : {A : Type 0} (known : A → Said) {k : ℕ} (h : Said) (r : Result A Refusal) → refusal_of r ≡ k → IfOk r (λ x. known x ≡ h) → said_of known r ≡ or_refused k h
+said_so known h (Ok x) q e = e ∙ said_passed h 0 q refl
+said_so known h (Err d) q e = said_refused h (refusal_number d) q (refused_some d)
 
-  abbrev whole_file : Piece (ℕ × ((ℕ × ℕ × ℕ) × A))
-  whole_file = seq prime_field size_part
+pub prime_so : {A : Type 0} (s : List ℕ) {r : Result (ℕ × A) Refusal} → Judgement (prime_field.tests s) (λ x. x.0 ≡ prime_field.dec s) r → said_of (λ x. p_known x.0) r ≡ prime_said s
+unfolding prime_said
+prime_so {A} s {r = Ok x} i = said_so {A = ℕ × A} (λ y. p_known y.0) _ (Ok x) i.refusal_is (ap p_known i.given)
+prime_so {A} s {r = Err d} i = said_so {A = ℕ × A} (λ y. p_known y.0) _ (Err d) i.refusal_is tt
 
-  pub prime_refused : (e : Refusal) → refusal_number e ≡ first_refusal (prime_field.tests s) → refusal_number e ≡ first_refusal (closed whole_file s)
-  prime_refused e q = seq_refused prime_field size_part s _ q (refused_some e)
+all_so : (h : Header) (p : ℕ) (z : ℕ × ℕ × ℕ) → h.p ≡ p → (h.n, h.a, h.b) ≡ z → all_known h ≡ record { refusal = 0; p = p; n = z.0; a = z.1; b = z.2 }
+all_so h p z q r = rw (← q, ← r) refl
 
-  module _ {p : ℕ} {sizes : Reader} (i : Judgement (prime_field.tests s) (PrimeRead file) (Ok (p, sizes))) where
-    pub sizes_refused : (e : Refusal) → refusal_number e ≡ first_refusal (sizes_field.tests sizes.rest.now) → refusal_number e ≡ first_refusal (closed whole_file s)
-    sizes_refused e q =
-        let r = rw i.given.rest_is.bytes_are at q in
-        seq_passed prime_field size_part s _ (sym i.refusal_is) (seq_refused sizes_field (λ z. rows (prime_field.dec s) z) (second s) _ r (refused_some e))
+pub sizes_so : {A : Type 0} (p : ℕ) (s : List ℕ) {r : Result (Header × A) Refusal}
+    → Judgement (sizes_field.tests s) (λ x. (x.0.p ≡ p) × ((x.0.n, x.0.a, x.0.b) ≡ sizes_field.dec s)) r → said_of (λ x. all_known x.0) r ≡ sizes_said s (p_known p)
+unfolding sizes_said
+sizes_so {A} p s {r = Ok x} i = said_so {A = Header × A} (λ y. all_known y.0) _ (Ok x) i.refusal_is (all_so x.0 p (sizes_field.dec s) i.given.0 i.given.1)
+sizes_so {A} p s {r = Err d} i = said_so {A = Header × A} (λ y. all_known y.0) _ (Err d) i.refusal_is tt
 
-    module _ {h : Header} {behind : Reader} (j : Judgement (sizes_field.tests sizes.rest.now) (SizesRead p sizes.rest) (Ok (h, behind))) where
-      pub said_p : h.p ≡ prime_field.dec s
-      said_p = j.given.p_is ∙ i.given.p_is
+pub rows_so : {A : Type 0} (h : Header) (s : List ℕ) (r : Result A Refusal) → refusal_of r ≡ first_refusal (closed (row_fields h.p (h.n, h.a, h.b)) s)
+    → said_of (λ _. all_known h) r ≡ rows_said s (all_known h)
+unfolding rows_said
+rows_so {A} h s (Ok x) q = said_so {A = A} (λ _. all_known h) _ (Ok x) q refl
+rows_so {A} h s (Err d) q = said_so {A = A} (λ _. all_known h) _ (Err d) q tt
 
-      pub said_sizes : (h.n, h.a, h.b) ≡ sizes_field.dec (second s)
-      said_sizes = j.given.sizes_are ∙ ap sizes_field.dec i.given.rest_is.bytes_are
+-- ---- what the three calls say together is what the file says before its rows
 
-      pub heads_passed : (k : ℕ) → k ≡ first_refusal (closed (rows h.p (h.n, h.a, h.b)) behind.rest.now) → k ≡ first_refusal (closed whole_file s)
-      heads_passed k q =
-          let t = j.given.rest_is.bytes_are ∙ ap sizes_field.rest i.given.rest_is.bytes_are in
-          let z : first_refusal (sizes_field.tests (second s)) ≡ 0 = ap (λ (u : List ℕ). first_refusal (sizes_field.tests u)) (sym i.given.rest_is.bytes_are) ∙ sym j.refusal_is in
-          let r : first_refusal (closed (rows h.p (h.n, h.a, h.b)) behind.rest.now) ≡ first_refusal (closed (rows (prime_field.dec s) (sizes_field.dec (second s))) (third s)) =
-          rw (said_p, said_sizes, t) refl in
-          seq_passed prime_field size_part s k (sym i.refusal_is) (seq_passed sizes_field (λ y. rows (prime_field.dec s) y) (second s) k z (q ∙ r))
+module _ (s : List ℕ) {h₁ h₂ h₃ : Said} where
+  pub all_three : h₁ ≡ prime_said s → h₂ ≡ next_said (said_rest s) h₁ → h₃ ≡ next_said (said_rest (said_rest s)) h₂ → h₃ ≡ header s
+  all_three e f g =
+      let first : next_said s (refused_header 0) ≡ h₁ = first_said s ∙ sym e in
+      g ∙ ap (next_said (said_rest (said_rest s))) (f ∙ ap (next_said (said_rest s)) (sym first)) ∙ file_said s
 
--- what is given of what was said
-pub said_err : {said : Said} {k : ℕ} (e : Refusal) → said.refusal ≡ k → refusal_number e ≡ k → HeaderRead said (Err e)
-said_err e l q = record { refusal_is = q ∙ sym l; given = tt }
+module _ (s : List ℕ) (e : Refusal) where
+  -- after a refusal nothing more is said
+  pub none_due : refused_header (refusal_number e) ≡ next_said s (refused_header (refusal_number e))
+  none_due = sym (stays s (refusal_number e) (refused_some e) s)
 
-pub said_ok : {said : Said} {h : Header} (p : ℕ) (z : ℕ × ℕ × ℕ) → said ≡ record { refusal = 0; p = p; n = z.0; a = z.1; b = z.2 } → h.p ≡ p → (h.n, h.a, h.b) ≡ z → HeaderRead said (Ok h)
-said_ok p z e q r =
-    let f = sym e in
-    record {
-      refusal_is = ap (λ (x : Said). x.refusal) f;
-      given = record {
-        p_is = q ∙ ap (λ (x : Said). x.p) f;
-        n_is = ap (λ (y : ℕ × ℕ × ℕ). y.0) r ∙ ap (λ (x : Said). x.n) f;
-        a_is = ap (λ (y : ℕ × ℕ × ℕ). y.1) r ∙ ap (λ (x : Said). x.a) f;
-        b_is = ap (λ (y : ℕ × ℕ × ℕ). y.2) r ∙ ap (λ (x : Said). x.b) f;
-      };
-    }
+module _ (file : Bor (List ℕ)) {p : ℕ} {sizes : Reader} (i : Judgement (prime_field.tests file.now) (PrimeRead file) (Ok (p, sizes))) where
+  pub sizes_at : sizes.rest.now ≡ said_rest file.now
+  sizes_at = i.given.rest_is.bytes_are ∙ sym (prime_rest file.now (sym i.refusal_is))
 
-pub said_handed : {said : Said} {r : Result Header Refusal} (e : Refusal) → IsErrAnd r (λ d. d ≡ e) → refusal_number e ≡ said.refusal → HeaderRead said r
-said_handed {r = r} e h q = let p = err_from_is_err_and r h in rw p.1 (said_err _ refl (ap refusal_number p.2 ∙ q))
+  p_given : p ≢ 0
+  p_given z = p_some file.now (sym i.refusal_is) (sym i.given.p_is ∙ z)
+
+  -- the field of the sizes is due where p is said
+  pub sizes_due : {h : Said} → h ≡ sizes_said sizes.rest.now (p_known p) → h ≡ next_said (said_rest file.now) (p_known p)
+  sizes_due e = e ∙ ap (λ t. sizes_said t (p_known p)) sizes_at ∙ next_sizes (said_rest file.now) (p_known p) refl p_given refl
+
+  module _ {h : Header} {behind : Reader} (j : Judgement (sizes_field.tests sizes.rest.now) (SizesRead p sizes.rest) (Ok (h, behind))) where
+    pub rows_at : behind.rest.now ≡ said_rest sizes.rest.now
+    rows_at = j.given.rest_is.bytes_are ∙ sym (sizes_front sizes.rest.now (sym j.refusal_is))
+
+    n_given : h.n ≢ 0
+    n_given z = n_front sizes.rest.now (sym j.refusal_is) (sym (ap (λ (y : ℕ × ℕ × ℕ). y.0) j.given.sizes_are) ∙ z)
+
+    -- the rows are due where the sizes are said
+    pub rows_due : {g : Said} → g ≡ rows_said behind.rest.now (all_known h) → g ≡ next_said (said_rest (said_rest file.now)) (all_known h)
+    rows_due e =
+        e ∙ ap (λ t. rows_said t (all_known h)) (rows_at ∙ ap said_rest sizes_at)
+        ∙ next_rows (said_rest (said_rest file.now)) (all_known h) refl (λ z. p_given (sym j.given.p_is ∙ z)) n_given
+
+-- ---- what is given of what was said
+
+pub said_ok : {said : Said} {h : Header} → all_known h ≡ said → HeaderRead said (Ok h)
+said_ok {h = h} q = subst (λ x. HeaderRead x (Ok h)) q (record { refusal_is = refl; given = record { p_is = refl; n_is = refl; a_is = refl; b_is = refl } })
+
+pub said_handed : {said : Said} {r : Result Header Refusal} (e : Refusal) → IsErrAnd r (λ d. d ≡ e) → refused_header (refusal_number e) ≡ said → HeaderRead said r
+unfolding refused_header
+said_handed {said} {r} e h q =
+    let p = err_from_is_err_and r h in
+    rw p.1 (record { refusal_is = ap refusal_number p.2 ∙ ap (λ (x : Said). x.refusal) q; given = tt })
 
 -- what a header read says of the file
 module _ (s : List ℕ) {h : Header} (r : HeaderRead (header s) (Ok h)) where

@@ -1,6 +1,6 @@
 -- What functions of crates format, loader and writer promise on the way: what the fields of a file say one after another, and the parts of a file
 -- as they are read and written. Definitions only.
-use Rattle.std.specs.Prelude.{ℕ, zero, suc, ◌*◌, ◌^◌, ◌<◌, ◌≡◌, Bool, cond, eqb, length, take, drop}
+use Rattle.std.specs.Prelude.{ℕ, zero, suc, ◌*◌, ◌^◌, ◌<◌, ◌≡◌, Bool, cond, eqb, length, take, drop, Result, Ok, Err}
 use mathlib.Core.List.{List, [], ◌∷◌, ◌++◌, flat_map}
 use Rattle.std.proofs.Math.Option.{Option, none, some}
 use Rattle.columns.specs.Bytes.{number, bytes_of}
@@ -10,13 +10,16 @@ use Rattle.columns.specs.ColumnSets.{whole}
 use Rattle.std.specs.Borrow.{Bor}
 use Rattle.format.specs.declared.header.Header.{Header}
 use Rattle.format.specs.declared.reader.Reader.{Reader}
+use Rattle.format.specs.declared.refusals.Refusal.{Refusal}
+use Rattle.format.specs.Refused.{refusal_number}
 use Rattle.format.specs.Lists.{over}
 use Rattle.format.specs.Numbers.{parameter_count, picked, spread}
 use Rattle.format.specs.Refusals.{first_refusal, where_accepted}
 use Rattle.format.specs.File.Piece.{field_bytes, closed, said_body, said_rest, said_bodies, said_rests, LastPart}
 use Rattle.format.specs.File.Format.{entries, entry_bytes, constant_tag, parameter_tag, number_tag, parameter_size, prime_field, sizes_field, parameter_row, row_fields, Said, refused_header}
 
--- ---- judged: what the fields say, or a refusal alone
+-- ---- judged: what the fields say, or a refusal alone. The reader's `prime`, `sizes` and `rows` promise the first three of what they give; `next_said` joins
+-- them to what the whole file says before its rows, by which `read_header` is proved
 
 abbrev pub or_refused : ℕ → Said → Said
 or_refused k h = where_accepted k h (refused_header k)
@@ -35,6 +38,17 @@ rows_said s h = or_refused (first_refusal (closed (row_fields h.p (h.n, h.a, h.b
 -- what is due next goes by what was said before: p, then the sizes, then the rows and the end; after a refusal nothing
 unfoldable pub next_said : List ℕ → Said → Said
 next_said s h = where_accepted h.refusal (cond (eqb h.p 0) (prime_said s) (cond (eqb h.n 0) (sizes_said s h) (rows_said s h))) h
+
+-- what a call gives, in that form: the refusal alone, or what is known then, p, or p, n, a, b
+abbrev pub p_known : ℕ → Said
+p_known p = record { refusal = 0; p = p; n = 0; a = 0; b = 0 }
+
+abbrev pub all_known : Header → Said
+all_known h = record { refusal = 0; p = h.p; n = h.n; a = h.a; b = h.b }
+
+abbrev pub said_of : {A : Type 0} → (A → Said) → Result A Refusal → Said
+said_of known (Ok x) = known x
+said_of known (Err e) = refused_header (refusal_number e)
 
 -- the field of p judged: p, and what follows it, which is the last part of the bytes lent
 pub record PrimeParts (s : Bor (List ℕ)) (parts : ℕ × Bor (List ℕ)) : Type 0 where
