@@ -7,7 +7,6 @@ ghost use Rattle.columns.specs.Bytes.{number};
 ghost use Rattle.columns.specs.Columns.{room_bytes, members};
 ghost use Rattle.columns.specs.ColumnSets.{row_numbers};
 ghost use Rattle.format.specs.Numbers.{lent};
-ghost use Rattle.format.specs.Refused.{refusal_of};
 ghost use Rattle.format.specs.File.Format.{WriteCall};
 ghost use Rattle.touching.specs.RowCount.{touching_count};
 ghost use Rattle.harness.specs.Calls.{model_lent, LayeredBytes, MixedBytes, MultipliersBytes, ReasonBytes, AcceptanceCallBytes, BlocksCallBytes, DegreeCallBytes, OpenBytes, EditBytes, AnswerBytes, FileInAreas};

@@ -26,8 +26,8 @@ use Rattle.columns.specs.declared.ColumnSet.{ColumnSet}
 use Rattle.columns.specs.ColumnSets.{whole, Fits}
 use Rattle.columns.specs.Words.Sets.{whole_below}
 use Rattle.columns.specs.Bytes.{bytes_of}
-use Rattle.columns.specs.Words.Bytes.{bytes_of_length, bytes_front}
-use Rattle.columns.specs.Columns.{width, members, room_bytes, within}
+use Rattle.columns.specs.Words.Bytes.{bytes_of_length}
+use Rattle.columns.specs.Columns.{width, members, within}
 use Rattle.limits.specs.Limits.{set_bytes, most_columns, most_rows}
 use Rattle.format.specs.Lists.{All, rows_of}
 use Rattle.format.specs.ListLaws.{first_left, none_left, all_at}

@@ -1,5 +1,5 @@
 // The bytes of a field, written one behind another into the area that is lent for it.
-ghost use Rattle.std.specs.Prelude.{◌≡◌, ◌*◌, ◌<◌, ◌≤◌};
+ghost use Rattle.std.specs.Prelude.{◌<◌, ◌≤◌};
 ghost use mathlib.Core.List.{[]};
 ghost use Rattle.limits.specs.Limits.{set_bytes};
 ghost use Rattle.columns.specs.Bytes.{bytes_of};

@@ -5,7 +5,7 @@ use Rattle.limits.specs.Limits.{set_bytes}
 use Rattle.columns.specs.Bytes.{bytes_of}
 use Rattle.columns.specs.ColumnSets.{whole}
 use Rattle.columns.specs.Words.Bytes.{bytes_front, bytes_of_length}
-use Rattle.format.specs.Lists.{over, over_room}
+use Rattle.format.specs.Lists.{over_room}
 use Rattle.format.specs.OverLaws.{over_room_fits}
 use Rattle.format.proofs.Puts.{left_length}
 use Rattle.writer.proofs.Putting.{put_left}
