@@ -3,10 +3,10 @@
 // total: a column that a set has no room for is in none, and putting it into one changes nothing.
 #![tactic(auto)]
 
-ghost use Rattle.std.specs.Prelude.{◌≡◌, ◌<◌, ◌≤◌, min, eqb, length, get_or};
+ghost use Rattle.std.specs.Prelude.{MatchOption, ◌≡◌, ◌<◌, ◌≤◌, min, eqb, length, get_or};
 ghost use Rattle.counting.specs.Sets.{◌∪◌, ◌∩◌, ∁, #, any};
 ghost use Rattle.columns.specs.Bytes.{bytes_of};
-ghost use Rattle.columns.specs.Columns.{width, room_bytes, members, upto, inserted, removed, moved_up, moved_down, least, last_member, within};
+ghost use Rattle.columns.specs.Columns.{width, room_bytes, members, none, upto, inserted, removed, moved_up, moved_down, least, last_member, within};
 ghost use Rattle.columns.specs.ColumnSets.{row_words, most_words, empty_set, whole, Fits, ReadFrom, row_numbers, rows_touching, with_row};
 
 use limits::MOST_ROWS;
@@ -175,6 +175,27 @@ impl ColumnSet {
         }
     }
 
+    // The least column of the set, and the set without it: of the first word that is not empty.
+    fn split_first(self) -> Option<(usize, ColumnSet)>
+        ensures { MatchOption result (members (whole self) ≡ none) (λ split. (split.0 ≡ least width (members (whole self))) × (split.0 < width) × (members (whole split.1) ≡ removed (members (whole self)) split.0)) }
+    {
+        if !word::is_empty(self.low) {
+            let rest = ColumnSet {
+                low: word::without_first(self.low),
+                ..self
+            };
+            Some((word::first(self.low), rest))
+        } else if !word::is_empty(self.high) {
+            let rest = ColumnSet {
+                high: word::without_first(self.high),
+                ..self
+            };
+            Some((word::WIDTH + word::first(self.high), rest))
+        } else {
+            None
+        }
+    }
+
     // How many columns the set has.
     pub fn size(self) -> usize
         ensures { result ≡ # width (members (whole self)) }
@@ -267,12 +288,8 @@ impl Iterator for Members {
     ghost remaining = { λ s. at_most (# width (left s)) };
 
     fn next(&mut self) -> Option<usize> {
-        let rest = self.rest;
-        if rest.is_empty() {
-            return None;
-        }
-        let x = rest.first();
-        self.rest = rest.without(x);
+        let (x, rest) = self.rest.split_first()?;
+        self.rest = rest;
         Some(x)
     }
 }

@@ -60,6 +60,13 @@ pub fn without(word: u64, x: usize) -> u64
     if x < WIDTH { word & !(1u64 << x) } else { word }
 }
 
+// The word without its least column: 1 less has the same columns above it, and not it.
+pub fn without_first(word: u64) -> u64
+    ensures { members result ≡ removed (members word) (least word_width (members word)) }
+{
+    word & word.wrapping_sub(1)
+}
+
 // The least column of the word, or `WIDTH` where it is empty.
 pub fn first(word: u64) -> usize
     ensures { result ≡ least word_width (members word) }

@@ -225,6 +225,20 @@ without_high l h h' j b lj e = by_halves l h' (removed (members (joined l h)) j)
     (λ x lx. sym (members_low l h x b lx) ∙ and_rest (members (joined l h) x) (eqb x j) (ne_eqb x j (λ d. omega arith)))
     (λ x. ap (λ (S : Set). S x) e ∙ ap₂ (λ p q. p && not q) (sym (members_high l h x b)) (eqb_plus x j lj))
 
+-- ---- the least column taken out
+
+pub without_first_high : (l h h' : ℕ) → l < 2 ^ word_width → # word_width (members l) ≡ 0 → members h' ≡ removed (members h) (least word_width (members h))
+    → members (joined l h') ≡ removed (members (joined l h)) (least width (members (joined l h)))
+without_first_high l h h' b z e =
+    let m = least word_width (members h) in
+    let down : m ≡ word_width + m - word_width = omega arith in
+    without_high l h h' (word_width + m) b (omega arith) (e ∙ ap (removed (members h)) down) ∙ ap (removed (members (joined l h))) (first_high l h b z)
+
+pub without_first_low : (l h l' : ℕ) → l < 2 ^ word_width → l' < 2 ^ word_width → # word_width (members l) ≢ 0 → members l' ≡ removed (members l) (least word_width (members l))
+    → members (joined l' h) ≡ removed (members (joined l h)) (least width (members (joined l h)))
+without_first_low l h l' b b' nz e =
+    without_low l h l' (least word_width (members l)) b b' (least_there word_width (members l) nz).0 e ∙ ap (removed (members (joined l h))) (first_low l h b nz)
+
 -- ---- columns moved up and down
 
 -- the column at a place that is known to be high, or low, in the set

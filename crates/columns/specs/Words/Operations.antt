@@ -2,7 +2,7 @@
 use Rattle.std.specs.Prelude.{◌≡◌, refl, Bool, true, false, not, ◌&&◌, ◌||◌, cond, ◌↔◌, ℕ, zero, suc, ◌+◌, ◌-◌, ◌*◌, ◌/◌, ◌%◌, ◌^◌, ◌≤◌, ◌<◌, min, max, eqb, leb, ltb}
 use Rattle.std.proofs.Common.{sym, ap, ap₂, ◌∙◌, true≢false, ⊎_elim, mod-lt, mod-eq_of_lt, div-lt_iff_lt-mul, pow-suc, mul-div_cancel, mul_assoc, one-add, arith, lit<, pow_pos, pow_mono, pow-add, shr-shr, le-leb, eq-eqb, ne_eqb, eqb-true, lt-ltb, le-ltb, ltb-true}
 use Rattle.std.proofs.Math.Path.{fun_ext}
-use Rattle.std.proofs.Math.Nat.{mod-le, div-eq_of_lt, mul-mod_left}
+use Rattle.std.proofs.Math.Nat.{mod-le, div-eq_of_lt, mul-mod_left, mul-add-mod_self_right}
 use Rattle.std.proofs.Math.Decide.{ℕ_discrete, dec_lt}
 use Rattle.std.proofs.Math.Arith.{lt-one}
 use Rattle.std.proofs.lemmas.Nat.{mod-pow-add, ones_cat}
@@ -249,6 +249,62 @@ least_first (suc k) S (suc x) l m = elim (S 0) as (λ b. cond b 0 (suc (least k 
   | true ↦ omega arith
   | false ↦ omega (arith, least_first k (λ y. S (suc y)) x (omega arith) m)
 ]
+
+-- ---- the least column taken out
+
+first_bit : (w d : ℕ) → w % 2 ≡ d → members w 0 ≡ eqb d 1
+unfolding members
+first_bit w d e = ap (λ (b : ℕ). eqb b 1) (bit_zero w ∙ e)
+
+and_same : (b : Bool) → (b && b) ≡ (b && true)
+and_same true = refl
+and_same false = refl
+
+both_next : (y m : ℕ) → eqb (suc y) (suc m) ≡ eqb y m
+both_next y m = iff_eq (eqb (suc y) (suc m)) (eqb y m)
+    (λ e. eq-eqb y m (omega (arith, eqb-true (suc y) (suc m) e)))
+    (λ e. eq-eqb (suc y) (suc m) (omega (arith, eqb-true y m e)))
+
+-- 1 less has the same columns above the least, and not it
+one_less : (k w : ℕ) → w < 2 ^ k → (x : ℕ) → (members w x && members (w - 1) x) ≡ (members w x && not (eqb x (least k (members w))))
+unfolding least
+one_less zero w h x = let nowhere : members w x ≡ false = members_beyond 0 w x h (omega arith) in rw nowhere refl
+one_less (suc k) w h x = ⊎_elim (even x (one_less k (w / 2) (omega (arith, h, pow-suc 2 k)))) (odd x) (two_cases (w % 2) (mod-lt w (lit< tt)))
+  where
+    odd : (x : ℕ) → w % 2 ≡ 1 → (members w x && members (w - 1) x) ≡ (members w x && not (eqb x (least (suc k) (members w))))
+    odd zero e =
+        let here : members w 0 ≡ true = first_bit w 1 e in
+        let gone : members (w - 1) 0 ≡ false = first_bit (w - 1) 0 (omega (arith, e)) in
+        rw (here, gone) refl
+    odd (suc y) e =
+        let here : members w 0 ≡ true = first_bit w 1 e in
+        let half : (w - 1) / 2 ≡ w / 2 = omega (arith, e) in
+        let same : members (w - 1) (suc y) ≡ members w (suc y) = members_half (w - 1) y ∙ ap (λ (v : ℕ). members v y) half ∙ sym (members_half w y) in
+        let first : least (suc k) (members w) ≡ 0 = ap (λ b. cond b 0 (suc (least k (λ x. members w (suc x))))) here in
+        ap (λ b. members w (suc y) && b) same ∙ and_same (members w (suc y))
+        ∙ sym (ap (λ b. members w (suc y) && not b) (ap (eqb (suc y)) first ∙ ne_eqb (suc y) 0 (λ d. omega arith)))
+
+    even : (x : ℕ) → ((y : ℕ) → (members (w / 2) y && members (w / 2 - 1) y) ≡ (members (w / 2) y && not (eqb y (least k (members (w / 2)))))) → w % 2 ≡ 0
+        → (members w x && members (w - 1) x) ≡ (members w x && not (eqb x (least (suc k) (members w))))
+    even zero half_so e = let gone : members w 0 ≡ false = first_bit w 0 e in rw gone refl
+    even (suc y) half_so e =
+        let gone : members w 0 ≡ false = first_bit w 0 e in
+        let half : (w - 1) / 2 ≡ w / 2 - 1 = omega (arith, e) in
+        let less : members (w - 1) (suc y) ≡ members (w / 2 - 1) y = members_half (w - 1) y ∙ ap (λ (v : ℕ). members v y) half in
+        let later : least k (λ x. members w (suc x)) ≡ least k (members (w / 2)) = ap (least k) (fun_ext (λ x. members_half w x)) in
+        let first : least (suc k) (members w) ≡ suc (least k (members (w / 2))) = ap (λ b. cond b 0 (suc (least k (λ x. members w (suc x))))) gone ∙ ap suc later in
+        ap₂ ◌&&◌ (members_half w y) less
+        ∙ half_so y
+        ∙ sym (ap₂ (λ b d. b && not d) (members_half w y) (ap (eqb (suc y)) first ∙ both_next y (least k (members (w / 2)))))
+
+-- so for the machine's subtraction, which goes round from 0
+pub members_rest : (k w : ℕ) → w < 2 ^ k → members (bit_and w ((w + (2 ^ k - 1)) % 2 ^ k)) ≡ removed (members w) (least k (members w))
+unfolding removed
+members_rest k zero h = members_and 0 ((0 + (2 ^ k - 1)) % 2 ^ k) ∙ fun_ext (λ x. let nowhere : members 0 x ≡ false = ap (λ (S : Set). S x) members_zero in rw nowhere refl)
+members_rest k (suc w) h =
+    let round : suc w + (2 ^ k - 1) ≡ 1 * 2 ^ k + w = omega (arith, pow_pos k) in
+    let back : (suc w + (2 ^ k - 1)) % 2 ^ k ≡ suc w - 1 = ap (λ (m : ℕ). m % 2 ^ k) round ∙ mul-add-mod_self_right 1 (2 ^ k) w ∙ mod-eq_of_lt (omega (arith, h)) ∙ omega arith in
+    ap (λ (m : ℕ). members (bit_and (suc w) m)) back ∙ members_and (suc w) (suc w - 1) ∙ fun_ext (one_less k (suc w) h)
 
 -- ---- the size
 
