@@ -1,5 +1,5 @@
--- What a file says before its rows, field after field, as the code goes through them: what is due next, what each call gives, and that all of them
--- together say what the file says. Assumes nothing.
+-- What a file says before its rows, field after field, as the code goes through them: what is due next, what each call gives, that all of them together
+-- say what the file says, and that a call's refusal is the file's. Assumes nothing.
 use Prim.Native.Nat.{ℕ, zero, suc, ◌+◌, ◌*◌}
 use mathlib.Core.Path.{◌≡◌, refl, sym, ap, subst, ◌∙◌}
 use mathlib.Core.Logic.{◌≢◌, by_cases}
@@ -20,7 +20,7 @@ use Rattle.format.specs.Refused.{refusal_number, refusal_of}
 use Rattle.format.specs.Refusals.{first_refusal}
 use Rattle.format.specs.RefusalLaws.{then_zero, unless_zero, where_refused, accepted_value}
 use Rattle.format.specs.TestLaws.{prime_reads, size_reads}
-use Rattle.format.specs.File.Piece.{head_tests, closed, Judgement, said_rest}
+use Rattle.format.specs.File.Piece.{Piece, seq, head_tests, closed, Judgement, said_rest}
 use Rattle.format.specs.File.Format.{prime_tag, sizes_tag, prime_body, sizes_body, prime_field, sizes_field, row_fields, size_fields, fields, judge, decode, Said, header, refused_header, Says, HeaderRead}
 use Rattle.format.specs.File.Steps.{or_refused, prime_said, sizes_said, rows_said, next_said, p_known, all_known, said_of, PrimeRead, SizesRead}
 use Rattle.format.proofs.Judging.{rest_due, refused_some, seq_refused, seq_passed}
@@ -252,16 +252,62 @@ module _ (file : Bor (List ℕ)) {p : ℕ} {sizes : Reader} (i : Judgement (prim
         e ∙ ap (λ t. rows_said t (all_known h)) (rows_at ∙ ap said_rest sizes_at)
         ∙ next_rows (said_rest (said_rest file.now)) (all_known h) refl (λ z. p_given (sym j.given.p_is ∙ z)) n_given
 
+-- ---- a file judged: the fields of p and of the sizes, and then the rows, whatever fields these have
+
+module _ {A : Type 0} (rows : ℕ → ℕ × ℕ × ℕ → Piece A) (file : Bor (List ℕ)) where
+  abbrev s : List ℕ
+  s = file.now
+
+  abbrev size_part : ℕ → Piece ((ℕ × ℕ × ℕ) × A)
+  size_part p = seq sizes_field (λ z. rows p z)
+
+  abbrev whole_file : Piece (ℕ × ((ℕ × ℕ × ℕ) × A))
+  whole_file = seq prime_field size_part
+
+  pub prime_refused : (e : Refusal) → refusal_number e ≡ first_refusal (prime_field.tests s) → refusal_number e ≡ first_refusal (closed whole_file s)
+  prime_refused e q = seq_refused prime_field size_part s _ q (refused_some e)
+
+  module _ {p : ℕ} {sizes : Reader} (i : Judgement (prime_field.tests s) (PrimeRead file) (Ok (p, sizes))) where
+    pub sizes_refused : (e : Refusal) → refusal_number e ≡ first_refusal (sizes_field.tests sizes.rest.now) → refusal_number e ≡ first_refusal (closed whole_file s)
+    sizes_refused e q =
+        let r = rw i.given.rest_is.bytes_are at q in
+        seq_passed prime_field size_part s _ (sym i.refusal_is) (seq_refused sizes_field (λ z. rows (prime_field.dec s) z) (second s) _ r (refused_some e))
+
+    module _ {h : Header} {behind : Reader} (j : Judgement (sizes_field.tests sizes.rest.now) (SizesRead p sizes.rest) (Ok (h, behind))) where
+      pub said_p : h.p ≡ prime_field.dec s
+      said_p = j.given.p_is ∙ i.given.p_is
+
+      pub said_sizes : (h.n, h.a, h.b) ≡ sizes_field.dec (second s)
+      said_sizes = j.given.sizes_are ∙ ap sizes_field.dec i.given.rest_is.bytes_are
+
+      pub heads_passed : (k : ℕ) → k ≡ first_refusal (closed (rows h.p (h.n, h.a, h.b)) behind.rest.now) → k ≡ first_refusal (closed whole_file s)
+      heads_passed k q =
+          let t = j.given.rest_is.bytes_are ∙ ap sizes_field.rest i.given.rest_is.bytes_are in
+          let z : first_refusal (sizes_field.tests (second s)) ≡ 0 = ap (λ (u : List ℕ). first_refusal (sizes_field.tests u)) (sym i.given.rest_is.bytes_are) ∙ sym j.refusal_is in
+          let r : first_refusal (closed (rows h.p (h.n, h.a, h.b)) behind.rest.now) ≡ first_refusal (closed (rows (prime_field.dec s) (sizes_field.dec (second s))) (third s)) =
+          rw (said_p, said_sizes, t) refl in
+          seq_passed prime_field size_part s k (sym i.refusal_is) (seq_passed sizes_field (λ y. rows (prime_field.dec s) y) (second s) k z (q ∙ r))
+
 -- ---- what is given of what was said
 
-pub said_ok : {said : Said} {h : Header} → all_known h ≡ said → HeaderRead said (Ok h)
-said_ok {h = h} q = subst (λ x. HeaderRead x (Ok h)) q (record { refusal_is = refl; given = record { p_is = refl; n_is = refl; a_is = refl; b_is = refl } })
+-- a refusal, by the number that was said
+pub said_err : {said : Said} {k : ℕ} (e : Refusal) → said.refusal ≡ k → refusal_number e ≡ k → HeaderRead said (Err e)
+said_err e l q = record { refusal_is = q ∙ sym l; given = tt }
 
-pub said_handed : {said : Said} {r : Result Header Refusal} (e : Refusal) → IsErrAnd r (λ d. d ≡ e) → refused_header (refusal_number e) ≡ said → HeaderRead said r
+pub said_handed : {said : Said} {r : Result Header Refusal} (e : Refusal) → IsErrAnd r (λ d. d ≡ e) → refusal_number e ≡ said.refusal → HeaderRead said r
+said_handed {r = r} e h q = let p = err_from_is_err_and r h in rw p.1 (said_err _ refl (ap refusal_number p.2 ∙ q))
+
+-- and by all that was said, as a header is
+pub refused_given : {said : Said} {r : Result Header Refusal} (e : Refusal) → IsErrAnd r (λ d. d ≡ e) → refused_header (refusal_number e) ≡ said → HeaderRead said r
 unfolding refused_header
-said_handed {said} {r} e h q =
-    let p = err_from_is_err_and r h in
-    rw p.1 (record { refusal_is = ap refusal_number p.2 ∙ ap (λ (x : Said). x.refusal) q; given = tt })
+refused_given e h q = said_handed e h (ap (λ (x : Said). x.refusal) q)
+
+pub known_given : {said : Said} {h : Header} → all_known h ≡ said → HeaderRead said (Ok h)
+known_given {h = h} q = subst (λ x. HeaderRead x (Ok h)) q (record { refusal_is = refl; given = record { p_is = refl; n_is = refl; a_is = refl; b_is = refl } })
+
+-- a header, by p and the sizes that were said
+pub said_ok : {said : Said} {h : Header} (p : ℕ) (z : ℕ × ℕ × ℕ) → said ≡ record { refusal = 0; p = p; n = z.0; a = z.1; b = z.2 } → h.p ≡ p → (h.n, h.a, h.b) ≡ z → HeaderRead said (Ok h)
+said_ok {h = h} p z e q r = known_given (all_so h p z q r ∙ sym e)
 
 -- what a header read says of the file
 module _ (s : List ℕ) {h : Header} (r : HeaderRead (header s) (Ok h)) where
